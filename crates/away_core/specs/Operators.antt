@@ -1,0 +1,159 @@
+-- What each operator gives.
+use Rattle.std.specs.Prelude.{ℕ, ◌^◌, Bool, true, false, not, ◌&&◌, ◌||◌, if◌then◌else◌, ◌==◌, nat_lt, nat_le, ℤ, pos, negsuc, ◌+ℤ◌, ◌-ℤ◌, ◌*ℤ◌, neg_ℤ, int_lt, int_div, int_rem, List, [], ◌∷◌, ◌++◌, length, sum_by, Ok, Err, codes}
+use Rattle.std.specs.Fmt.{signed_decimal}
+use Rattle.std.specs.Ordering.{int_eq}
+use Rattle.away_core.specs.declared.values.Value.{Value}
+use Rattle.away_core.specs.declared.values.Value.TheVariants as val
+use Rattle.away_core.specs.declared.types.Ty.{Ty}
+use Rattle.away_core.specs.declared.types.Ty.TheVariants as ty
+use Rattle.away_core.specs.declared.operators.IntOp.{IntOp}
+use Rattle.away_core.specs.declared.operators.IntOp.TheVariants as int
+use Rattle.away_core.specs.declared.operators.CmpOp.{CmpOp}
+use Rattle.away_core.specs.declared.operators.CmpOp.TheVariants as cmp
+use Rattle.away_core.specs.declared.operators.IsTest.{IsTest}
+use Rattle.away_core.specs.declared.operators.IsTest.TheVariants as test
+use Rattle.away_core.specs.Results.{Or, class}
+
+-- ---- whole numbers
+
+abbrev pub fits : ℤ → Bool
+fits (pos n) = nat_lt n (2 ^ 63)
+fits (negsuc n) = nat_lt n (2 ^ 63)
+
+abbrev pub ranged : ℤ → Or Value
+ranged n = if fits n then Ok (val.Int n) else Err (class (codes "22003"))
+
+abbrev pub unless_zero : ℤ → Or Value → Or Value
+unless_zero b other = if int_eq b (pos 0) then Err (class (codes "22012")) else other
+
+abbrev pub int_result : IntOp → ℤ → ℤ → Or Value
+int_result int.Add a b = ranged (a +ℤ b)
+int_result int.Sub a b = ranged (a -ℤ b)
+int_result int.Mul a b = ranged (a *ℤ b)
+int_result int.Div a b = unless_zero b (ranged (int_div a b))
+int_result int.Rem a b = unless_zero b (ranged (int_rem a b))
+
+-- operands of other types don't come in a checked tree
+abbrev pub int_op : IntOp → Value → Value → Or Value
+int_op op (val.Int a) (val.Int b) = int_result op a b
+int_op op _ _ = Ok val.Null
+
+abbrev pub negated : Value → Or Value
+negated (val.Int a) = ranged (neg_ℤ a)
+negated _ = Ok val.Null
+
+-- ---- comparison
+
+abbrev pub text_less : List ℕ → List ℕ → Bool
+text_less _ [] = false
+text_less [] (b ∷ bs) = true
+text_less (a ∷ as_) (b ∷ bs) = nat_lt a b || (a == b && text_less as_ bs)
+
+-- both of one type, and neither NULL
+abbrev pub less : Value → Value → Bool
+less (val.Int a) (val.Int b) = int_lt a b
+less (val.Bool a) (val.Bool b) = not a && b
+less (val.Text a) (val.Text b) = text_less a b
+less _ _ = false
+
+abbrev pub compared : CmpOp → Value → Value → Bool
+compared cmp.Eq a b = not (less a b) && not (less b a)
+compared cmp.Ne a b = less a b || less b a
+compared cmp.Lt a b = less a b
+compared cmp.Le a b = not (less b a)
+compared cmp.Gt a b = less b a
+compared cmp.Ge a b = not (less a b)
+
+abbrev pub compare : CmpOp → Value → Value → Value
+compare op val.Null b = val.Null
+compare op a val.Null = val.Null
+compare op a b = val.Bool (compared op a b)
+
+-- ---- truth
+
+abbrev pub is_true : Value → Bool
+is_true (val.Bool true) = true
+is_true _ = false
+
+abbrev pub is_false : Value → Bool
+is_false (val.Bool false) = true
+is_false _ = false
+
+abbrev pub is_null : Value → Bool
+is_null val.Null = true
+is_null _ = false
+
+abbrev pub negation : Value → Value
+negation (val.Bool b) = val.Bool (not b)
+negation _ = val.Null
+
+-- the negation where NOT is written
+abbrev pub negation_if : Bool → Value → Value
+negation_if b v = if b then negation v else v
+
+abbrev pub conjunction : Value → Value → Value
+conjunction a b = if is_false a || is_false b then val.Bool false else (if is_true a && is_true b then val.Bool true else val.Null)
+
+abbrev pub disjunction : Value → Value → Value
+disjunction a b = if is_true a || is_true b then val.Bool true else (if is_false a && is_false b then val.Bool false else val.Null)
+
+abbrev pub passes : IsTest → Value → Bool
+passes test.Null = is_null
+passes test.True = is_true
+passes test.False = is_false
+
+-- ---- texts
+
+-- the bytes of a code point in UTF-8
+abbrev pub bytes_of : ℕ → ℕ
+bytes_of c = if nat_lt c 128 then 1 else (if nat_lt c 2048 then 2 else (if nat_lt c 65536 then 3 else 4))
+
+abbrev pub spelled : Value → List ℕ
+spelled val.Null = []
+spelled (val.Int n) = signed_decimal n
+spelled (val.Bool b) = if b then codes "true" else codes "false"
+spelled (val.Text t) = t
+
+abbrev pub text_within : List ℕ → Or Value
+text_within t = if nat_le (sum_by bytes_of t) 1048576 then Ok (val.Text t) else Err (class (codes "54000"))
+
+abbrev pub concat : Value → Value → Or Value
+concat val.Null b = Ok val.Null
+concat a val.Null = Ok val.Null
+concat a b = text_within (spelled a ++ spelled b)
+
+-- a value of type integer: one of 32 bits
+abbrev pub fits_small : ℤ → Bool
+fits_small (pos n) = nat_lt n (2 ^ 31)
+fits_small (negsuc n) = nat_lt n (2 ^ 31)
+
+abbrev pub small : Value → Or Value
+small (val.Int n) = if fits_small n then Ok (val.Int n) else Err (class (codes "22003"))
+small v = Ok v
+
+-- casts go between equal types, to text, and to integer
+abbrev pub cast : Ty → Value → Or Value
+cast ty.Bigint v = Ok v
+cast ty.Boolean v = Ok v
+cast ty.Integer v = small v
+cast ty.Text val.Null = Ok val.Null
+cast ty.Text v = Ok (val.Text (spelled v))
+
+abbrev pub length_of : Value → Value
+length_of (val.Text t) = val.Int (pos (length t))
+length_of _ = val.Null
+
+-- the characters at the places p ≤ at < end, where the first of the list stands at `at`
+abbrev pub part : ℤ → ℤ → ℤ → List ℕ → List ℕ
+part p end at [] = []
+part p end at (c ∷ cs) = if not (int_lt at p) && int_lt at end then c ∷ part p end (at +ℤ pos 1) cs else part p end (at +ℤ pos 1) cs
+
+abbrev pub substr : Value → Value → Value → Or Value
+substr (val.Text t) (val.Int p) (val.Int n) = if int_lt n (pos 0) then Err (class (codes "22011")) else Ok (val.Text (part p (p +ℤ n) (pos 1) t))
+substr _ _ _ = Ok val.Null
+
+-- the greater, or the less, where NULL is ignored
+abbrev pub extreme : Bool → Value → Value → Value
+extreme greatest val.Null b = b
+extreme greatest a val.Null = a
+extreme greatest a b = if (if greatest then less a b else less b a) then b else a
