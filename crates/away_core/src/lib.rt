@@ -2,6 +2,7 @@
 #![tactic(auto)]
 
 mod errors;
+mod from_text;
 mod operators;
 mod queries;
 mod schemas;
@@ -11,6 +12,7 @@ mod values;
 mod words;
 
 pub use errors::{NoMemory, OpError};
+pub use from_text::{name, word};
 pub use operators::{ChainOp, CmpOp, IntOp, IsTest, TextOp};
 pub use queries::{Col, Expr, FromItem, Item, Key, Query, Recursive, Select, Source};
 pub use schemas::{ColumnSchema, Schema, TableSchema};
