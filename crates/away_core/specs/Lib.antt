@@ -2,3 +2,4 @@ pub mod Words
 pub mod Results
 pub mod Operators
 pub mod Algebra
+pub mod Literals

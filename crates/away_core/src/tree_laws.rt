@@ -1,0 +1,11 @@
+//! What holds of the recursions over trees.
+
+ghost use Rattle.std.specs.Prelude.{◌≡◌};
+ghost use Rattle.away_core.specs.Algebra.{expr_of, query_of};
+ghost use Rattle.away_core.specs.Literals.{literals, inner, outer};
+
+/// A definition by the recursion computes on a tree that is written out: the literals of a query.
+pub fn literals_of_a_query_compute()
+    ensures within { expr_of literals inner ≡ 2 }
+    ensures whole { query_of literals outer ≡ 3 }
+{}
