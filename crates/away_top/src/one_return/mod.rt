@@ -1,0 +1,24 @@
+//! From the bytes of a function that is one RETURN to the text of its query.
+
+mod cursor;
+mod level;
+mod names;
+mod printer;
+mod reader;
+mod refusal;
+mod source;
+mod template;
+mod trees;
+mod writer;
+
+
+pub use refusal::Refusal;
+pub use source::tokens_of;
+use std::alloc::Global;
+
+/// The text of the query that the function is compiled into.
+pub fn compiled(alloc: Global, bytes: &[u8]) -> Result<String, Refusal> {
+    let function = reader::read_function(alloc, bytes)?;
+    let query = template::query_of(alloc, &function)?;
+    Ok(printer::print_query(alloc, &query)?)
+}
