@@ -3,3 +3,9 @@ pub mod Results
 pub mod Operators
 pub mod Algebra
 pub mod Literals
+pub mod Spellings
+pub mod Tokens
+pub mod Nesting
+pub mod Reserved
+pub mod Spacing
+pub mod FunctionFile

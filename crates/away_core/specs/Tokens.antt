@@ -1,0 +1,67 @@
+-- The tokens of a text: the text is cut into pieces, in order, with nothing left over. A piece is a token, or white space or a
+-- comment, which gives no token.
+use Rattle.std.specs.Prelude.{◌≡◌, ◌<◌, ℕ, ◌+◌, Bool, true, false, not, ◌&&◌, ◌||◌, ◌==◌, List, [], ◌∷◌, ◌++◌, length, Option, Some, None}
+use Rattle.std.specs.List.{list_all}
+use Rattle.away_core.specs.declared.tokens.TokenKind.{TokenKind}
+use Rattle.away_core.specs.declared.tokens.TokenKind.TheVariants.{Dollar}
+use Rattle.away_core.specs.Spellings.{byte, is_blank, Spells, may_precede, mark_of, IsTag}
+
+-- ---- pieces that give no token
+
+-- a comment of one line goes on with any byte but LF and CR
+abbrev pub is_line : ℕ → Bool
+is_line b = not (b == 10 || b == 13)
+
+-- the text is at its end, or at the end of a line
+abbrev pub EndsLine : List ℕ → Type 0
+EndsLine [] = Unit {0}
+EndsLine (b ∷ z) = is_line b ≡ false
+
+-- these two bytes open a comment, or close one
+abbrev pub is_opening : ℕ → ℕ → Bool
+is_opening b c = b == 47 && c == 42
+
+abbrev pub is_closing : ℕ → ℕ → Bool
+is_closing b c = b == 42 && c == 47
+
+-- What stands behind `/*`, with the `*/` that closes it: other bytes, and whole comments, each from its `/*` to its own `*/`.
+pub data ClosesComment : List ℕ → Type 0 where
+  closes : ClosesComment (42 ∷ 47 ∷ [])
+  other : {b c : ℕ} {z : List ℕ} → is_closing b c ≡ false → is_opening b c ≡ false → ClosesComment (c ∷ z) → ClosesComment (b ∷ c ∷ z)
+  nests : {inner z : List ℕ} → ClosesComment inner → ClosesComment z → ClosesComment (47 ∷ 42 ∷ (inner ++ z))
+
+-- white space, or a comment, before what is left of the text
+pub data Skips : List ℕ → List ℕ → Type 0 where
+  blank : {b : ℕ} {rest : List ℕ} → is_blank b ≡ true → Skips (b ∷ []) rest
+  line : {z rest : List ℕ} → list_all is_line z ≡ true → EndsLine rest → Skips (45 ∷ 45 ∷ z) rest
+  block : {z rest : List ℕ} → ClosesComment z → Skips (47 ∷ 42 ∷ z) rest
+
+-- ---- pieces that are tokens
+
+-- A token before what is left of the text. It is the longest that fits: what follows doesn't go on with it.
+pub record Stands (kind : TokenKind) (z rest : List ℕ) : Type 0 where
+  pub spelled : Spells kind z
+  pub apart : may_precede kind z (byte rest 0) ≡ true
+
+-- No piece stands at the front of the text, so a bad token begins there: an unclosed string, comment or dollar quote, what is
+-- over its limit, or a byte that begins no token.
+abbrev pub NoPiece : List ℕ → Type 0
+NoPiece z = (piece rest : List ℕ) → z ≡ piece ++ rest → (Skips piece rest → ⊥) × ((kind : TokenKind) → Stands kind piece rest → ⊥)
+
+-- ---- the tokens of a text
+
+-- a token, by its bytes and its offset
+pub record Lexeme : Type 0 where
+  pub kind : TokenKind
+  pub text : List ℕ
+  pub start : ℕ
+
+-- A text with the offset of its first byte, its tokens, and the offset of the first bad one if there is one.
+pub data Lexes : ℕ → List ℕ → List Lexeme → Option ℕ → Type 0 where
+  ends : {at : ℕ} → Lexes at [] [] None
+  skips : {at : ℕ} {z piece rest : List ℕ} {ts : List Lexeme} {bad : Option ℕ}
+      → z ≡ piece ++ rest → Skips piece rest → Lexes (at + length piece) rest ts bad → Lexes at z ts bad
+  token : {at : ℕ} {z piece rest : List ℕ} {kind : TokenKind} {ts : List Lexeme} {bad : Option ℕ}
+      → z ≡ piece ++ rest → Stands kind piece rest → Lexes (at + length piece) rest ts bad
+      → Lexes at z (record { kind = kind; text = piece; start = at } ∷ ts) bad
+  stops : {at : ℕ} {z : List ℕ} → 0 < length z → NoPiece z → Lexes at z [] (Some at)
