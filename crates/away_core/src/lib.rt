@@ -1,6 +1,11 @@
 //! The values, the operators and the trees of functions and queries, with the definitions that say what they are.
 #![tactic(auto)]
 
+mod copy_names;
+mod copy_queries;
+mod copy_schemas;
+mod copy_statements;
+mod copy_values;
 mod errors;
 mod operators;
 mod queries;
