@@ -1,7 +1,7 @@
 //! A place in a list of tokens, from which the reader takes them one after the other.
 
-ghost use Rattle.std.specs.Prelude.{◌≡◌, ◌<◌, ◌≤◌, length, IfOk};
-ghost use Rattle.std.specs.Bool.{OnTrue, OnFalse};
+ghost use Rattle.std.specs.Prelude.{◌≡◌, ◌-◌, ◌<◌, ◌≤◌, length, OnSome};
+ghost use Rattle.std.specs.Bool.{OnTrue};
 
 use crate::one_return::refusal::Refusal;
 use away_core::{Name, name};
@@ -34,12 +34,16 @@ impl<'a> Cursor<'a> {
     }
 
     /// The next token.
-    fn peek(&self) -> Option<Token<'a>> {
+    fn peek(&self) -> Option<Token<'a>>
+        ensures { OnSome result (0 < length self.now.rest.now) }
+    {
         self.rest.first().copied()
     }
 
     /// Takes the next token.
-    pub fn take(&mut self) -> Option<Token<'a>> {
+    pub fn take(&mut self) -> Option<Token<'a>>
+        ensures { length self.new.rest.now ≡ length self.old.rest.now - 1 }
+    {
         let [token, rest @ ..] = self.rest else {
             return None;
         };
@@ -48,7 +52,9 @@ impl<'a> Cursor<'a> {
     }
 
     /// Takes the word, in whatever case, if it stands next.
-    pub fn eat_word(&mut self, word: &str) -> bool {
+    pub fn eat_word(&mut self, word: &str) -> bool
+        ensures { length self.new.rest.now ≤ length self.old.rest.now }
+    {
         let found = match self.peek() {
             Some(token) => is_word(&token, word),
             None => false,
@@ -60,19 +66,23 @@ impl<'a> Cursor<'a> {
     }
 
     /// Takes the symbol, if it stands next.
-    pub fn eat_symbol(&mut self, symbol: &str) -> bool {
-        let found = match self.peek() {
-            Some(token) => matches!(token.kind, TokenKind::Symbol) && token.text == symbol,
-            None => false,
-        };
-        if found {
-            self.take();
+    pub fn eat_symbol(&mut self, symbol: &str) -> bool
+        ensures shrinks { length self.new.rest.now ≤ length self.old.rest.now }
+        ensures eaten { OnTrue result (length self.new.rest.now < length self.old.rest.now) }
+    {
+        match self.peek() {
+            Some(token) if is_symbol(&token, symbol) => {
+                self.take();
+                true
+            }
+            _ => false,
         }
-        found
     }
 
     /// Takes these words, one after the other.
-    pub fn expect_words(&mut self, words: &[&str]) -> Result<(), Refusal> {
+    pub fn expect_words(&mut self, words: &[&str]) -> Result<(), Refusal>
+        ensures { length self.new.rest.now ≤ length self.old.rest.now }
+    {
         for word in words {
             if !self.eat_word(word) {
                 return Err(Refusal::NoTree);
@@ -82,7 +92,9 @@ impl<'a> Cursor<'a> {
     }
 
     /// Takes the symbol.
-    pub fn expect_symbol(&mut self, symbol: &str) -> Result<(), Refusal> {
+    pub fn expect_symbol(&mut self, symbol: &str) -> Result<(), Refusal>
+        ensures { length self.new.rest.now ≤ length self.old.rest.now }
+    {
         if self.eat_symbol(symbol) {
             Ok(())
         } else {
@@ -91,12 +103,18 @@ impl<'a> Cursor<'a> {
     }
 
     /// Takes a name, folded to lower case.
-    pub fn expect_name(&mut self, alloc: Global) -> Result<Name, Refusal> {
+    pub fn expect_name(&mut self, alloc: Global) -> Result<Name, Refusal>
+        ensures { length self.new.rest.now ≤ length self.old.rest.now }
+    {
         match self.take() {
             Some(token) => name_of(alloc, &token),
             None => Err(Refusal::NoTree),
         }
     }
+}
+
+fn is_symbol(token: &Token<'_>, symbol: &str) -> bool {
+    matches!(token.kind, TokenKind::Symbol) && token.text == symbol
 }
 
 /// Whether a token is the word, in whatever case.

@@ -1,83 +1,79 @@
 //! The names of the query's tables and columns.
 
-ghost use Rattle.std.specs.Prelude.{◌≡◌, ◌<◌, ◌^◌, IfOk};
+ghost use Rattle.std.specs.Prelude.{◌≡◌, IfOk};
 ghost use Rattle.away_core.specs.Words.{IsName};
 
-use away_core::{Expr, Name, NoMemory, name};
+use away_core::{Name, NoMemory, name};
 use itoa::Buffer;
 use sqlite_items::Items;
 use std::alloc::Global;
 
 /// The names that the query of a function with one label has, but for those of its parameters' columns.
-#[derive(Drop)]
-pub struct Names {
+#[derive(Clone, Copy, Debug, PartialEq, Eq)]
+pub enum Known {
     /// The working table.
-    pub table: Name,
+    Table,
     /// The rows of the labels.
-    pub step: Name,
+    Step,
     /// The gate of the label.
-    pub gate: Name,
+    Gate,
     /// The item that holds the returned value.
-    pub value: Name,
+    Value,
     /// The one column of a gate or a value.
-    pub only: Name,
-    go: Name,
-    label: Name,
-    result: Name,
-    fault: Name,
+    Only,
+    /// Whether the call goes on.
+    Go,
+    /// The label at which the call is.
+    Label,
+    Result,
+    Fault,
 }
 
-impl Names {
-    pub fn new(alloc: Global) -> Result<Names, NoMemory> {
-        Ok(Names {
-            table: known(alloc, "away_r")?,
-            step: known(alloc, "away_s")?,
-            gate: known(alloc, "away_k1")?,
-            value: known(alloc, "away_k2")?,
-            only: known(alloc, "away_v")?,
-            go: known(alloc, "away_go")?,
-            label: known(alloc, "away_fn")?,
-            result: known(alloc, "away_res")?,
-            fault: known(alloc, "away_err")?,
-        })
-    }
-
-    /// The columns of the working table, for so many parameters.
-    pub fn columns(&self, alloc: Global, params: usize) -> Result<Items<Name>, NoMemory> {
-        let mut all = Items::new(alloc);
-        all.push(self.go.copy(alloc)?)?;
-        all.push(self.label.copy(alloc)?)?;
-        for place in 0..params {
-            all.push(column_name(alloc, place)?)?;
+impl Known {
+    fn text(self) -> &'static str
+        ensures { IsName result.now }
+    {
+        match self {
+            Known::Table => "away_r",
+            Known::Step => "away_s",
+            Known::Gate => "away_k1",
+            Known::Value => "away_k2",
+            Known::Only => "away_v",
+            Known::Go => "away_go",
+            Known::Label => "away_fn",
+            Known::Result => "away_res",
+            Known::Fault => "away_err",
         }
-        all.append(self.results(alloc)?)?;
-        Ok(all)
     }
 
-    /// The columns of the result and of the fault.
-    pub fn results(&self, alloc: Global) -> Result<Items<Name>, NoMemory> {
-        let mut all = Items::new(alloc);
-        all.push(self.result.copy(alloc)?)?;
-        all.push(self.fault.copy(alloc)?)?;
-        Ok(all)
+    pub fn name(self, alloc: Global) -> Result<Name, NoMemory> {
+        known(alloc, self.text())
     }
 
-    /// The column list of an item with one column.
-    pub fn one_column(&self, alloc: Global) -> Result<Items<Name>, NoMemory> {
-        let mut all = Items::new(alloc);
-        all.push(self.only.copy(alloc)?)?;
-        Ok(all)
+    /// A list of this name alone.
+    pub fn alone(self, alloc: Global) -> Result<Items<Name>, NoMemory> {
+        let mut list = Items::new(alloc);
+        list.push(self.name(alloc)?)?;
+        Ok(list)
     }
+}
 
-    /// Whether the call goes on.
-    pub fn goes_on(&self, alloc: Global) -> Result<Expr, NoMemory> {
-        Ok(Expr::Dotted(self.table.copy(alloc)?, self.go.copy(alloc)?))
+/// The columns of the working table, for so many parameters.
+pub fn columns(alloc: Global, params: usize) -> Result<Items<Name>, NoMemory> {
+    let mut all = Known::Go.alone(alloc)?;
+    all.push(Known::Label.name(alloc)?)?;
+    for place in 0..params {
+        all.push(column_name(alloc, place)?)?;
     }
+    all.append(results(alloc)?)?;
+    Ok(all)
+}
 
-    /// The label at which the call is.
-    pub fn label(&self, alloc: Global) -> Result<Expr, NoMemory> {
-        Ok(Expr::Dotted(self.table.copy(alloc)?, self.label.copy(alloc)?))
-    }
+/// The columns of the result and of the fault.
+pub fn results(alloc: Global) -> Result<Items<Name>, NoMemory> {
+    let mut all = Known::Result.alone(alloc)?;
+    all.push(Known::Fault.name(alloc)?)?;
+    Ok(all)
 }
 
 /// The column of a parameter, by its place from 0.
@@ -97,13 +93,4 @@ fn known(alloc: Global, text: &str) -> Result<Name, NoMemory>
         Some(name) => Ok(name),
         None => unreachable!(),
     }
-}
-
-/// Copies of names.
-pub fn copied(alloc: Global, names: &[Name]) -> Result<Items<Name>, NoMemory> {
-    let mut all = Items::new(alloc);
-    for name in names {
-        all.push(name.copy(alloc)?)?;
-    }
-    Ok(all)
 }

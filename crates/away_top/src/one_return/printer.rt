@@ -7,6 +7,7 @@ use away_core::{
     ChainOp, CmpOp, Expr, FromItem, IntOp, IsTest, Item, Key, Name, NoMemory, Query, Recursive,
     Select, Source, Ty,
 };
+use sqlite_items::Boxed;
 use std::alloc::Global;
 
 /// The text of a query, with one LF at its end.
@@ -19,10 +20,12 @@ pub fn print_query(alloc: Global, query: &Query) -> Result<String, NoMemory> {
 #[cycle(printer)]
 fn print(out: &mut Writer, query: &Query) -> Result<(), NoMemory> {
     match &query.recursive {
-        None => (),
-        Some(recursive) => with(out, recursive)?,
+        None => selects(out, query.selects.as_slice()),
+        Some(recursive) => {
+            with(out, recursive)?;
+            selects(out, query.selects.as_slice())
+        }
     }
-    selects(out, query.selects.as_slice())
 }
 
 #[cycle(printer)]
@@ -32,10 +35,15 @@ fn with(out: &mut Writer, recursive: &Recursive) -> Result<(), NoMemory> {
     column_list(out, recursive.columns.as_slice())?;
     out.words("AS")?;
     out.open()?;
+    terms(out, recursive)?;
+    out.close()
+}
+
+#[cycle(printer)]
+fn terms(out: &mut Writer, recursive: &Recursive) -> Result<(), NoMemory> {
     selects(out, recursive.first.as_slice())?;
     out.words("UNION ALL")?;
-    select(out, &recursive.second)?;
-    out.close()
+    select(out, &recursive.second)
 }
 
 #[cycle(printer)]
@@ -54,22 +62,18 @@ fn select(out: &mut Writer, select: &Select) -> Result<(), NoMemory> {
     out.words("SELECT")?;
     items(out, select.list.as_slice())?;
     from(out, select.from.as_slice())?;
-    match &select.filter {
-        None => (),
-        Some(filter) => {
-            out.words("WHERE")?;
-            place(out, Level::Or, filter)?;
-        }
-    }
+    clause(out, "WHERE", &select.filter)?;
     order(out, select.order.as_slice())?;
-    match &select.limit {
-        None => (),
-        Some(limit) => {
-            out.words("LIMIT")?;
-            place(out, Level::Or, limit)?;
-        }
+    clause(out, "LIMIT", &select.limit)
+}
+
+/// A word and its expression, where there is one.
+#[cycle(printer)]
+fn clause(out: &mut Writer, word: &str, expr: &Option<Expr>) -> Result<(), NoMemory> {
+    match expr {
+        None => Ok(()),
+        Some(expr) => prefixed(out, word, Level::Or, expr),
     }
-    Ok(())
 }
 
 #[cycle(printer)]
@@ -78,16 +82,18 @@ fn items(out: &mut Writer, list: &[Item]) -> Result<(), NoMemory> {
         if i > 0 {
             out.comma()?;
         }
-        place(out, Level::Or, &list[i].expr)?;
-        match &list[i].alias {
-            None => (),
-            Some(alias) => {
-                out.words("AS")?;
-                out.name(alias.text())?;
-            }
-        }
+        item(out, &list[i])?;
     }
     Ok(())
+}
+
+#[cycle(printer)]
+fn item(out: &mut Writer, item: &Item) -> Result<(), NoMemory> {
+    place(out, Level::Or, &item.expr)?;
+    match &item.alias {
+        None => Ok(()),
+        Some(alias) => out.alias(alias.text()),
+    }
 }
 
 #[cycle(printer)]
@@ -106,23 +112,25 @@ fn from(out: &mut Writer, list: &[FromItem]) -> Result<(), NoMemory> {
 #[cycle(printer)]
 fn from_item(out: &mut Writer, item: &FromItem) -> Result<(), NoMemory> {
     match &item.source {
-        Source::Table(name) => {
-            out.name(name.text())?;
-            if name.text() != item.alias.text() {
-                out.words("AS")?;
-                out.name(item.alias.text())?;
-            }
-            Ok(())
-        }
+        Source::Table(name) => table(out, name, &item.alias),
         Source::Sub(query, is_lateral) => {
             if *is_lateral {
                 out.words("LATERAL")?;
             }
             subquery(out, query.get())?;
-            out.words("AS")?;
-            out.name(item.alias.text())?;
+            out.alias(item.alias.text())?;
             column_list(out, item.columns.as_slice())
         }
+    }
+}
+
+/// A table, with its alias where that differs from its name.
+fn table(out: &mut Writer, name: &Name, alias: &Name) -> Result<(), NoMemory> {
+    out.name(name.text())?;
+    if name.text() == alias.text() {
+        Ok(())
+    } else {
+        out.alias(alias.text())
     }
 }
 
@@ -146,12 +154,19 @@ fn order(out: &mut Writer, keys: &[Key]) -> Result<(), NoMemory> {
         } else {
             out.comma()?;
         }
-        place(out, Level::Or, &keys[i].expr)?;
-        if keys[i].descending {
-            out.words("DESC")?;
-        }
+        key(out, &keys[i])?;
     }
     Ok(())
+}
+
+#[cycle(printer)]
+fn key(out: &mut Writer, key: &Key) -> Result<(), NoMemory> {
+    place(out, Level::Or, &key.expr)?;
+    if key.descending {
+        out.words("DESC")
+    } else {
+        Ok(())
+    }
 }
 
 #[cycle(printer)]
@@ -176,89 +191,36 @@ fn place(out: &mut Writer, level: Level, expr: &Expr) -> Result<(), NoMemory> {
 #[cycle(printer)]
 fn bare(out: &mut Writer, expr: &Expr) -> Result<(), NoMemory> {
     match expr {
-        Expr::Int(number) => {
-            if *number < 0 {
-                out.symbol("-")?;
-            }
-            out.number(number.unsigned_abs())
-        }
+        Expr::Int(number) => out.integer(*number),
         Expr::Str(word) => out.string(word.text()),
         Expr::Bool(truth) => out.words(if *truth { "TRUE" } else { "FALSE" }),
         Expr::Null => out.words("NULL"),
         Expr::Named(name) => out.name(name.text()),
-        Expr::Dotted(alias, column) => {
-            out.name(alias.text())?;
-            out.dot()?;
-            out.name(column.text())
-        }
+        Expr::Dotted(alias, column) => out.dotted(alias.text(), column.text()),
         Expr::Slot(_) | Expr::Column(_) => Ok(()),
-        Expr::Param(number, ty) => {
-            out.function("CAST")?;
-            out.parameter(*number)?;
-            as_type(out, *ty)
-        }
+        Expr::Param(number, ty) => parameter(out, *number, *ty),
         Expr::Neg(operand) | Expr::NegSmall(operand) => {
-            out.symbol("-")?;
-            place(out, Level::Cast, operand.get())
+            prefixed(out, "-", Level::Cast, operand.get())
         }
-        Expr::Not(operand) => {
-            out.words("NOT")?;
-            place(out, Level::Is, operand.get())
-        }
-        Expr::Is(operand, test, is_negated) => {
-            place(out, Level::Comparison, operand.get())?;
-            out.words(if *is_negated { "IS NOT" } else { "IS" })?;
-            out.words(test_word(*test))
-        }
-        Expr::Chain(first, links) => {
-            let level = operands(level_of_chain(links.as_slice()));
-            place(out, level, first.get())?;
-            chain(out, level, links.as_slice())
-        }
+        Expr::Not(operand) => prefixed(out, "NOT", Level::Is, operand.get()),
+        Expr::Is(operand, test, is_negated) => is_test(out, operand.get(), *test, *is_negated),
+        Expr::Chain(first, links) => chain(out, first.get(), links.as_slice()),
         Expr::Compare(op, left, right) => {
-            place(out, Level::Range, left.get())?;
-            out.symbol(comparison(*op))?;
-            place(out, Level::Range, right.get())
+            infix(out, Level::Range, left.get(), comparison(*op), right.get())
         }
         Expr::Between(is_negated, operand, low, high) => {
-            place(out, Level::Concat, operand.get())?;
-            out.words(if *is_negated { "NOT BETWEEN" } else { "BETWEEN" })?;
-            place(out, Level::Concat, low.get())?;
-            out.words("AND")?;
-            place(out, Level::Concat, high.get())
+            between(out, *is_negated, operand.get(), low.get(), high.get())
         }
         Expr::OneOf(is_negated, operand, choices) => {
-            place(out, Level::Concat, operand.get())?;
-            out.words(if *is_negated { "NOT IN" } else { "IN" })?;
-            arguments(out, choices.as_slice())
+            one_of(out, *is_negated, operand.get(), choices.as_slice())
         }
-        Expr::Cast(operand, ty) => {
-            out.function("CAST")?;
-            place(out, Level::Or, operand.get())?;
-            as_type(out, *ty)
-        }
-        Expr::Cases(arms, other) => {
-            out.words("CASE")?;
-            cases(out, arms.as_slice())?;
-            match other {
-                None => (),
-                Some(other) => {
-                    out.words("ELSE")?;
-                    place(out, Level::Or, other.get())?;
-                }
-            }
-            out.words("END")
-        }
+        Expr::Cast(operand, ty) => cast(out, operand.get(), *ty),
+        Expr::Cases(arms, other) => cases(out, arms.as_slice(), other),
         Expr::Call(name, operands) => {
             out.called(name.text())?;
             arguments(out, operands.as_slice())
         }
-        Expr::CountRows => {
-            out.name("count")?;
-            out.open()?;
-            out.symbol("*")?;
-            out.close()
-        }
+        Expr::CountRows => out.count_rows(),
         Expr::Scalar(query) => subquery(out, query.get()),
         Expr::Exists(query) => {
             out.name("EXISTS")?;
@@ -267,22 +229,114 @@ fn bare(out: &mut Writer, expr: &Expr) -> Result<(), NoMemory> {
     }
 }
 
+/// A sign or a word before its operand.
 #[cycle(printer)]
-fn chain(out: &mut Writer, level: Level, links: &[(ChainOp, Expr)]) -> Result<(), NoMemory> {
+fn prefixed(out: &mut Writer, word: &str, level: Level, operand: &Expr) -> Result<(), NoMemory> {
+    out.words(word)?;
+    place(out, level, operand)
+}
+
+#[cycle(printer)]
+fn infix(
+    out: &mut Writer,
+    level: Level,
+    left: &Expr,
+    symbol: &str,
+    right: &Expr,
+) -> Result<(), NoMemory> {
+    place(out, level, left)?;
+    out.words(symbol)?;
+    place(out, level, right)
+}
+
+#[cycle(printer)]
+fn is_test(
+    out: &mut Writer,
+    operand: &Expr,
+    test: IsTest,
+    is_negated: bool,
+) -> Result<(), NoMemory> {
+    place(out, Level::Comparison, operand)?;
+    out.words(if is_negated { "IS NOT" } else { "IS" })?;
+    out.words(test_word(test))
+}
+
+#[cycle(printer)]
+fn between(
+    out: &mut Writer,
+    is_negated: bool,
+    operand: &Expr,
+    low: &Expr,
+    high: &Expr,
+) -> Result<(), NoMemory> {
+    place(out, Level::Concat, operand)?;
+    out.words(if is_negated { "NOT BETWEEN" } else { "BETWEEN" })?;
+    infix(out, Level::Concat, low, "AND", high)
+}
+
+#[cycle(printer)]
+fn one_of(
+    out: &mut Writer,
+    is_negated: bool,
+    operand: &Expr,
+    choices: &[Expr],
+) -> Result<(), NoMemory> {
+    place(out, Level::Concat, operand)?;
+    out.words(if is_negated { "NOT IN" } else { "IN" })?;
+    arguments(out, choices)
+}
+
+#[cycle(printer)]
+fn cast(out: &mut Writer, operand: &Expr, ty: Ty) -> Result<(), NoMemory> {
+    out.function("CAST")?;
+    place(out, Level::Or, operand)?;
+    as_type(out, ty)
+}
+
+/// A parameter under a cast to its type.
+fn parameter(out: &mut Writer, number: u32, ty: Ty) -> Result<(), NoMemory> {
+    out.function("CAST")?;
+    out.parameter(number)?;
+    as_type(out, ty)
+}
+
+#[cycle(printer)]
+fn cases(
+    out: &mut Writer,
+    arms: &[(Expr, Expr)],
+    other: &Option<Boxed<Expr>>,
+) -> Result<(), NoMemory> {
+    out.words("CASE")?;
+    arms_of(out, arms)?;
+    match other {
+        None => out.words("END"),
+        Some(other) => {
+            prefixed(out, "ELSE", Level::Or, other.get())?;
+            out.words("END")
+        }
+    }
+}
+
+#[cycle(printer)]
+fn chain(out: &mut Writer, first: &Expr, links: &[(ChainOp, Expr)]) -> Result<(), NoMemory> {
+    let level = operands(level_of_chain(links));
+    place(out, level, first)?;
+    links_of(out, level, links)
+}
+
+#[cycle(printer)]
+fn links_of(out: &mut Writer, level: Level, links: &[(ChainOp, Expr)]) -> Result<(), NoMemory> {
     for i in 0..links.len() {
-        operator(out, links[i].0)?;
-        place(out, level, &links[i].1)?;
+        prefixed(out, operator(links[i].0), level, &links[i].1)?;
     }
     Ok(())
 }
 
 #[cycle(printer)]
-fn cases(out: &mut Writer, arms: &[(Expr, Expr)]) -> Result<(), NoMemory> {
+fn arms_of(out: &mut Writer, arms: &[(Expr, Expr)]) -> Result<(), NoMemory> {
     for i in 0..arms.len() {
-        out.words("WHEN")?;
-        place(out, Level::Or, &arms[i].0)?;
-        out.words("THEN")?;
-        place(out, Level::Or, &arms[i].1)?;
+        prefixed(out, "WHEN", Level::Or, &arms[i].0)?;
+        prefixed(out, "THEN", Level::Or, &arms[i].1)?;
     }
     Ok(())
 }
@@ -331,12 +385,12 @@ fn comparison(op: CmpOp) -> &'static str {
     }
 }
 
-fn operator(out: &mut Writer, op: ChainOp) -> Result<(), NoMemory> {
+fn operator(op: ChainOp) -> &'static str {
     match op {
-        ChainOp::Or => out.words("OR"),
-        ChainOp::And => out.words("AND"),
-        ChainOp::Concat => out.symbol("||"),
-        ChainOp::Int(op) | ChainOp::Small(op) => out.symbol(arithmetic(op)),
+        ChainOp::Or => "OR",
+        ChainOp::And => "AND",
+        ChainOp::Concat => "||",
+        ChainOp::Int(op) | ChainOp::Small(op) => arithmetic(op),
     }
 }
 

@@ -1,5 +1,8 @@
 //! The reader of functions that are one RETURN over bigint parameters.
 
+ghost use Rattle.std.specs.Prelude.{◌<◌, ◌≤◌, length, IfErr, IfOk, OnSome};
+ghost use Rattle.away_top.specs.Refusals.{HasReadTokens, IsRefusal};
+
 use crate::one_return::cursor::{Cursor, name_of};
 use crate::one_return::refusal::Refusal;
 use crate::one_return::source::{first_quote, inside_tokens, mark_len, tokens_of};
@@ -15,7 +18,10 @@ const MAX_NESTING: u32 = 64;
 const MAX_PARAMETERS: usize = 64;
 
 /// The function that the bytes of a file spell.
-pub fn read_function(alloc: Global, bytes: &[u8]) -> Result<Function, Refusal> {
+pub fn read_function(alloc: Global, bytes: &[u8]) -> Result<Function, Refusal>
+    ensures ok { IfOk result (λ f. HasReadTokens bytes.now) }
+    ensures err { IfErr result (IsRefusal bytes.now) }
+{
     let outer = tokens_of(alloc, bytes)?;
     match first_quote(&outer) {
         None => Err(Refusal::NoTree),
@@ -130,7 +136,9 @@ fn body(alloc: Global, inner: &[Token<'_>]) -> Result<Expr, Refusal> {
 
 /// Products that `+` and `-` join, with so many parentheses left to stand in one another.
 #[cycle(reader)]
-fn sum(alloc: Global, cursor: &mut Cursor<'_>, nesting: u32) -> Result<Expr, Refusal> {
+fn sum(alloc: Global, cursor: &mut Cursor<'_>, nesting: u32) -> Result<Expr, Refusal>
+    ensures { length cursor.new.rest.now ≤ length cursor.old.rest.now }
+{
     let first = product(alloc, cursor, nesting)?;
     let mut links = Items::new(alloc);
     while let Some(op) = sum_operator(cursor) {
@@ -141,7 +149,9 @@ fn sum(alloc: Global, cursor: &mut Cursor<'_>, nesting: u32) -> Result<Expr, Ref
 
 /// Operands that `*` joins.
 #[cycle(reader)]
-fn product(alloc: Global, cursor: &mut Cursor<'_>, nesting: u32) -> Result<Expr, Refusal> {
+fn product(alloc: Global, cursor: &mut Cursor<'_>, nesting: u32) -> Result<Expr, Refusal>
+    ensures { length cursor.new.rest.now ≤ length cursor.old.rest.now }
+{
     let first = primary(alloc, cursor, nesting)?;
     let mut links = Items::new(alloc);
     while cursor.eat_symbol("*") {
@@ -155,7 +165,9 @@ fn product(alloc: Global, cursor: &mut Cursor<'_>, nesting: u32) -> Result<Expr,
 
 /// An integer, a name, or a sum in parentheses.
 #[cycle(reader)]
-fn primary(alloc: Global, cursor: &mut Cursor<'_>, nesting: u32) -> Result<Expr, Refusal> {
+fn primary(alloc: Global, cursor: &mut Cursor<'_>, nesting: u32) -> Result<Expr, Refusal>
+    ensures { length cursor.new.rest.now ≤ length cursor.old.rest.now }
+{
     if cursor.eat_symbol("(") {
         if nesting == 0 {
             return Err(Refusal::NoTree);
@@ -170,7 +182,10 @@ fn primary(alloc: Global, cursor: &mut Cursor<'_>, nesting: u32) -> Result<Expr,
     }
 }
 
-fn sum_operator(cursor: &mut Cursor<'_>) -> Option<ChainOp> {
+fn sum_operator(cursor: &mut Cursor<'_>) -> Option<ChainOp>
+    ensures shrinks { length cursor.new.rest.now ≤ length cursor.old.rest.now }
+    ensures taken { OnSome result (length cursor.new.rest.now < length cursor.old.rest.now) }
+{
     if cursor.eat_symbol("+") {
         Some(ChainOp::Int(IntOp::Add))
     } else if cursor.eat_symbol("-") {

@@ -1,11 +1,19 @@
 //! The text of a file, and its tokens.
 
+ghost use Rattle.std.specs.Prelude.{◌≡◌, map, IfErr, IfOk, MatchOption};
+ghost use Rattle.away_lex.specs.Lexed.{seen};
+ghost use Rattle.away_top.specs.Refusals.{IsTokenRefusal};
+ghost use Rattle.away_top.specs.Sources.{HasTokens, IsText};
+
 use crate::one_return::refusal::Refusal;
 use away_lex::{Token, TokenKind, TokensRefusal, tokens};
 use std::alloc::Global;
 
 /// The tokens of a file that is a text.
-pub fn tokens_of<'a>(alloc: Global, bytes: &'a [u8]) -> Result<Vec<Token<'a>>, Refusal> {
+pub fn tokens_of<'a>(alloc: Global, bytes: &'a [u8]) -> Result<Vec<Token<'a>>, Refusal>
+    ensures ok { IfOk result (λ list. HasTokens bytes.now (map seen list.items)) }
+    ensures err { IfErr result (IsTokenRefusal bytes.now) }
+{
     match text_of(bytes) {
         None => Err(Refusal::NotText),
         Some(text) => match tokens(alloc, text) {
@@ -17,7 +25,9 @@ pub fn tokens_of<'a>(alloc: Global, bytes: &'a [u8]) -> Result<Vec<Token<'a>>, R
 }
 
 /// The bytes as text: UTF-8 without U+0000.
-fn text_of(bytes: &[u8]) -> Option<&str> {
+fn text_of(bytes: &[u8]) -> Option<&str>
+    ensures { MatchOption result (¬ (IsText bytes.now)) (λ text. IsText bytes.now × (text.now ≡ bytes.now)) }
+{
     if bytes.contains(&0) {
         return None;
     }

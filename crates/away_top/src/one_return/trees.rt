@@ -1,6 +1,7 @@
 //! Small trees that the template is made of.
 
-use away_core::{Expr, FromItem, Item, Name, NoMemory, Query, Select, Source, Ty};
+use crate::one_return::names::Known;
+use away_core::{CmpOp, Expr, FromItem, Item, Name, NoMemory, Query, Select, Source, Ty};
 use sqlite_items::{Boxed, Items};
 use std::alloc::Global;
 
@@ -21,65 +22,108 @@ pub fn null(alloc: Global, ty: Ty) -> Result<Expr, NoMemory> {
     cast(alloc, Expr::Null, ty)
 }
 
-/// An item of a select list, without an alias.
-pub fn item(expr: Expr) -> Item {
-    Item { expr, alias: None }
+/// A column of an item, by their names.
+pub fn column(alloc: Global, alias: Known, column: Known) -> Result<Expr, NoMemory> {
+    Ok(Expr::Dotted(alias.name(alloc)?, column.name(alloc)?))
 }
 
-/// A select without ORDER BY and LIMIT.
-pub fn select(
-    alloc: Global,
-    list: Items<Item>,
-    from: Items<FromItem>,
-    filter: Option<Expr>,
-) -> Select {
-    Select {
-        list,
-        from,
-        filter,
-        order: Items::new(alloc),
-        limit: None,
+/// Whether the call goes on.
+pub fn goes_on(alloc: Global) -> Result<Expr, NoMemory> {
+    column(alloc, Known::Table, Known::Go)
+}
+
+/// Whether the call is over.
+pub fn is_over(alloc: Global) -> Result<Expr, NoMemory> {
+    Ok(Expr::Not(Boxed::new(alloc, goes_on(alloc)?)?))
+}
+
+/// Whether two values are equal.
+pub fn equal(alloc: Global, left: Expr, right: Expr) -> Result<Expr, NoMemory> {
+    let left = Boxed::new(alloc, left)?;
+    Ok(Expr::Compare(CmpOp::Eq, left, Boxed::new(alloc, right)?))
+}
+
+/// A select list that is made item by item.
+#[derive(Drop)]
+pub struct List {
+    items: Items<Item>,
+}
+
+impl List {
+    pub fn new(alloc: Global) -> List {
+        List {
+            items: Items::new(alloc),
+        }
+    }
+
+    /// Adds an item without an alias.
+    pub fn add(&mut self, expr: Expr) -> Result<(), NoMemory> {
+        self.items.push(Item { expr, alias: None })?;
+        Ok(())
+    }
+
+    /// Adds each of these columns of an item.
+    pub fn add_columns(
+        &mut self,
+        alloc: Global,
+        alias: Known,
+        columns: &[Name],
+    ) -> Result<(), NoMemory> {
+        for column in columns {
+            self.add(Expr::Dotted(alias.name(alloc)?, column.copy(alloc)?))?;
+        }
+        Ok(())
+    }
+
+    /// The select of this list, without ORDER BY and LIMIT.
+    pub fn select(self, alloc: Global, from: Items<FromItem>, filter: Option<Expr>) -> Select {
+        let List { items } = self;
+        Select {
+            list: items,
+            from,
+            filter,
+            order: Items::new(alloc),
+            limit: None,
+        }
     }
 }
 
-/// A query of one select.
-pub fn query(alloc: Global, only: Select) -> Result<Query, NoMemory> {
+/// A list of one select.
+pub fn alone(alloc: Global, select: Select) -> Result<Items<Select>, NoMemory> {
     let mut selects = Items::new(alloc);
-    selects.push(only)?;
-    Ok(Query {
-        recursive: None,
-        selects,
-    })
+    selects.push(select)?;
+    Ok(selects)
 }
 
-/// A table under its own name.
-pub fn table(alloc: Global, name: &Name) -> Result<FromItem, NoMemory> {
-    Ok(FromItem {
-        source: Source::Table(name.copy(alloc)?),
-        alias: name.copy(alloc)?,
+/// The working table, alone.
+pub fn from_table(alloc: Global) -> Result<Items<FromItem>, NoMemory> {
+    let mut from = Items::new(alloc);
+    from.push(FromItem {
+        source: Source::Table(Known::Table.name(alloc)?),
+        alias: Known::Table.name(alloc)?,
         columns: Items::new(alloc),
-    })
+    })?;
+    Ok(from)
 }
 
 /// A LATERAL subquery of one select.
 pub fn lateral(
     alloc: Global,
-    only: Select,
-    alias: Name,
+    select: Select,
+    alias: Known,
     columns: Items<Name>,
 ) -> Result<FromItem, NoMemory> {
+    let selects = alone(alloc, select)?;
+    let query = Boxed::new(
+        alloc,
+        Query {
+            recursive: None,
+            selects,
+        },
+    )?;
     Ok(FromItem {
-        source: Source::Sub(Boxed::new(alloc, query(alloc, only)?)?, true),
-        alias,
+        source: Source::Sub(query, true),
+        alias: alias.name(alloc)?,
         columns,
     })
-}
-
-/// The columns of an item, each as an item of a select list.
-pub fn references(alloc: Global, alias: &Name, columns: &[Name]) -> Result<Items<Item>, NoMemory> {
-    let mut list = Items::new(alloc);
-    for column in columns {
-        list.push(item(Expr::Dotted(alias.copy(alloc)?, column.copy(alloc)?)))?;
-    }
-    Ok(list)
 }

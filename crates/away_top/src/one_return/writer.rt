@@ -50,7 +50,7 @@ impl Writer {
         Ok(())
     }
 
-    /// Words of the grammar.
+    /// Words of the grammar, or a symbol.
     pub fn words(&mut self, words: &str) -> Result<(), NoMemory> {
         self.token(words, Last::Other)
     }
@@ -92,18 +92,32 @@ impl Writer {
         self.glued(",", Last::Other)
     }
 
-    pub fn dot(&mut self) -> Result<(), NoMemory> {
-        self.glued(".", Last::Opening)
-    }
-
-    /// A symbol with a space on either side.
-    pub fn symbol(&mut self, symbol: &str) -> Result<(), NoMemory> {
-        self.token(symbol, Last::Other)
-    }
-
-    pub fn number(&mut self, number: u64) -> Result<(), NoMemory> {
+    /// An integer; a negative one with a minus before it.
+    pub fn integer(&mut self, number: i64) -> Result<(), NoMemory> {
         let mut buffer = Buffer::new();
-        self.token(buffer.format(number), Last::Other)
+        if number < 0 {
+            self.words("-")?;
+        }
+        self.token(buffer.format(number.unsigned_abs()), Last::Other)
+    }
+
+    /// A column of an item.
+    pub fn dotted(&mut self, alias: &str, column: &str) -> Result<(), NoMemory> {
+        self.name(alias)?;
+        self.glued(".", Last::Opening)?;
+        self.name(column)
+    }
+
+    /// AS and a name.
+    pub fn alias(&mut self, name: &str) -> Result<(), NoMemory> {
+        self.words("AS")?;
+        self.name(name)
+    }
+
+    pub fn count_rows(&mut self) -> Result<(), NoMemory> {
+        self.function("count")?;
+        self.words("*")?;
+        self.close()
     }
 
     /// A parameter: `$` and its number.
