@@ -47,7 +47,7 @@ impl Known {
     }
 
     pub fn name(self, alloc: Global) -> Result<Name, NoMemory> {
-        known(alloc, self.text())
+        name_that_is(alloc, self.text())
     }
 
     /// A list of this name alone.
@@ -81,11 +81,11 @@ pub fn column_name(alloc: Global, place: usize) -> Result<Name, NoMemory> {
     let mut text = String::from_str(alloc, "away_c")?;
     let mut buffer = Buffer::new();
     text.push_str(buffer.format(place))?;
-    known(alloc, &text)
+    name_that_is(alloc, &text)
 }
 
 /// The name that a text is.
-fn known(alloc: Global, text: &str) -> Result<Name, NoMemory>
+fn name_that_is(alloc: Global, text: &str) -> Result<Name, NoMemory>
     requires { IsName text.now }
     ensures { IfOk result (λ n. n ≡ text.now) }
 {

@@ -66,16 +66,6 @@ impl Writer {
         self.open()
     }
 
-    /// The name of a function, in upper case where it is a word of the grammar.
-    pub fn called(&mut self, name: &str) -> Result<(), NoMemory> {
-        match name {
-            "coalesce" => self.name("COALESCE"),
-            "greatest" => self.name("GREATEST"),
-            "least" => self.name("LEAST"),
-            _ => self.name(name),
-        }
-    }
-
     pub fn open(&mut self) -> Result<(), NoMemory> {
         if self.last == Last::Name {
             self.glued("(", Last::Opening)
@@ -108,34 +98,10 @@ impl Writer {
         self.name(column)
     }
 
-    /// AS and a name.
-    pub fn alias(&mut self, name: &str) -> Result<(), NoMemory> {
-        self.words("AS")?;
-        self.name(name)
-    }
-
-    pub fn count_rows(&mut self) -> Result<(), NoMemory> {
-        self.function("count")?;
-        self.words("*")?;
-        self.close()
-    }
-
     /// A parameter: `$` and its number.
     pub fn parameter(&mut self, number: u32) -> Result<(), NoMemory> {
         let mut buffer = Buffer::new();
         self.token("$", Last::Other)?;
         self.glued(buffer.format(number), Last::Other)
-    }
-
-    /// A string, each quote in it twice.
-    pub fn string(&mut self, text: &str) -> Result<(), NoMemory> {
-        self.token("'", Last::Other)?;
-        for (place, part) in text.split('\'').enumerate() {
-            if place > 0 {
-                self.glued("''", Last::Other)?;
-            }
-            self.glued(part, Last::Other)?;
-        }
-        self.glued("'", Last::Other)
     }
 }
