@@ -93,8 +93,8 @@ fn reference(alloc: Global, params: &[(Name, Ty)], name: &Name) -> Result<Expr, 
 }
 
 fn query_with(alloc: Global, params: &[(Name, Ty)], value: Expr) -> Result<Query, NoMemory> {
-    let recursive = working_table(alloc, params, value)?;
     let selects = alone(alloc, answer(alloc)?)?;
+    let recursive = working_table(alloc, params, value)?;
     Ok(Query {
         recursive: Some(recursive),
         selects,
@@ -106,15 +106,20 @@ fn working_table(
     params: &[(Name, Ty)],
     value: Expr,
 ) -> Result<Recursive, NoMemory> {
+    let name = Known::Table.name(alloc)?;
     let columns = columns(alloc, params.len())?;
+    let first = first_term(alloc, params)?;
     let second = step(alloc, params, columns.as_slice(), value)?;
-    let first = alone(alloc, start(alloc, params)?)?;
     Ok(Recursive {
-        name: Known::Table.name(alloc)?,
+        name,
         columns,
         first,
         second,
     })
+}
+
+fn first_term(alloc: Global, params: &[(Name, Ty)]) -> Result<Items<Select>, NoMemory> {
+    alone(alloc, start(alloc, params)?)
 }
 
 /// The first row: the call goes on, at label 1, with the arguments, and without a result.

@@ -5,7 +5,7 @@ use Rattle.away_core.specs.Words.{IsName}
 use Rattle.away_top.proofs.ColumnNames.{column_is_name}
 use Rattle.away_top.proofs.one_return.names.column_name.Goals as goal
 
-pub known-requires : goal.known-requires
-known-requires c =
+pub name_that_is-requires : goal.name_that_is-requires
+name_that_is-requires c =
     let spelled : c.deref.result.now ≡ codes "away_c" ++ decimal c.args.place = first_of (search rules, grind (arith, common_steps)) in
     subst IsName (sym spelled) (column_is_name c.args.place c.ranges.place.fits)

@@ -15,3 +15,9 @@ invariant-sum-loop-op l = length l.cursor.rest.now ≤ length l.fn.cursor.rest.n
 
 abbrev pub decreases-sum-loop-op : goal.decreases-sum-loop-op
 decreases-sum-loop-op l = length l.cursor.rest.now
+
+abbrev pub invariant-product-loop-links : goal.invariant-product-loop-links
+invariant-product-loop-links l = length l.cursor.rest.now ≤ length l.fn.cursor.rest.now
+
+abbrev pub decreases-product-loop-links : goal.decreases-product-loop-links
+decreases-product-loop-links l = length l.cursor.rest.now
