@@ -2,3 +2,5 @@ pub mod Words
 pub mod Results
 pub mod Operators
 pub mod Algebra
+pub mod Values
+pub mod Spellings

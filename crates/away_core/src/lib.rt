@@ -1,22 +1,28 @@
 //! The values, the operators and the trees of functions and queries, with the definitions that say what they are.
 #![tactic(auto)]
 
+mod arithmetic;
+mod comparison;
 mod errors;
 mod from_text;
 mod operators;
 mod queries;
 mod schemas;
 mod statements;
+mod texts;
 mod types;
 mod values;
 mod words;
 
+pub use arithmetic::{int_op, small};
+pub use comparison::compare;
 pub use errors::{NoMemory, OpError};
 pub use from_text::{name, word};
 pub use operators::{ChainOp, CmpOp, IntOp, IsTest, TextOp};
 pub use queries::{Col, Expr, FromItem, Item, Key, Query, Recursive, Select, Source};
 pub use schemas::{ColumnSchema, Schema, TableSchema};
 pub use statements::{Arm, Decl, Function, LoopKind, Raised, Stmt};
+pub use texts::text_op;
 pub use types::Ty;
 pub use values::{Answer, Class, Table, Tables, Value};
 pub use words::{Name, Word};
