@@ -4,3 +4,5 @@ pub mod Operators
 pub mod Algebra
 pub mod Values
 pub mod Spellings
+pub mod OrderLaws
+pub mod ArithmeticLaws

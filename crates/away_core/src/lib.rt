@@ -5,6 +5,7 @@ mod arithmetic;
 mod comparison;
 mod errors;
 mod from_text;
+mod operator_laws;
 mod operators;
 mod queries;
 mod schemas;
@@ -18,6 +19,10 @@ pub use arithmetic::{int_op, small};
 pub use comparison::compare;
 pub use errors::{NoMemory, OpError};
 pub use from_text::{name, word};
+pub use operator_laws::{
+    arithmetic_is_exact, comparison_is_a_total_order, comparison_is_by_value,
+    division_leaves_the_remainder, parts_of_a_text_join, the_text_of_a_bigint_reads_back,
+};
 pub use operators::{ChainOp, CmpOp, IntOp, IsTest, TextOp};
 pub use queries::{Col, Expr, FromItem, Item, Key, Query, Recursive, Select, Source};
 pub use schemas::{ColumnSchema, Schema, TableSchema};
