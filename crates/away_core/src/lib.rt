@@ -6,6 +6,8 @@ mod comparison;
 mod errors;
 mod from_text;
 mod operator_laws;
+#[cfg(test)]
+mod operator_tests;
 mod operators;
 mod queries;
 mod schemas;
