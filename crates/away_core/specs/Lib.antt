@@ -6,3 +6,4 @@ pub mod Values
 pub mod Spellings
 pub mod OrderLaws
 pub mod ArithmeticLaws
+pub mod ValueLaws

@@ -23,7 +23,8 @@ pub use errors::{NoMemory, OpError};
 pub use from_text::{name, word};
 pub use operator_laws::{
     arithmetic_is_exact, comparison_is_a_total_order, comparison_is_by_value,
-    division_leaves_the_remainder, parts_of_a_text_join, the_text_of_a_bigint_reads_back,
+    division_leaves_the_remainder, parts_of_a_text_join, results_have_their_types,
+    the_text_of_a_bigint_reads_back, what_is_held_is_a_value,
 };
 pub use operators::{ChainOp, CmpOp, IntOp, IsTest, TextOp};
 pub use queries::{Col, Expr, FromItem, Item, Key, Query, Recursive, Select, Source};

@@ -6,9 +6,41 @@ ghost use Rattle.away_core.specs.Operators.{concat, fits, spelled, substr};
 ghost use Rattle.away_core.specs.OrderLaws.{IsOrdered, IsTheOrder};
 ghost use Rattle.away_core.specs.Results.{and_then};
 ghost use Rattle.away_core.specs.Spellings.{bigint_of};
-ghost use Rattle.away_core.specs.Values.{IsText};
+ghost use Rattle.away_core.specs.ValueLaws.{AreTyped};
+ghost use Rattle.away_core.specs.Values.{IsText, IsValue};
 ghost use Rattle.away_core.specs.declared.types.Ty.{Ty};
 ghost use Rattle.away_core.specs.declared.values.Value.TheVariants as val;
+
+use crate::values::Value;
+use crate::words::Word;
+
+/// What an operator gives is NULL or a value of its type.
+pub fn results_have_their_types()
+    ensures { AreTyped }
+{}
+
+/// What code holds is a value: a number of 64 bits, or a text within its limit and without U+0000.
+pub fn what_is_held_is_a_value(v: &Value)
+    ensures { IsValue v.now }
+{
+    match v {
+        Value::Int(n) => keeps_range(*n),
+        Value::Text(word) => keeps_limit(word),
+        _ => {}
+    }
+}
+
+fn keeps_range(n: i64)
+    ensures { IsValue (val.Int n) }
+{
+    let _ = n;
+}
+
+fn keeps_limit(word: &Word)
+    ensures { IsText word.now }
+{
+    let _text = word.text();
+}
 
 /// Comparison is a total order on the values of a type that are there, and the six operators are that order's.
 pub fn comparison_is_a_total_order()
