@@ -32,9 +32,7 @@ pub fn what_is_held_is_a_value(v: &Value)
 
 fn keeps_range(n: i64)
     ensures { IsValue (val.Int n) }
-{
-    let _ = n;
-}
+{}
 
 fn keeps_limit(word: &Word)
     ensures { IsText word.now }
