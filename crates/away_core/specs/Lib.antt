@@ -12,3 +12,8 @@ pub mod FunctionFile
 pub mod AlgebraEquations
 pub mod StatementAlgebra
 pub mod Count
+pub mod Values
+pub mod BigintSpellings
+pub mod OrderLaws
+pub mod ArithmeticLaws
+pub mod ValueLaws
