@@ -6,3 +6,4 @@ pub mod Literals
 pub mod AlgebraEquations
 pub mod StatementAlgebra
 pub mod Count
+pub mod StatementEquations
