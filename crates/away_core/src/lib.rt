@@ -6,6 +6,7 @@ mod copy_queries;
 mod copy_schemas;
 mod copy_statements;
 mod copy_values;
+mod count;
 mod errors;
 mod operators;
 mod queries;
@@ -16,6 +17,7 @@ mod types;
 mod values;
 mod words;
 
+pub use count::{nodes, weight};
 pub use errors::{NoMemory, OpError};
 pub use operators::{ChainOp, CmpOp, IntOp, IsTest, TextOp};
 pub use queries::{Col, Expr, FromItem, Item, Key, Query, Recursive, Select, Source};
