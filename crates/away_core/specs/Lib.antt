@@ -7,3 +7,4 @@ pub mod AlgebraEquations
 pub mod StatementAlgebra
 pub mod Count
 pub mod StatementEquations
+pub mod WorkedFunctions
