@@ -8,3 +8,5 @@ pub mod StatementAlgebra
 pub mod Count
 pub mod StatementEquations
 pub mod WorkedFunctions
+pub mod Values
+pub mod Spellings

@@ -1,6 +1,8 @@
 -- A value or a class, and lists of them from left to right, where the first class is the result.
-use Rattle.std.specs.Prelude.{ℕ, List, [], ◌∷◌, ◌++◌, Result, Ok, Err}
+use Rattle.std.specs.Prelude.{◌≡◌, ℕ, List, [], ◌∷◌, ◌++◌, Result, Ok, Err}
 use Rattle.away_core.specs.declared.values.Class.{Class}
+use Rattle.away_core.specs.declared.errors.OpError.{OpError}
+use Rattle.away_core.specs.declared.errors.OpError.TheVariants as error
 
 abbrev pub Or : Type 0 → Type 0
 Or A = Result A Class
@@ -25,3 +27,9 @@ each_joined f (x ∷ xs) = and_then (f x) (λ ys. mapped (λ zs. ys ++ zs) (each
 
 abbrev pub class : List ℕ → Class
 class code = record { code = code }
+
+-- what a call answers whose meaning is `meant`, where want of memory is the one free answer
+abbrev pub Answers : {A : Type 0} → Or A → Result A OpError → Type 0
+Answers meant (Ok a) = meant ≡ Ok a
+Answers meant (Err (error.Class c)) = meant ≡ Err c
+Answers meant (Err error.NoMemory) = Unit {0}

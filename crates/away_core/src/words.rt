@@ -1,12 +1,13 @@
 //! Names and texts.
 
 ghost use Rattle.std.specs.Prelude.{◌≡◌, IfOk, string_bytes, chars};
+ghost use Rattle.away_core.specs.Words.{IsName, IsWord};
 
 use crate::errors::NoMemory;
 use std::alloc::Global;
 use std::marker::Model;
 
-/// A text that contracts see as its list of code points.
+/// A text of at most 1,048,576 bytes of UTF-8 without U+0000. Contracts see it as its list of code points.
 #[derive(Drop)]
 pub struct Word {
     text: String,
@@ -27,6 +28,21 @@ impl Model for Word {
 }
 
 impl Word {
+    pub(crate) fn from_string(text: String) -> Word
+        requires { IsWord (string_bytes text) }
+        ensures { result ≡ chars (string_bytes text) }
+    {
+        Word { text }
+    }
+
+    /// The text, in UTF-8.
+    pub fn text(&self) -> &str
+        ensures within { IsWord result.now }
+        ensures value { chars result.now ≡ self.now }
+    {
+        &self.text
+    }
+
     pub fn copy(&self, alloc: Global) -> Result<Word, NoMemory>
         ensures { IfOk result (λ w. w ≡ self.now) }
     {
@@ -36,7 +52,7 @@ impl Word {
     }
 }
 
-/// One to 63 characters, each a lower-case letter, a digit or `_`.
+/// A name of one to 63 characters, each a lower-case ASCII letter, a digit or `_`. Contracts see it as its list of bytes.
 #[derive(Drop)]
 pub struct Name {
     text: String,
@@ -57,6 +73,21 @@ impl Model for Name {
 }
 
 impl Name {
+    pub(crate) fn from_string(text: String) -> Name
+        requires { IsName (string_bytes text) }
+        ensures { result ≡ string_bytes text }
+    {
+        Name { text }
+    }
+
+    /// The text of the name.
+    pub fn text(&self) -> &str
+        ensures within { IsName result.now }
+        ensures value { result.now ≡ self.now }
+    {
+        &self.text
+    }
+
     pub fn copy(&self, alloc: Global) -> Result<Name, NoMemory>
         ensures { IfOk result (λ w. w ≡ self.now) }
     {
