@@ -35,3 +35,6 @@ pub use tree_laws::{literals_of_a_query_compute, nodes_of_worked_functions, quer
 pub use types::Ty;
 pub use values::{Answer, Class, Table, Tables, Value};
 pub use words::{Name, Word};
+
+#[cfg(test)]
+mod copy_tests;
