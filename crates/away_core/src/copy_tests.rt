@@ -1,6 +1,6 @@
 //! Copies of trees that have every variant, of a long chain and of a deep tree.
 
-mod made;
+pub(crate) mod made;
 mod queries;
 mod spelled;
 mod statements;

@@ -38,3 +38,5 @@ pub use words::{Name, Word};
 
 #[cfg(test)]
 mod copy_tests;
+#[cfg(test)]
+mod count_tests;

@@ -1,5 +1,7 @@
 //! Parts of trees for tests.
 
+ghost use Rattle.std.specs.Prelude.{◌≡◌, [], ◌∷◌, IfOk};
+
 use crate::{Arm, ChainOp, CmpOp, Expr, FromItem, IntOp, Item, Name, NoMemory, Query, Select, Source, Stmt, Word, name, word};
 use sqlite_items::{Boxed, Items};
 use std::alloc::{AllocError, Global};
@@ -23,17 +25,25 @@ pub(crate) fn variable(alloc: Global, text: &str) -> Result<Expr, NoMemory> {
     Ok(Expr::Named(named(alloc, text)?))
 }
 
-pub(crate) fn one<T: Drop>(alloc: Global, only: T) -> Result<Items<T>, AllocError> {
+pub(crate) fn one<T: Drop>(alloc: Global, only: T) -> Result<Items<T>, AllocError>
+    ensures { IfOk result (λ all. all ≡ only ∷ []) }
+{
     let mut all = Items::new(alloc);
     all.push(only)?;
     Ok(all)
 }
 
-pub(crate) fn two<T: Drop>(alloc: Global, first: T, second: T) -> Result<Items<T>, AllocError> {
+pub(crate) fn two<T: Drop>(alloc: Global, first: T, second: T) -> Result<Items<T>, AllocError>
+    ensures { IfOk result (λ all. all ≡ first ∷ second ∷ []) }
+{
     let mut all = Items::new(alloc);
     all.push(first)?;
     all.push(second)?;
     Ok(all)
+}
+
+pub(crate) fn boxed(alloc: Global, n: i64) -> Result<Boxed<Expr>, AllocError> {
+    Boxed::new(alloc, Expr::Int(n))
 }
 
 /// Arithmetic on two expressions.
@@ -45,20 +55,22 @@ pub(crate) fn comparison(alloc: Global, op: CmpOp, left: Expr, right: Expr) -> R
     Ok(Expr::Compare(op, Boxed::new(alloc, left)?, Boxed::new(alloc, right)?))
 }
 
-pub(crate) fn assignment(alloc: Global, text: &str, value: Expr) -> Result<Stmt, NoMemory> {
-    Ok(Stmt::Assign(named(alloc, text)?, None, value))
+fn table_item(alloc: Global, table: &str, alias: &str) -> Result<Items<FromItem>, NoMemory> {
+    let source = Source::Table(named(alloc, table)?);
+    let item = FromItem {
+        source,
+        alias: named(alloc, alias)?,
+        columns: Items::new(alloc),
+    };
+    Ok(one(alloc, item)?)
 }
 
 /// SELECT of the expression FROM the table under an alias.
 pub(crate) fn simple(alloc: Global, expr: Expr, table: &str, alias: &str, filter: Option<Expr>) -> Result<Select, NoMemory> {
-    let from = FromItem {
-        source: Source::Table(named(alloc, table)?),
-        alias: named(alloc, alias)?,
-        columns: Items::new(alloc),
-    };
+    let from = table_item(alloc, table, alias)?;
     Ok(Select {
         list: one(alloc, Item { expr, alias: None })?,
-        from: one(alloc, from)?,
+        from,
         filter,
         order: Items::new(alloc),
         limit: None,
