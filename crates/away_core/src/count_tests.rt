@@ -1,129 +1,128 @@
 //! The nodes of two functions, built as trees.
 
-ghost use Rattle.std.specs.Prelude.{◌≡◌, ◌+◌, IfOk, sum_by};
+ghost use Rattle.std.specs.Prelude.{◌≡◌, ◌+◌, sum_by};
 ghost use Rattle.away_core.specs.Count as spec;
 
-use crate::copy_tests::made::{arithmetic, comparison, named, one, simple, two, variable, whole};
-use crate::{Arm, CmpOp, Decl, Expr, Function, IntOp, LoopKind, NoMemory, Stmt, Ty, nodes, weight};
-use sqlite_items::{Boxed, Items};
-use std::alloc::Global;
-use std::test::Fail;
+use crate::copy_tests::made::{arithmetic, boxed, comparison, named, one, simple, two, variable, whole};
+use crate::{Arm, CmpOp, Decl, Expr, Function, IntOp, LoopKind, Stmt, Ty, nodes, weight};
+use sqlite_items::Items;
+use std::process::Abort;
 
 #[tactic(auto, using(crate::proofs::CountLemmas::written_rules))]
-fn assignment(alloc: Global, text: &str, value: Expr) -> Result<Stmt, NoMemory>
-    ensures { IfOk result (λ s. spec.nodes_of s ≡ 1) }
+fn assignment(rt: &(impl Abort + AllocGlobal), text: &str, value: Expr) -> Stmt
+    ensures { spec.nodes_of result ≡ 1 }
 {
-    Ok(Stmt::Assign(named(alloc, text)?, None, value))
+    Stmt::Assign(named(rt, text), None, value)
 }
 
-fn decl(alloc: Global, text: &str, default: Option<Expr>) -> Result<Decl, NoMemory> {
-    Ok(Decl {
-        name: named(alloc, text)?,
+fn decl(rt: &(impl Abort + AllocGlobal), text: &str, default: Option<Expr>) -> Decl {
+    Decl {
+        name: named(rt, text),
         ty: Ty::Bigint,
         constant: false,
         not_null: false,
         default,
-    })
+    }
 }
 
 /// n := n / 2
 #[tactic(auto, using(crate::proofs::CountLemmas::written_rules))]
-fn halved(alloc: Global) -> Result<Stmt, NoMemory>
-    ensures { IfOk result (λ s. spec.nodes_of s ≡ 1) }
+fn halved(rt: &(impl Abort + AllocGlobal)) -> Stmt
+    ensures { spec.nodes_of result ≡ 1 }
 {
-    assignment(alloc, "n", arithmetic(alloc, IntOp::Div, variable(alloc, "n")?, Expr::Int(2))?)
+    assignment(rt, "n", arithmetic(rt, IntOp::Div, variable(rt, "n"), Expr::Int(2)))
 }
 
 /// n := 3 * n + 1
 #[tactic(auto, using(crate::proofs::CountLemmas::written_rules))]
-fn tripled(alloc: Global) -> Result<Stmt, NoMemory>
-    ensures { IfOk result (λ s. spec.nodes_of s ≡ 1) }
+fn tripled(rt: &(impl Abort + AllocGlobal)) -> Stmt
+    ensures { spec.nodes_of result ≡ 1 }
 {
-    let three_n = arithmetic(alloc, IntOp::Mul, Expr::Int(3), variable(alloc, "n")?)?;
-    assignment(alloc, "n", arithmetic(alloc, IntOp::Add, three_n, Expr::Int(1))?)
+    let three_n = arithmetic(rt, IntOp::Mul, Expr::Int(3), variable(rt, "n"));
+    assignment(rt, "n", arithmetic(rt, IntOp::Add, three_n, Expr::Int(1)))
 }
 
-fn is_even(alloc: Global) -> Result<Expr, NoMemory> {
-    let rest = arithmetic(alloc, IntOp::Rem, variable(alloc, "n")?, Expr::Int(2))?;
-    Ok(comparison(alloc, CmpOp::Eq, rest, Expr::Int(0))?)
+fn is_even(rt: &(impl Abort + AllocGlobal)) -> Expr {
+    let rest = arithmetic(rt, IntOp::Rem, variable(rt, "n"), Expr::Int(2));
+    comparison(rt, CmpOp::Eq, rest, Expr::Int(0))
 }
 
 /// WHEN n is even: halved
 #[tactic(auto, using(crate::proofs::CountLemmas::written_rules))]
-fn even(alloc: Global) -> Result<Arm, NoMemory>
-    ensures { IfOk result (λ a. spec.nodes_of_arm a ≡ 2) }
+fn even(rt: &(impl Abort + AllocGlobal)) -> Arm
+    ensures { spec.nodes_of_arm result ≡ 2 }
 {
-    let half = halved(alloc)?;
-    Ok(Arm {
-        test: is_even(alloc)?,
-        body: one(alloc, half)?,
-    })
+    let half = halved(rt);
+    Arm {
+        test: is_even(rt),
+        body: one(rt, half),
+    }
 }
 
 #[tactic(auto, using(crate::proofs::CountLemmas::written_rules))]
-fn halved_or_tripled(alloc: Global) -> Result<Stmt, NoMemory>
-    ensures { IfOk result (λ s. spec.nodes_of s ≡ 5) }
+fn halved_or_tripled(rt: &(impl Abort + AllocGlobal)) -> Stmt
+    ensures { spec.nodes_of result ≡ 5 }
 {
-    let arms = one(alloc, even(alloc)?)?;
-    let other = one(alloc, tripled(alloc)?)?;
-    Ok(Stmt::If(arms, Some(other)))
+    let arms = one(rt, even(rt));
+    let other = one(rt, tripled(rt));
+    Stmt::If(arms, Some(other))
 }
 
 #[tactic(auto, using(crate::proofs::CountLemmas::written_rules))]
-fn steps_to_one(alloc: Global) -> Result<Stmt, NoMemory>
-    ensures { IfOk result (λ s. spec.nodes_of s ≡ 7) }
+fn steps_to_one(rt: &(impl Abort + AllocGlobal)) -> Stmt
+    ensures { spec.nodes_of result ≡ 7 }
 {
-    let more = arithmetic(alloc, IntOp::Add, variable(alloc, "steps")?, Expr::Int(1))?;
-    let counted = assignment(alloc, "steps", more)?;
-    let test = comparison(alloc, CmpOp::Ne, variable(alloc, "n")?, Expr::Int(1))?;
-    Ok(Stmt::Loop {
+    let more = arithmetic(rt, IntOp::Add, variable(rt, "steps"), Expr::Int(1));
+    let counted = assignment(rt, "steps", more);
+    let test = comparison(rt, CmpOp::Ne, variable(rt, "n"), Expr::Int(1));
+    Stmt::Loop {
         label: None,
         kind: LoopKind::While(test),
-        body: two(alloc, halved_or_tripled(alloc)?, counted)?,
+        body: two(rt, halved_or_tripled(rt), counted),
         closing: None,
-    })
+    }
 }
 
 #[tactic(auto, using(crate::proofs::CountLemmas::written_rules), unfolding(crate::specs::Count::nodes))]
-fn collatz(alloc: Global) -> Result<Function, NoMemory>
-    ensures { IfOk result (λ f. spec.nodes f ≡ 11) }
+fn collatz(rt: &(impl Abort + AllocGlobal)) -> Function
+    ensures { spec.nodes result ≡ 11 }
 {
-    let result = Stmt::Return(variable(alloc, "steps")?);
-    Ok(Function {
-        name: named(alloc, "collatz")?,
+    let result = Stmt::Return(variable(rt, "steps"));
+    Function {
+        name: named(rt, "collatz"),
         strict: false,
-        params: one(alloc, (named(alloc, "n")?, Ty::Bigint))?,
+        params: one(rt, (named(rt, "n"), Ty::Bigint)),
         result: Ty::Bigint,
         body: Stmt::Block {
             label: None,
-            decls: one(alloc, decl(alloc, "steps", Some(Expr::Int(0)))?)?,
-            body: two(alloc, steps_to_one(alloc)?, result)?,
+            decls: one(rt, decl(rt, "steps", Some(Expr::Int(0)))),
+            body: two(rt, steps_to_one(rt), result),
             closing: None,
         },
-    })
+    }
 }
 
 /// best := (SELECT max(r.cost) FROM route r WHERE r.src = s)
 #[tactic(auto, using(crate::proofs::CountLemmas::written_rules))]
-fn dearest(alloc: Global) -> Result<Stmt, NoMemory>
-    ensures { IfOk result (λ s. spec.nodes_of s ≡ 1) }
+fn dearest(rt: &(impl Abort + AllocGlobal)) -> Stmt
+    ensures { spec.nodes_of result ≡ 1 }
 {
-    let cost = Expr::Dotted(named(alloc, "r")?, named(alloc, "cost")?);
-    let most = Expr::Call(named(alloc, "max")?, one(alloc, cost)?);
-    let src = Expr::Dotted(named(alloc, "r")?, named(alloc, "src")?);
-    let here = comparison(alloc, CmpOp::Eq, src, variable(alloc, "s")?)?;
-    let query = whole(alloc, simple(alloc, most, "route", "r", Some(here))?)?;
-    assignment(alloc, "best", Expr::Scalar(Boxed::new(alloc, query)?))
+    let cost = Expr::Dotted(named(rt, "r"), named(rt, "cost"));
+    let most = Expr::Call(named(rt, "max"), one(rt, cost));
+    let src = Expr::Dotted(named(rt, "r"), named(rt, "src"));
+    let here = comparison(rt, CmpOp::Eq, src, variable(rt, "s"));
+    let query = whole(rt, simple(rt, most, "route", "r", Some(here)));
+    assignment(rt, "best", Expr::Scalar(boxed(rt, query)))
 }
 
 #[tactic(auto, using(crate::proofs::CountLemmas::written_rules))]
-fn counted_to(alloc: Global, text: &str, last: i64, body: Items<Stmt>) -> Result<Stmt, NoMemory>
-    ensures { IfOk result (λ s. spec.nodes_of s ≡ 1 + sum_by spec.nodes_of body) }
+fn counted_to(rt: &(impl Abort + AllocGlobal), text: &str, last: i64, body: Items<Stmt>) -> Stmt
+    ensures { spec.nodes_of result ≡ 1 + sum_by spec.nodes_of body }
 {
-    Ok(Stmt::Loop {
+    Stmt::Loop {
         label: None,
         kind: LoopKind::Count {
-            var: named(alloc, text)?,
+            var: named(rt, text),
             reverse: false,
             first: Expr::Int(0),
             last: Expr::Int(last),
@@ -131,48 +130,47 @@ fn counted_to(alloc: Global, text: &str, last: i64, body: Items<Stmt>) -> Result
         },
         body,
         closing: None,
-    })
+    }
 }
 
 #[tactic(auto, using(crate::proofs::CountLemmas::written_rules))]
-fn inner_loop(alloc: Global) -> Result<Stmt, NoMemory>
-    ensures { IfOk result (λ s. spec.nodes_of s ≡ 3) }
+fn inner_loop(rt: &(impl Abort + AllocGlobal)) -> Stmt
+    ensures { spec.nodes_of result ≡ 3 }
 {
-    let best = Expr::Call(named(alloc, "coalesce")?, two(alloc, variable(alloc, "best")?, Expr::Int(0))?);
-    let more = arithmetic(alloc, IntOp::Add, variable(alloc, "total")?, best)?;
-    let added = assignment(alloc, "total", more)?;
-    let enough = comparison(alloc, CmpOp::Gt, variable(alloc, "total")?, variable(alloc, "lim")?)?;
-    let exit = Stmt::Exit(Some(named(alloc, "outer_loop")?), Some(enough));
-    counted_to(alloc, "d", 9, two(alloc, added, exit)?)
+    let best = Expr::Call(named(rt, "coalesce"), two(rt, variable(rt, "best"), Expr::Int(0)));
+    let more = arithmetic(rt, IntOp::Add, variable(rt, "total"), best);
+    let added = assignment(rt, "total", more);
+    let enough = comparison(rt, CmpOp::Gt, variable(rt, "total"), variable(rt, "lim"));
+    let exit = Stmt::Exit(Some(named(rt, "outer_loop")), Some(enough));
+    counted_to(rt, "d", 9, two(rt, added, exit))
 }
 
 #[tactic(auto, using(crate::proofs::CountLemmas::written_rules), unfolding(crate::specs::Count::nodes))]
-fn walk(alloc: Global) -> Result<Function, NoMemory>
-    ensures { IfOk result (λ f. spec.nodes f ≡ 10) }
+fn walk(rt: &(impl Abort + AllocGlobal)) -> Function
+    ensures { spec.nodes result ≡ 10 }
 {
-    let outer_loop = counted_to(alloc, "s", 99, two(alloc, dearest(alloc)?, inner_loop(alloc)?)?)?;
-    let total = Stmt::Return(variable(alloc, "total")?);
-    Ok(Function {
-        name: named(alloc, "walk")?,
+    let outer_loop = counted_to(rt, "s", 99, two(rt, dearest(rt), inner_loop(rt)));
+    let total = Stmt::Return(variable(rt, "total"));
+    Function {
+        name: named(rt, "walk"),
         strict: false,
-        params: one(alloc, (named(alloc, "lim")?, Ty::Bigint))?,
+        params: one(rt, (named(rt, "lim"), Ty::Bigint)),
         result: Ty::Bigint,
         body: Stmt::Block {
             label: None,
-            decls: two(alloc, decl(alloc, "best", None)?, decl(alloc, "total", Some(Expr::Int(0)))?)?,
-            body: two(alloc, outer_loop, total)?,
+            decls: two(rt, decl(rt, "best", None), decl(rt, "total", Some(Expr::Int(0)))),
+            body: two(rt, outer_loop, total),
             closing: None,
         },
-    })
+    }
 }
 
 #[test]
-fn nodes_and_weights(rt: HostRuntime) -> Result<(), Fail> {
-    let first = collatz(rt.alloc())?;
+fn nodes_and_weights(rt: HostRuntime) {
+    let first = collatz(&rt);
     assert_eq!(rt; nodes(&first), 11);
     assert_eq!(rt; weight(&first), 192);
-    let second = walk(rt.alloc())?;
+    let second = walk(&rt);
     assert_eq!(rt; nodes(&second), 10);
     assert_eq!(rt; weight(&second), 176);
-    Ok(())
 }

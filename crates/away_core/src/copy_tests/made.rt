@@ -1,92 +1,74 @@
-//! Parts of trees for tests.
+//! Parts of trees for tests. A test that finds no memory stops.
 
-ghost use Rattle.std.specs.Prelude.{◌≡◌, [], ◌∷◌, IfOk};
+ghost use Rattle.std.specs.Prelude.{◌≡◌, [], ◌∷◌};
 
-use crate::{Arm, ChainOp, CmpOp, Expr, FromItem, IntOp, Item, Name, NoMemory, Query, Select, Source, Stmt, Word, name, word};
+use crate::{ChainOp, CmpOp, Expr, FromItem, IntOp, Item, Name, Query, Select, Source, Word, name, word};
 use sqlite_items::{Boxed, Items};
-use std::alloc::{AllocError, Global};
+use std::process::Abort;
 
-/// The name that the text is. A text that is no name is reported as want of memory.
-pub(crate) fn named(alloc: Global, text: &str) -> Result<Name, NoMemory> {
-    match name(alloc, text)? {
-        None => Err(NoMemory),
-        Some(name) => Ok(name),
-    }
+pub(crate) fn named(rt: &(impl Abort + AllocGlobal), text: &str) -> Name {
+    let made = name(rt.alloc(), text).expect(rt, "memory");
+    made.expect(rt, "a name")
 }
 
-pub(crate) fn worded(alloc: Global, text: &str) -> Result<Word, NoMemory> {
-    match word(alloc, text)? {
-        None => Err(NoMemory),
-        Some(word) => Ok(word),
-    }
+pub(crate) fn worded(rt: &(impl Abort + AllocGlobal), text: &str) -> Word {
+    let made = word(rt.alloc(), text).expect(rt, "memory");
+    made.expect(rt, "a word")
 }
 
-pub(crate) fn variable(alloc: Global, text: &str) -> Result<Expr, NoMemory> {
-    Ok(Expr::Named(named(alloc, text)?))
+pub(crate) fn variable(rt: &(impl Abort + AllocGlobal), text: &str) -> Expr {
+    Expr::Named(named(rt, text))
 }
 
-pub(crate) fn one<T: Drop>(alloc: Global, only: T) -> Result<Items<T>, AllocError>
-    ensures { IfOk result (λ all. all ≡ only ∷ []) }
+pub(crate) fn one<T: Drop>(rt: &(impl Abort + AllocGlobal), only: T) -> Items<T>
+    ensures { result ≡ only ∷ [] }
 {
-    let mut all = Items::new(alloc);
-    all.push(only)?;
-    Ok(all)
+    let mut all = Items::new(rt.alloc());
+    all.push(only).expect(rt, "memory");
+    all
 }
 
-pub(crate) fn two<T: Drop>(alloc: Global, first: T, second: T) -> Result<Items<T>, AllocError>
-    ensures { IfOk result (λ all. all ≡ first ∷ second ∷ []) }
+pub(crate) fn two<T: Drop>(rt: &(impl Abort + AllocGlobal), first: T, second: T) -> Items<T>
+    ensures { result ≡ first ∷ second ∷ [] }
 {
-    let mut all = Items::new(alloc);
-    all.push(first)?;
-    all.push(second)?;
-    Ok(all)
+    let mut all = Items::new(rt.alloc());
+    all.push(first).expect(rt, "memory");
+    all.push(second).expect(rt, "memory");
+    all
 }
 
-pub(crate) fn boxed(alloc: Global, n: i64) -> Result<Boxed<Expr>, AllocError> {
-    Boxed::new(alloc, Expr::Int(n))
+pub(crate) fn boxed<T: Drop>(rt: &(impl Abort + AllocGlobal), value: T) -> Boxed<T> {
+    Boxed::new(rt.alloc(), value).expect(rt, "memory")
 }
 
 /// Arithmetic on two expressions.
-pub(crate) fn arithmetic(alloc: Global, op: IntOp, left: Expr, right: Expr) -> Result<Expr, AllocError> {
-    Ok(Expr::Chain(Boxed::new(alloc, left)?, one(alloc, (ChainOp::Int(op), right))?))
+pub(crate) fn arithmetic(rt: &(impl Abort + AllocGlobal), op: IntOp, left: Expr, right: Expr) -> Expr {
+    Expr::Chain(boxed(rt, left), one(rt, (ChainOp::Int(op), right)))
 }
 
-pub(crate) fn comparison(alloc: Global, op: CmpOp, left: Expr, right: Expr) -> Result<Expr, AllocError> {
-    Ok(Expr::Compare(op, Boxed::new(alloc, left)?, Boxed::new(alloc, right)?))
-}
-
-fn table_item(alloc: Global, table: &str, alias: &str) -> Result<Items<FromItem>, NoMemory> {
-    let source = Source::Table(named(alloc, table)?);
-    let item = FromItem {
-        source,
-        alias: named(alloc, alias)?,
-        columns: Items::new(alloc),
-    };
-    Ok(one(alloc, item)?)
+pub(crate) fn comparison(rt: &(impl Abort + AllocGlobal), op: CmpOp, left: Expr, right: Expr) -> Expr {
+    Expr::Compare(op, boxed(rt, left), boxed(rt, right))
 }
 
 /// SELECT of the expression FROM the table under an alias.
-pub(crate) fn simple(alloc: Global, expr: Expr, table: &str, alias: &str, filter: Option<Expr>) -> Result<Select, NoMemory> {
-    let from = table_item(alloc, table, alias)?;
-    Ok(Select {
-        list: one(alloc, Item { expr, alias: None })?,
-        from,
+pub(crate) fn simple(rt: &(impl Abort + AllocGlobal), expr: Expr, table: &str, alias: &str, filter: Option<Expr>) -> Select {
+    let from = FromItem {
+        source: Source::Table(named(rt, table)),
+        alias: named(rt, alias),
+        columns: Items::new(rt.alloc()),
+    };
+    Select {
+        list: one(rt, Item { expr, alias: None }),
+        from: one(rt, from),
         filter,
-        order: Items::new(alloc),
+        order: Items::new(rt.alloc()),
         limit: None,
-    })
+    }
 }
 
-pub(crate) fn whole(alloc: Global, select: Select) -> Result<Query, AllocError> {
-    Ok(Query {
+pub(crate) fn whole(rt: &(impl Abort + AllocGlobal), select: Select) -> Query {
+    Query {
         recursive: None,
-        selects: one(alloc, select)?,
-    })
-}
-
-pub(crate) fn arm(alloc: Global, test: Expr, only: Stmt) -> Result<Arm, AllocError> {
-    Ok(Arm {
-        test,
-        body: one(alloc, only)?,
-    })
+        selects: one(rt, select),
+    }
 }

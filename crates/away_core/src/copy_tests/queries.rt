@@ -1,235 +1,223 @@
 use super::made::{boxed, one, simple, two, variable, whole, named, worded};
 use super::spelled;
-use crate::{ChainOp, CmpOp, Col, Expr, FromItem, IntOp, IsTest, Item, Key, Name, NoMemory, Query, Recursive, Select, Source, Ty};
+use crate::{ChainOp, CmpOp, Col, Expr, FromItem, IntOp, IsTest, Item, Key, Name, Query, Recursive, Select, Source, Ty};
 use sqlite_items::{Boxed, Items};
-use std::alloc::Global;
-use std::test::Fail;
+use std::process::Abort;
 
 /// Whether the copy of the expression has this text.
-fn is_copied(alloc: Global, made: Result<Expr, NoMemory>, text: &str) -> Result<bool, NoMemory> {
-    let tree = made?;
-    let copy = tree.copy(alloc)?;
-    let mut out = String::new(alloc);
-    spelled::expr(&copy, &mut out, alloc)?;
-    Ok(out.as_str() == text)
+fn is_copied(rt: &(impl Abort + AllocGlobal), tree: Expr, text: &str) -> bool {
+    let copy = tree.copy(rt.alloc()).expect(rt, "memory");
+    let mut out = String::new(rt.alloc());
+    spelled::expr(&copy, &mut out, rt.alloc()).expect(rt, "memory");
+    out.as_str() == text
 }
 
-fn x(alloc: Global) -> Result<Boxed<Expr>, NoMemory> {
-    Ok(Boxed::new(alloc, variable(alloc, "x")?)?)
+fn x(rt: &(impl Abort + AllocGlobal)) -> Boxed<Expr> {
+    boxed(rt, variable(rt, "x"))
 }
 
-fn one_and_two(alloc: Global) -> Result<Items<Expr>, NoMemory> {
-    Ok(two(alloc, Expr::Int(1), Expr::Int(2))?)
+fn one_and_two(rt: &(impl Abort + AllocGlobal)) -> Items<Expr> {
+    two(rt, Expr::Int(1), Expr::Int(2))
 }
 
-fn string(alloc: Global) -> Result<Expr, NoMemory> {
-    Ok(Expr::Str(worded(alloc, "a é")?))
+fn string(rt: &(impl Abort + AllocGlobal)) -> Expr {
+    Expr::Str(worded(rt, "a é"))
 }
 
-fn dotted(alloc: Global) -> Result<Expr, NoMemory> {
-    Ok(Expr::Dotted(named(alloc, "t")?, named(alloc, "c")?))
+fn dotted(rt: &(impl Abort + AllocGlobal)) -> Expr {
+    Expr::Dotted(named(rt, "t"), named(rt, "c"))
 }
 
 #[test]
-fn leaves(rt: HostRuntime) -> Result<(), Fail> {
-    let alloc = rt.alloc();
+fn leaves(rt: HostRuntime) {
     let column = Col {
         level: 1,
         item: 2,
         column: 3,
     };
-    assert!(rt; is_copied(alloc, Ok(Expr::Int(-7)), " (-7)")?);
-    assert!(rt; is_copied(alloc, string(alloc), " ('a é')")?);
-    assert!(rt; is_copied(alloc, Ok(Expr::Bool(true)), " (true)")?);
-    assert!(rt; is_copied(alloc, Ok(Expr::Null), " (null)")?);
-    assert!(rt; is_copied(alloc, variable(alloc, "x"), " (x)")?);
-    assert!(rt; is_copied(alloc, dotted(alloc), " (t.c)")?);
-    assert!(rt; is_copied(alloc, Ok(Expr::Slot(3)), " (slot 3)")?);
-    assert!(rt; is_copied(alloc, Ok(Expr::Column(column)), " (Col { level: 1, item: 2, column: 3 })")?);
-    assert!(rt; is_copied(alloc, Ok(Expr::Param(2, Ty::Boolean)), " ($2 Boolean)")?);
-    assert!(rt; is_copied(alloc, Ok(Expr::CountRows), " (count(*))")?);
-    Ok(())
+    assert!(rt; is_copied(&rt, Expr::Int(-7), " (-7)"));
+    assert!(rt; is_copied(&rt, string(&rt), " ('a é')"));
+    assert!(rt; is_copied(&rt, Expr::Bool(true), " (true)"));
+    assert!(rt; is_copied(&rt, Expr::Null, " (null)"));
+    assert!(rt; is_copied(&rt, variable(&rt, "x"), " (x)"));
+    assert!(rt; is_copied(&rt, dotted(&rt), " (t.c)"));
+    assert!(rt; is_copied(&rt, Expr::Slot(3), " (slot 3)"));
+    assert!(rt; is_copied(&rt, Expr::Column(column), " (Col { level: 1, item: 2, column: 3 })"));
+    assert!(rt; is_copied(&rt, Expr::Param(2, Ty::Boolean), " ($2 Boolean)"));
+    assert!(rt; is_copied(&rt, Expr::CountRows, " (count(*))"));
 }
 
-fn negation(alloc: Global) -> Result<Expr, NoMemory> {
-    Ok(Expr::Neg(x(alloc)?))
+fn negation(rt: &(impl Abort + AllocGlobal)) -> Expr {
+    Expr::Neg(x(rt))
 }
 
-fn small_negation(alloc: Global) -> Result<Expr, NoMemory> {
-    Ok(Expr::NegSmall(x(alloc)?))
+fn small_negation(rt: &(impl Abort + AllocGlobal)) -> Expr {
+    Expr::NegSmall(x(rt))
 }
 
-fn not(alloc: Global) -> Result<Expr, NoMemory> {
-    Ok(Expr::Not(x(alloc)?))
+fn not(rt: &(impl Abort + AllocGlobal)) -> Expr {
+    Expr::Not(x(rt))
 }
 
-fn is_not_true(alloc: Global) -> Result<Expr, NoMemory> {
-    Ok(Expr::Is(x(alloc)?, IsTest::True, true))
+fn is_not_true(rt: &(impl Abort + AllocGlobal)) -> Expr {
+    Expr::Is(x(rt), IsTest::True, true)
 }
 
-fn cast(alloc: Global) -> Result<Expr, NoMemory> {
-    Ok(Expr::Cast(x(alloc)?, Ty::Text))
+fn cast(rt: &(impl Abort + AllocGlobal)) -> Expr {
+    Expr::Cast(x(rt), Ty::Text)
 }
 
 #[test]
-fn operators_of_one(rt: HostRuntime) -> Result<(), Fail> {
-    let alloc = rt.alloc();
-    assert!(rt; is_copied(alloc, negation(alloc), " (neg (x))")?);
-    assert!(rt; is_copied(alloc, small_negation(alloc), " (negsmall (x))")?);
-    assert!(rt; is_copied(alloc, not(alloc), " (not (x))")?);
-    assert!(rt; is_copied(alloc, is_not_true(alloc), " (is True true (x))")?);
-    assert!(rt; is_copied(alloc, cast(alloc), " (cast Text (x))")?);
-    Ok(())
+fn operators_of_one(rt: HostRuntime) {
+    assert!(rt; is_copied(&rt, negation(&rt), " (neg (x))"));
+    assert!(rt; is_copied(&rt, small_negation(&rt), " (negsmall (x))"));
+    assert!(rt; is_copied(&rt, not(&rt), " (not (x))"));
+    assert!(rt; is_copied(&rt, is_not_true(&rt), " (is True true (x))"));
+    assert!(rt; is_copied(&rt, cast(&rt), " (cast Text (x))"));
 }
 
-fn chain(alloc: Global) -> Result<Expr, NoMemory> {
+fn chain(rt: &(impl Abort + AllocGlobal)) -> Expr {
     let first = (ChainOp::Int(IntOp::Add), Expr::Int(2));
     let second = (ChainOp::Int(IntOp::Sub), Expr::Int(3));
-    Ok(Expr::Chain(x(alloc)?, two(alloc, first, second)?))
+    Expr::Chain(x(rt), two(rt, first, second))
 }
 
-fn comparison(alloc: Global) -> Result<Expr, NoMemory> {
-    Ok(Expr::Compare(CmpOp::Le, x(alloc)?, boxed(alloc, 1)?))
+fn comparison(rt: &(impl Abort + AllocGlobal)) -> Expr {
+    Expr::Compare(CmpOp::Le, x(rt), boxed(rt, Expr::Int(1)))
 }
 
-fn not_between(alloc: Global) -> Result<Expr, NoMemory> {
-    Ok(Expr::Between(true, x(alloc)?, boxed(alloc, 1)?, boxed(alloc, 2)?))
+fn not_between(rt: &(impl Abort + AllocGlobal)) -> Expr {
+    Expr::Between(true, x(rt), boxed(rt, Expr::Int(1)), boxed(rt, Expr::Int(2)))
 }
 
-fn one_of(alloc: Global) -> Result<Expr, NoMemory> {
-    Ok(Expr::OneOf(false, x(alloc)?, one_and_two(alloc)?))
+fn one_of(rt: &(impl Abort + AllocGlobal)) -> Expr {
+    Expr::OneOf(false, x(rt), one_and_two(rt))
 }
 
-fn call(alloc: Global) -> Result<Expr, NoMemory> {
-    Ok(Expr::Call(named(alloc, "least")?, one_and_two(alloc)?))
-}
-
-#[test]
-fn operators_of_several(rt: HostRuntime) -> Result<(), Fail> {
-    let alloc = rt.alloc();
-    assert!(rt; is_copied(alloc, chain(alloc), " (chain (x) Int(Add) (2) Int(Sub) (3))")?);
-    assert!(rt; is_copied(alloc, comparison(alloc), " (Le (x) (1))")?);
-    assert!(rt; is_copied(alloc, not_between(alloc), " (between true (x) (1) (2))")?);
-    assert!(rt; is_copied(alloc, one_of(alloc), " (in false (x) (1) (2))")?);
-    assert!(rt; is_copied(alloc, call(alloc), " (call least (1) (2))")?);
-    Ok(())
-}
-
-fn cases(alloc: Global) -> Result<Expr, NoMemory> {
-    let arms = two(alloc, (Expr::Bool(true), Expr::Int(1)), (Expr::Null, Expr::Int(2)))?;
-    Ok(Expr::Cases(arms, Some(x(alloc)?)))
-}
-
-fn cases_without_else(alloc: Global) -> Result<Expr, NoMemory> {
-    Ok(Expr::Cases(one(alloc, (Expr::Null, Expr::Int(1)))?, None))
-}
-
-fn inner(alloc: Global) -> Result<Boxed<Query>, NoMemory> {
-    let select = simple(alloc, Expr::Int(3), "t", "u", None)?;
-    Ok(Boxed::new(alloc, whole(alloc, select)?)?)
-}
-
-fn exists(alloc: Global) -> Result<Expr, NoMemory> {
-    Ok(Expr::Exists(inner(alloc)?))
-}
-
-fn scalar(alloc: Global) -> Result<Expr, NoMemory> {
-    Ok(Expr::Scalar(inner(alloc)?))
+fn call(rt: &(impl Abort + AllocGlobal)) -> Expr {
+    Expr::Call(named(rt, "least"), one_and_two(rt))
 }
 
 #[test]
-fn cases_and_subqueries(rt: HostRuntime) -> Result<(), Fail> {
-    let alloc = rt.alloc();
+fn operators_of_several(rt: HostRuntime) {
+    assert!(rt; is_copied(&rt, chain(&rt), " (chain (x) Int(Add) (2) Int(Sub) (3))"));
+    assert!(rt; is_copied(&rt, comparison(&rt), " (Le (x) (1))"));
+    assert!(rt; is_copied(&rt, not_between(&rt), " (between true (x) (1) (2))"));
+    assert!(rt; is_copied(&rt, one_of(&rt), " (in false (x) (1) (2))"));
+    assert!(rt; is_copied(&rt, call(&rt), " (call least (1) (2))"));
+}
+
+fn cases(rt: &(impl Abort + AllocGlobal)) -> Expr {
+    let arms = two(rt, (Expr::Bool(true), Expr::Int(1)), (Expr::Null, Expr::Int(2)));
+    Expr::Cases(arms, Some(x(rt)))
+}
+
+fn cases_without_else(rt: &(impl Abort + AllocGlobal)) -> Expr {
+    Expr::Cases(one(rt, (Expr::Null, Expr::Int(1))), None)
+}
+
+fn inner(rt: &(impl Abort + AllocGlobal)) -> Boxed<Query> {
+    let select = simple(rt, Expr::Int(3), "t", "u", None);
+    boxed(rt, whole(rt, select))
+}
+
+fn exists(rt: &(impl Abort + AllocGlobal)) -> Expr {
+    Expr::Exists(inner(rt))
+}
+
+fn scalar(rt: &(impl Abort + AllocGlobal)) -> Expr {
+    Expr::Scalar(inner(rt))
+}
+
+#[test]
+fn cases_and_subqueries(rt: HostRuntime) {
     let exists_text = " (exists < - { (3) - from t u [ ] where - order limit - } >)";
     let scalar_text = " (scalar < - { (3) - from t u [ ] where - order limit - } >)";
-    assert!(rt; is_copied(alloc, cases(alloc), " (case (true) (1) (null) (2) (x))")?);
-    assert!(rt; is_copied(alloc, cases_without_else(alloc), " (case (null) (1) -)")?);
-    assert!(rt; is_copied(alloc, exists(alloc), exists_text)?);
-    assert!(rt; is_copied(alloc, scalar(alloc), scalar_text)?);
-    Ok(())
+    assert!(rt; is_copied(&rt, cases(&rt), " (case (true) (1) (null) (2) (x))"));
+    assert!(rt; is_copied(&rt, cases_without_else(&rt), " (case (null) (1) -)"));
+    assert!(rt; is_copied(&rt, exists(&rt), exists_text));
+    assert!(rt; is_copied(&rt, scalar(&rt), scalar_text));
 }
 
-fn columns(alloc: Global) -> Result<Items<Name>, NoMemory> {
-    let first = named(alloc, "a")?;
-    Ok(two(alloc, first, named(alloc, "b")?)?)
+fn columns(rt: &(impl Abort + AllocGlobal)) -> Items<Name> {
+    let first = named(rt, "a");
+    two(rt, first, named(rt, "b"))
 }
 
 /// w(a, b) AS (SELECT 1 FROM t AS t UNION ALL SELECT 2 FROM w AS w WHERE TRUE)
-fn recursive(alloc: Global) -> Result<Recursive, NoMemory> {
-    let first = simple(alloc, Expr::Int(1), "t", "t", None)?;
-    Ok(Recursive {
-        name: named(alloc, "w")?,
-        columns: columns(alloc)?,
-        first: one(alloc, first)?,
-        second: simple(alloc, Expr::Int(2), "w", "w", Some(Expr::Bool(true)))?,
-    })
+fn recursive(rt: &(impl Abort + AllocGlobal)) -> Recursive {
+    let first = simple(rt, Expr::Int(1), "t", "t", None);
+    Recursive {
+        name: named(rt, "w"),
+        columns: columns(rt),
+        first: one(rt, first),
+        second: simple(rt, Expr::Int(2), "w", "w", Some(Expr::Bool(true))),
+    }
 }
 
-fn lateral(alloc: Global) -> Result<Items<FromItem>, NoMemory> {
+fn lateral(rt: &(impl Abort + AllocGlobal)) -> Items<FromItem> {
     let item = FromItem {
-        source: Source::Sub(inner(alloc)?, true),
-        alias: named(alloc, "s")?,
-        columns: columns(alloc)?,
+        source: Source::Sub(inner(rt), true),
+        alias: named(rt, "s"),
+        columns: columns(rt),
     };
-    Ok(one(alloc, item)?)
+    one(rt, item)
 }
 
-fn list(alloc: Global) -> Result<Items<Item>, NoMemory> {
+fn list(rt: &(impl Abort + AllocGlobal)) -> Items<Item> {
     let item = Item {
         expr: Expr::Slot(0),
-        alias: Some(named(alloc, "y")?),
+        alias: Some(named(rt, "y")),
     };
-    Ok(one(alloc, item)?)
+    one(rt, item)
 }
 
-fn order(alloc: Global) -> Result<Items<Key>, NoMemory> {
+fn order(rt: &(impl Abort + AllocGlobal)) -> Items<Key> {
     let key = Key {
-        expr: variable(alloc, "x")?,
+        expr: variable(rt, "x"),
         descending: true,
     };
-    Ok(one(alloc, key)?)
+    one(rt, key)
 }
 
-fn full_select(alloc: Global) -> Result<Select, NoMemory> {
-    Ok(Select {
-        list: list(alloc)?,
-        from: lateral(alloc)?,
+fn full_select(rt: &(impl Abort + AllocGlobal)) -> Select {
+    Select {
+        list: list(rt),
+        from: lateral(rt),
         filter: Some(Expr::Null),
-        order: order(alloc)?,
+        order: order(rt),
         limit: Some(Expr::Int(5)),
-    })
+    }
 }
 
-fn full_query(alloc: Global) -> Result<Query, NoMemory> {
-    let first = full_select(alloc)?;
-    let second = simple(alloc, Expr::Int(4), "w", "w", None)?;
-    Ok(Query {
-        recursive: Some(recursive(alloc)?),
-        selects: two(alloc, first, second)?,
-    })
+fn full_query(rt: &(impl Abort + AllocGlobal)) -> Query {
+    let first = full_select(rt);
+    let second = simple(rt, Expr::Int(4), "w", "w", None);
+    Query {
+        recursive: Some(recursive(rt)),
+        selects: two(rt, first, second),
+    }
 }
 
 #[test]
-fn a_whole_query(rt: HostRuntime) -> Result<(), Fail> {
-    let alloc = rt.alloc();
-    let query = full_query(alloc)?;
-    let copy = query.copy(alloc)?;
-    let mut text = String::new(alloc);
-    spelled::query(&copy, &mut text, alloc)?;
+fn a_whole_query(rt: HostRuntime) {
+    let query = full_query(&rt);
+    let copy = query.copy(rt.alloc()).expect(&rt, "memory");
+    let mut text = String::new(rt.alloc());
+    spelled::query(&copy, &mut text, rt.alloc()).expect(&rt, "memory");
     assert_eq!(rt;
         text.as_str(),
         " < w [ a b ] { (1) - from t t [ ] where - order limit - } then { (2) - from w w [ ] where (true) order limit - } { (slot 0) y from < - { (3) - from t u [ ] where - order limit - } > yes s [ a b ] where (null) order (x) yes limit (5) } { (4) - from w w [ ] where - order limit - } >"
     );
-    Ok(())
 }
 
 /// 0 + 0 + 1 + 2 + .. with 100,000 links.
-fn long_chain(alloc: Global) -> Result<Expr, NoMemory> {
-    let mut links = Items::new(alloc);
+fn long_chain(rt: &(impl Abort + AllocGlobal)) -> Expr {
+    let mut links = Items::new(rt.alloc());
     for i in 0..100_000 {
-        links.push((ChainOp::Int(IntOp::Add), Expr::Int(i)))?;
+        links.push((ChainOp::Int(IntOp::Add), Expr::Int(i))).expect(rt, "memory");
     }
-    Ok(Expr::Chain(boxed(alloc, 0)?, links))
+    Expr::Chain(boxed(rt, Expr::Int(0)), links)
 }
 
 /// How many links of a chain have their place as their number.
@@ -250,28 +238,25 @@ fn rising_links(e: &Expr) -> u32 {
 }
 
 #[test]
-fn a_long_chain(rt: HostRuntime) -> Result<(), Fail> {
-    let chain = long_chain(rt.alloc())?;
-    let copy = chain.copy(rt.alloc())?;
+fn a_long_chain(rt: HostRuntime) {
+    let chain = long_chain(&rt);
+    let copy = chain.copy(rt.alloc()).expect(&rt, "memory");
     assert_eq!(rt; rising_links(&copy), 100_000);
-    Ok(())
 }
 
-fn deep_tree(alloc: Global) -> Result<Expr, NoMemory> {
+fn deep_tree(rt: &(impl Abort + AllocGlobal)) -> Expr {
     let mut tree = Expr::Int(1);
     for _ in 0..250 {
-        tree = Expr::Neg(Boxed::new(alloc, tree)?);
+        tree = Expr::Neg(boxed(rt, tree));
     }
-    Ok(tree)
+    tree
 }
 
 #[test]
-fn a_deep_tree(rt: HostRuntime) -> Result<(), Fail> {
-    let alloc = rt.alloc();
-    let tree = deep_tree(alloc)?;
-    let mut text = String::new(alloc);
-    spelled::expr(&tree, &mut text, alloc)?;
-    assert_eq!(rt; text.len(), 1504);
-    assert!(rt; is_copied(alloc, Ok(tree), text.as_str())?);
-    Ok(())
+fn a_deep_tree(rt: HostRuntime) {
+    let copy = deep_tree(&rt).copy(rt.alloc()).expect(&rt, "memory");
+    let mut text = String::new(rt.alloc());
+    spelled::expr(&copy, &mut text, rt.alloc()).expect(&rt, "memory");
+    // " (neg" and ")" for each, and " (1)"
+    assert_eq!(rt; text.len(), 250 * 6 + 4);
 }

@@ -1,8 +1,8 @@
 use super::made::{named, one, two, worded};
-use crate::{Answer, Class, ColumnSchema, NoMemory, Schema, Table, TableSchema, Tables, Ty, Value};
+use crate::{Answer, Class, ColumnSchema, Schema, Table, TableSchema, Tables, Ty, Value};
 use sqlite_items::Items;
 use std::alloc::{AllocError, Global};
-use std::test::Fail;
+use std::process::Abort;
 
 fn put_value(value: &Value, out: &mut String, alloc: Global) -> Result<(), AllocError> {
     match value {
@@ -21,43 +21,40 @@ fn put_value(value: &Value, out: &mut String, alloc: Global) -> Result<(), Alloc
 }
 
 /// Whether the copy of the value has this text.
-fn is_copied(alloc: Global, made: Result<Value, NoMemory>, text: &str) -> Result<bool, NoMemory> {
-    let value = made?;
-    let copy = value.copy(alloc)?;
-    let mut out = String::new(alloc);
-    put_value(&copy, &mut out, alloc)?;
-    Ok(out.as_str() == text)
+fn is_copied(rt: &(impl Abort + AllocGlobal), value: Value, text: &str) -> bool {
+    let copy = value.copy(rt.alloc()).expect(rt, "memory");
+    let mut out = String::new(rt.alloc());
+    put_value(&copy, &mut out, rt.alloc()).expect(rt, "memory");
+    out.as_str() == text
 }
 
-fn text(alloc: Global, text: &str) -> Result<Value, NoMemory> {
-    Ok(Value::Text(worded(alloc, text)?))
+fn text(rt: &(impl Abort + AllocGlobal), text: &str) -> Value {
+    Value::Text(worded(rt, text))
 }
 
 #[test]
-fn values(rt: HostRuntime) -> Result<(), Fail> {
-    let alloc = rt.alloc();
-    assert!(rt; is_copied(alloc, Ok(Value::Null), " null")?);
-    assert!(rt; is_copied(alloc, Ok(Value::Int(-9)), " -9")?);
-    assert!(rt; is_copied(alloc, Ok(Value::Bool(false)), " false")?);
-    assert!(rt; is_copied(alloc, text(alloc, "héllo"), " héllo")?);
-    Ok(())
+fn values(rt: HostRuntime) {
+    assert!(rt; is_copied(&rt, Value::Null, " null"));
+    assert!(rt; is_copied(&rt, Value::Int(-9), " -9"));
+    assert!(rt; is_copied(&rt, Value::Bool(false), " false"));
+    assert!(rt; is_copied(&rt, text(&rt, "héllo"), " héllo"));
 }
 
-fn full_table(alloc: Global) -> Result<Table, NoMemory> {
-    let first = two(alloc, Value::Int(1), text(alloc, "one")?)?;
-    let second = two(alloc, Value::Int(2), Value::Null)?;
-    Ok(Table {
-        rows: two(alloc, first, second)?,
-    })
+fn full_table(rt: &(impl Abort + AllocGlobal)) -> Table {
+    let first = two(rt, Value::Int(1), text(rt, "one"));
+    let second = two(rt, Value::Int(2), Value::Null);
+    Table {
+        rows: two(rt, first, second),
+    }
 }
 
-fn made_tables(alloc: Global) -> Result<Tables, NoMemory> {
+fn made_tables(rt: &(impl Abort + AllocGlobal)) -> Tables {
     let empty = Table {
-        rows: Items::new(alloc),
+        rows: Items::new(rt.alloc()),
     };
-    Ok(Tables {
-        list: two(alloc, full_table(alloc)?, empty)?,
-    })
+    Tables {
+        list: two(rt, full_table(rt), empty),
+    }
 }
 
 fn put_tables(tables: &Tables, out: &mut String, alloc: Global) -> Result<(), AllocError> {
@@ -74,54 +71,50 @@ fn put_tables(tables: &Tables, out: &mut String, alloc: Global) -> Result<(), Al
 }
 
 #[test]
-fn tables(rt: HostRuntime) -> Result<(), Fail> {
-    let alloc = rt.alloc();
-    let tables = made_tables(alloc)?;
-    let copy = tables.copy(alloc)?;
-    let mut out = String::new(alloc);
-    put_tables(&copy, &mut out, alloc)?;
+fn tables(rt: HostRuntime) {
+    let copy = made_tables(&rt).copy(rt.alloc()).expect(&rt, "memory");
+    let mut out = String::new(rt.alloc());
+    put_tables(&copy, &mut out, rt.alloc()).expect(&rt, "memory");
     assert_eq!(rt; out.as_str(), " table 1 one; 2 null; table");
-    Ok(())
 }
 
 #[test]
-fn answers(rt: HostRuntime) -> Result<(), Fail> {
+fn answers(rt: HostRuntime) {
     let class = Class {
         code: *b"22012",
     };
-    let value = Answer::Value(Value::Int(5)).copy(rt.alloc())?;
+    let value = Answer::Value(Value::Int(5)).copy(rt.alloc()).expect(&rt, "memory");
     assert!(rt; matches!(value, Answer::Value(Value::Int(5))));
-    let fault = Answer::Fault(class).copy(rt.alloc())?;
+    let fault = Answer::Fault(class).copy(rt.alloc()).expect(&rt, "memory");
     assert!(rt; matches!(fault, Answer::Fault(found) if found == class));
-    let more = Answer::More.copy(rt.alloc())?;
+    let more = Answer::More.copy(rt.alloc()).expect(&rt, "memory");
     assert!(rt; matches!(more, Answer::More));
-    let shape = Answer::Shape(3).copy(rt.alloc())?;
+    let shape = Answer::Shape(3).copy(rt.alloc()).expect(&rt, "memory");
     assert!(rt; matches!(shape, Answer::Shape(3)));
-    Ok(())
 }
 
-fn column(alloc: Global, text: &str, ty: Ty, not_null: bool) -> Result<ColumnSchema, NoMemory> {
-    Ok(ColumnSchema {
-        name: named(alloc, text)?,
+fn column(rt: &(impl Abort + AllocGlobal), text: &str, ty: Ty, not_null: bool) -> ColumnSchema {
+    ColumnSchema {
+        name: named(rt, text),
         ty,
         not_null,
-    })
+    }
 }
 
-fn table_schema(alloc: Global) -> Result<TableSchema, NoMemory> {
-    let first = column(alloc, "k", Ty::Bigint, true)?;
-    let second = column(alloc, "v", Ty::Text, false)?;
-    Ok(TableSchema {
-        name: named(alloc, "t")?,
-        columns: two(alloc, first, second)?,
-    })
+fn table_schema(rt: &(impl Abort + AllocGlobal)) -> TableSchema {
+    let first = column(rt, "k", Ty::Bigint, true);
+    let second = column(rt, "v", Ty::Text, false);
+    TableSchema {
+        name: named(rt, "t"),
+        columns: two(rt, first, second),
+    }
 }
 
-fn schema(alloc: Global) -> Result<Schema, NoMemory> {
-    let table = table_schema(alloc)?;
-    Ok(Schema {
-        tables: one(alloc, table)?,
-    })
+fn schema(rt: &(impl Abort + AllocGlobal)) -> Schema {
+    let table = table_schema(rt);
+    Schema {
+        tables: one(rt, table),
+    }
 }
 
 fn put_table_schema(table: &TableSchema, out: &mut String, alloc: Global) -> Result<(), AllocError> {
@@ -137,14 +130,11 @@ fn put_table_schema(table: &TableSchema, out: &mut String, alloc: Global) -> Res
 }
 
 #[test]
-fn schemas(rt: HostRuntime) -> Result<(), Fail> {
-    let alloc = rt.alloc();
-    let schema = schema(alloc)?;
-    let copy = schema.copy(alloc)?;
-    let mut out = String::new(alloc);
+fn schemas(rt: HostRuntime) {
+    let copy = schema(&rt).copy(rt.alloc()).expect(&rt, "memory");
+    let mut out = String::new(rt.alloc());
     for table in copy.tables.as_slice() {
-        put_table_schema(table, &mut out, alloc)?;
+        put_table_schema(table, &mut out, rt.alloc()).expect(&rt, "memory");
     }
     assert_eq!(rt; out.as_str(), "t k Bigint true v Text false");
-    Ok(())
 }
