@@ -13,7 +13,6 @@ use Rattle.away_core.specs.StatementAlgebra.{stmt_of, branch_of}
 use Rattle.away_core.specs.Count.{counting, nodes_of, nodes_of_arm, nodes_of_else}
 use Rattle.away_core.proofs.StatementEquations.{of_block, of_loop, of_if, of_cases}
 
-
 body_sum : (body : List Stmt) → sum (map (λ s. stmt_of counting s) body) ≡ sum_by nodes_of body
 unfolding nodes_of
 body_sum body = sum-map (λ s. stmt_of counting s) body

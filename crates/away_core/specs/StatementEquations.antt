@@ -22,20 +22,20 @@ statement_algebra {AStmt} {AnArm} s = record { AStmt = AStmt; AnArm = AnArm; stm
 
 pub record StatementEquations (a : StatementAlgebra) : Type 0 where
   pub block : (label : Option (List ℕ)) (decls : List Decl) (body : List Stmt) (closing : Option (List ℕ)) →
-    stmt_of a (stmt.Block label decls body closing) ≡ a.stmt (st.Block label decls (map (λ s. stmt_of a s) body) closing)
+      stmt_of a (stmt.Block label decls body closing) ≡ a.stmt (st.Block label decls (map (λ s. stmt_of a s) body) closing)
   pub assign : (name : List ℕ) (slot : Option ℕ) (e : Expr) → stmt_of a (stmt.Assign name slot e) ≡ a.stmt (st.Assign name slot e)
   pub if_ : (arms : List Arm) (other : Option (List Stmt)) →
-    stmt_of a (stmt.If arms other) ≡ a.stmt (st.If (map (λ x. branch_of a x) arms) (option_map (λ body. map (λ s. stmt_of a s) body) other))
+      stmt_of a (stmt.If arms other) ≡ a.stmt (st.If (map (λ x. branch_of a x) arms) (option_map (λ body. map (λ s. stmt_of a s) body) other))
   pub cases : (arms : List Arm) (other : Option (List Stmt)) →
-    stmt_of a (stmt.Cases arms other) ≡ a.stmt (st.Cases (map (λ x. branch_of a x) arms) (option_map (λ body. map (λ s. stmt_of a s) body) other))
+      stmt_of a (stmt.Cases arms other) ≡ a.stmt (st.Cases (map (λ x. branch_of a x) arms) (option_map (λ body. map (λ s. stmt_of a s) body) other))
   pub loop : (label : Option (List ℕ)) (kind : LoopKind) (body : List Stmt) (closing : Option (List ℕ)) →
-    stmt_of a (stmt.Loop label kind body closing) ≡ a.stmt (st.Loop label kind (map (λ s. stmt_of a s) body) closing)
+      stmt_of a (stmt.Loop label kind body closing) ≡ a.stmt (st.Loop label kind (map (λ s. stmt_of a s) body) closing)
   pub exit : (label : Option (List ℕ)) (when : Option Expr) → stmt_of a (stmt.Exit label when) ≡ a.stmt (st.Exit label when)
   pub continue : (label : Option (List ℕ)) (when : Option Expr) → stmt_of a (stmt.Continue label when) ≡ a.stmt (st.Continue label when)
   pub return : (e : Expr) → stmt_of a (stmt.Return e) ≡ a.stmt (st.Return e)
   pub raise : (raised : Raised) → stmt_of a (stmt.Raise raised) ≡ a.stmt (st.Raise raised)
   pub into : (strict : Bool) (targets : List (List ℕ × Option ℕ)) (query : Select) →
-    stmt_of a (stmt.Into strict targets query) ≡ a.stmt (st.Into strict targets query)
+      stmt_of a (stmt.Into strict targets query) ≡ a.stmt (st.Into strict targets query)
   pub nothing : stmt_of a stmt.Nothing ≡ a.stmt st.Nothing
   -- an arm's value in a list of arms is the step over its test and the values of its statements
   pub arm : (test : Expr) (body : List Stmt) → branch_of a (record { test = test; body = body }) ≡ a.arm (record { test = test; body = map (λ s. stmt_of a s) body })

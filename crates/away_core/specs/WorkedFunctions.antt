@@ -1,5 +1,5 @@
 -- Two functions as trees, for worked examples.
-use Rattle.std.specs.Prelude.{ℕ, List, [], ◌∷◌, Option, Some, None, codes, pos, true, false}
+use Rattle.std.specs.Prelude.{ℕ, List, [], ◌∷◌, Some, None, codes, pos, false}
 use Rattle.away_core.specs.declared.operators.ChainOp.TheVariants as chain
 use Rattle.away_core.specs.declared.operators.IntOp.{IntOp}
 use Rattle.away_core.specs.declared.operators.IntOp.TheVariants as int
@@ -38,8 +38,8 @@ assign name e = stmt.Assign name None e
 --   END;
 abbrev halved_or_tripled : Stmt
 halved_or_tripled = stmt.If
-  (record { test = expr.Compare cmp.Eq (arithmetic int.Rem n (literal 2)) (literal 0); body = assign (codes "n") (arithmetic int.Div n (literal 2)) ∷ [] } ∷ [])
-  (Some (assign (codes "n") (arithmetic int.Add (arithmetic int.Mul (literal 3) n) (literal 1)) ∷ []))
+    (record { test = expr.Compare cmp.Eq (arithmetic int.Rem n (literal 2)) (literal 0); body = assign (codes "n") (arithmetic int.Div n (literal 2)) ∷ [] } ∷ [])
+    (Some (assign (codes "n") (arithmetic int.Add (arithmetic int.Mul (literal 3) n) (literal 1)) ∷ []))
 
 abbrev one_step_more : Stmt
 one_step_more = assign (codes "steps") (arithmetic int.Add (expr.Named (codes "steps")) (literal 1))
@@ -51,10 +51,10 @@ collatz = record {
   params = (codes "n", ty.Bigint) ∷ [];
   result = ty.Bigint;
   body = stmt.Block None
-    (record { name = codes "steps"; ty = ty.Bigint; constant = false; not_null = false; default = Some (literal 0) } ∷ [])
-    (stmt.Loop None (kind.While (expr.Compare cmp.Ne n (literal 1))) (halved_or_tripled ∷ one_step_more ∷ []) None
+      (record { name = codes "steps"; ty = ty.Bigint; constant = false; not_null = false; default = Some (literal 0) } ∷ [])
+      (stmt.Loop None (kind.While (expr.Compare cmp.Ne n (literal 1))) (halved_or_tripled ∷ one_step_more ∷ []) None
       ∷ stmt.Return (expr.Named (codes "steps")) ∷ [])
-    None;
+      None;
 }
 
 -- walk(lim bigint) RETURNS bigint
@@ -87,9 +87,9 @@ dearest = roll-Query (record {
 
 abbrev inner_loop : Stmt
 inner_loop = stmt.Loop None (kind.Count (codes "d") false (literal 0) (literal 9) None)
-  (assign (codes "total") (arithmetic int.Add total (expr.Call (codes "coalesce") (expr.Named (codes "best") ∷ literal 0 ∷ [])))
+    (assign (codes "total") (arithmetic int.Add total (expr.Call (codes "coalesce") (expr.Named (codes "best") ∷ literal 0 ∷ [])))
     ∷ stmt.Exit (Some (codes "outer_loop")) (Some (expr.Compare cmp.Gt total (expr.Named (codes "lim")))) ∷ [])
-  None
+    None
 
 abbrev pub walk : Function
 walk = record {
@@ -98,10 +98,10 @@ walk = record {
   params = (codes "lim", ty.Bigint) ∷ [];
   result = ty.Bigint;
   body = stmt.Block None
-    (record { name = codes "best"; ty = ty.Bigint; constant = false; not_null = false; default = None }
+      (record { name = codes "best"; ty = ty.Bigint; constant = false; not_null = false; default = None }
       ∷ record { name = codes "total"; ty = ty.Bigint; constant = false; not_null = false; default = Some (literal 0) } ∷ [])
-    (stmt.Loop (Some (codes "outer_loop")) (kind.Count (codes "s") false (literal 0) (literal 99) None)
+      (stmt.Loop (Some (codes "outer_loop")) (kind.Count (codes "s") false (literal 0) (literal 99) None)
       (assign (codes "best") (expr.Scalar dearest) ∷ inner_loop ∷ []) None
       ∷ stmt.Return total ∷ [])
-    None;
+      None;
 }

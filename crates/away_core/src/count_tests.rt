@@ -3,7 +3,9 @@
 ghost use Rattle.std.specs.Prelude.{◌≡◌, ◌+◌, sum_by};
 ghost use Rattle.away_core.specs.Count as spec;
 
-use crate::copy_tests::made::{arithmetic, boxed, comparison, named, one, simple, two, variable, whole};
+use crate::copy_tests::made::{
+    arithmetic, boxed, comparison, named, one, simple, two, variable, whole,
+};
 use crate::{Arm, CmpOp, Decl, Expr, Function, IntOp, LoopKind, Stmt, Ty, nodes, weight};
 use sqlite_items::Items;
 use std::process::Abort;
@@ -30,7 +32,11 @@ fn decl(rt: &(impl Abort + AllocGlobal), text: &str, default: Option<Expr>) -> D
 fn halved(rt: &(impl Abort + AllocGlobal)) -> Stmt
     ensures { spec.nodes_of result ≡ 1 }
 {
-    assignment(rt, "n", arithmetic(rt, IntOp::Div, variable(rt, "n"), Expr::Int(2)))
+    assignment(
+        rt,
+        "n",
+        arithmetic(rt, IntOp::Div, variable(rt, "n"), Expr::Int(2)),
+    )
 }
 
 /// n := 3 * n + 1
@@ -137,7 +143,10 @@ fn counted_to(rt: &(impl Abort + AllocGlobal), text: &str, last: i64, body: Item
 fn inner_loop(rt: &(impl Abort + AllocGlobal)) -> Stmt
     ensures { spec.nodes_of result ≡ 3 }
 {
-    let best = Expr::Call(named(rt, "coalesce"), two(rt, variable(rt, "best"), Expr::Int(0)));
+    let best = Expr::Call(
+        named(rt, "coalesce"),
+        two(rt, variable(rt, "best"), Expr::Int(0)),
+    );
     let more = arithmetic(rt, IntOp::Add, variable(rt, "total"), best);
     let added = assignment(rt, "total", more);
     let enough = comparison(rt, CmpOp::Gt, variable(rt, "total"), variable(rt, "lim"));
@@ -158,7 +167,11 @@ fn walk(rt: &(impl Abort + AllocGlobal)) -> Function
         result: Ty::Bigint,
         body: Stmt::Block {
             label: None,
-            decls: two(rt, decl(rt, "best", None), decl(rt, "total", Some(Expr::Int(0)))),
+            decls: two(
+                rt,
+                decl(rt, "best", None),
+                decl(rt, "total", Some(Expr::Int(0))),
+            ),
             body: two(rt, outer_loop, total),
             closing: None,
         },

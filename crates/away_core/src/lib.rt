@@ -31,7 +31,10 @@ pub use queries::{Col, Expr, FromItem, Item, Key, Query, Recursive, Select, Sour
 pub use schemas::{ColumnSchema, Schema, TableSchema};
 pub use statements::{Arm, Decl, Function, LoopKind, Raised, Stmt};
 pub use texts::text_op;
-pub use tree_laws::{literals_of_a_query_compute, nodes_of_worked_functions, queries_go_by_their_parts, statements_go_by_their_parts};
+pub use tree_laws::{
+    literals_of_a_query_compute, nodes_of_worked_functions, queries_go_by_their_parts,
+    statements_go_by_their_parts,
+};
 pub use types::Ty;
 pub use values::{Answer, Class, Table, Tables, Value};
 pub use words::{Name, Word};

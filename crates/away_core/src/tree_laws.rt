@@ -15,7 +15,16 @@ pub fn literals_of_a_query_compute()
 {}
 
 /// At each kind of node of a query the recursion is the step of that kind over what it gives at the parts.
-pub fn queries_go_by_their_parts<AnExpr, ASource, AFrom, AnItem, AKey, AQuery, ARecursive, ASelect>()
+pub fn queries_go_by_their_parts<
+    AnExpr,
+    ASource,
+    AFrom,
+    AnItem,
+    AKey,
+    AQuery,
+    ARecursive,
+    ASelect,
+>()
     ensures { (s : Steps AnExpr ASource AFrom AnItem AKey AQuery ARecursive ASelect) → Equations (algebra s) }
 {}
 

@@ -2,7 +2,9 @@
 
 ghost use Rattle.std.specs.Prelude.{◌≡◌, [], ◌∷◌};
 
-use crate::{ChainOp, CmpOp, Expr, FromItem, IntOp, Item, Name, Query, Select, Source, Word, name, word};
+use crate::{
+    ChainOp, CmpOp, Expr, FromItem, IntOp, Item, Name, Query, Select, Source, Word, name, word,
+};
 use sqlite_items::{Boxed, Items};
 use std::process::Abort;
 
@@ -42,16 +44,32 @@ pub(crate) fn boxed<T: Drop>(rt: &(impl Abort + AllocGlobal), value: T) -> Boxed
 }
 
 /// Arithmetic on two expressions.
-pub(crate) fn arithmetic(rt: &(impl Abort + AllocGlobal), op: IntOp, left: Expr, right: Expr) -> Expr {
+pub(crate) fn arithmetic(
+    rt: &(impl Abort + AllocGlobal),
+    op: IntOp,
+    left: Expr,
+    right: Expr,
+) -> Expr {
     Expr::Chain(boxed(rt, left), one(rt, (ChainOp::Int(op), right)))
 }
 
-pub(crate) fn comparison(rt: &(impl Abort + AllocGlobal), op: CmpOp, left: Expr, right: Expr) -> Expr {
+pub(crate) fn comparison(
+    rt: &(impl Abort + AllocGlobal),
+    op: CmpOp,
+    left: Expr,
+    right: Expr,
+) -> Expr {
     Expr::Compare(op, boxed(rt, left), boxed(rt, right))
 }
 
 /// SELECT of the expression FROM the table under an alias.
-pub(crate) fn simple(rt: &(impl Abort + AllocGlobal), expr: Expr, table: &str, alias: &str, filter: Option<Expr>) -> Select {
+pub(crate) fn simple(
+    rt: &(impl Abort + AllocGlobal),
+    expr: Expr,
+    table: &str,
+    alias: &str,
+    filter: Option<Expr>,
+) -> Select {
     let from = FromItem {
         source: Source::Table(named(rt, table)),
         alias: named(rt, alias),

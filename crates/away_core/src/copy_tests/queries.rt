@@ -1,6 +1,9 @@
-use super::made::{boxed, one, simple, two, variable, whole, named, worded};
+use super::made::{boxed, named, one, simple, two, variable, whole, worded};
 use super::spelled;
-use crate::{ChainOp, CmpOp, Col, Expr, FromItem, IntOp, IsTest, Item, Key, Name, Query, Recursive, Select, Source, Ty};
+use crate::{
+    ChainOp, CmpOp, Col, Expr, FromItem, IntOp, IsTest, Item, Key, Name, Query, Recursive, Select,
+    Source, Ty,
+};
 use sqlite_items::{Boxed, Items};
 use std::process::Abort;
 
@@ -42,7 +45,13 @@ fn leaves(rt: HostRuntime) {
     assert!(rt; is_copied(&rt, variable(&rt, "x"), " (x)"));
     assert!(rt; is_copied(&rt, dotted(&rt), " (t.c)"));
     assert!(rt; is_copied(&rt, Expr::Slot(3), " (slot 3)"));
-    assert!(rt; is_copied(&rt, Expr::Column(column), " (Col { level: 1, item: 2, column: 3 })"));
+    assert!(rt;
+        is_copied(
+            &rt,
+            Expr::Column(column),
+            " (Col { level: 1, item: 2, column: 3 })"
+        )
+    );
     assert!(rt; is_copied(&rt, Expr::Param(2, Ty::Boolean), " ($2 Boolean)"));
     assert!(rt; is_copied(&rt, Expr::CountRows, " (count(*))"));
 }
@@ -87,7 +96,12 @@ fn comparison(rt: &(impl Abort + AllocGlobal)) -> Expr {
 }
 
 fn not_between(rt: &(impl Abort + AllocGlobal)) -> Expr {
-    Expr::Between(true, x(rt), boxed(rt, Expr::Int(1)), boxed(rt, Expr::Int(2)))
+    Expr::Between(
+        true,
+        x(rt),
+        boxed(rt, Expr::Int(1)),
+        boxed(rt, Expr::Int(2)),
+    )
 }
 
 fn one_of(rt: &(impl Abort + AllocGlobal)) -> Expr {
@@ -108,7 +122,11 @@ fn operators_of_several(rt: HostRuntime) {
 }
 
 fn cases(rt: &(impl Abort + AllocGlobal)) -> Expr {
-    let arms = two(rt, (Expr::Bool(true), Expr::Int(1)), (Expr::Null, Expr::Int(2)));
+    let arms = two(
+        rt,
+        (Expr::Bool(true), Expr::Int(1)),
+        (Expr::Null, Expr::Int(2)),
+    );
     Expr::Cases(arms, Some(x(rt)))
 }
 
@@ -215,7 +233,9 @@ fn a_whole_query(rt: HostRuntime) {
 fn long_chain(rt: &(impl Abort + AllocGlobal)) -> Expr {
     let mut links = Items::new(rt.alloc());
     for i in 0..100_000 {
-        links.push((ChainOp::Int(IntOp::Add), Expr::Int(i))).expect(rt, "memory");
+        links
+            .push((ChainOp::Int(IntOp::Add), Expr::Int(i)))
+            .expect(rt, "memory");
     }
     Expr::Chain(boxed(rt, Expr::Int(0)), links)
 }

@@ -1,6 +1,9 @@
 //! The text of a tree, with each of its parts in order, so that a test can compare a tree with what is written out.
 
-use crate::{Arm, Decl, Expr, FromItem, Function, Item, Key, LoopKind, Name, Query, Raised, Select, Source, Stmt};
+use crate::{
+    Arm, Decl, Expr, FromItem, Function, Item, Key, LoopKind, Name, Query, Raised, Select, Source,
+    Stmt,
+};
 use sqlite_items::Items;
 use std::alloc::{AllocError, Global};
 
@@ -135,7 +138,11 @@ fn exprs(list: &[Expr], out: &mut String, alloc: Global) -> Result<(), AllocErro
 }
 
 #[cycle(spell)]
-pub(crate) fn option_of_expr(e: &Option<Expr>, out: &mut String, alloc: Global) -> Result<(), AllocError> {
+pub(crate) fn option_of_expr(
+    e: &Option<Expr>,
+    out: &mut String,
+    alloc: Global,
+) -> Result<(), AllocError> {
     match e {
         None => out.push_str(" -"),
         Some(e) => expr(e, out, alloc),
@@ -266,7 +273,12 @@ fn raised(raised: &Raised, out: &mut String) -> Result<(), AllocError> {
     }
 }
 
-fn target(name: &Name, slot: Option<u32>, out: &mut String, alloc: Global) -> Result<(), AllocError> {
+fn target(
+    name: &Name,
+    slot: Option<u32>,
+    out: &mut String,
+    alloc: Global,
+) -> Result<(), AllocError> {
     let name = name.text();
     let text = format!(in alloc; " {name} {slot:?}")?;
     out.push_str(text.as_str())

@@ -153,7 +153,8 @@ fn block(rt: &(impl Abort + AllocGlobal)) -> Stmt {
 
 #[test]
 fn blocks_and_loops(rt: HostRuntime) {
-    let text = " block a v Bigint yes no (0) w Integer no yes - { loop l for i yes (1) (9) (2) { nothing } m loop - while (true) { loop - plain { } - } - } b";
+    let text =
+        " block a v Bigint yes no (0) w Integer no yes - { loop l for i yes (1) (9) (2) { nothing } m loop - while (true) { loop - plain { } - } - } b";
     assert!(rt; is_copied(&rt, block(&rt), text));
 }
 
@@ -190,10 +191,34 @@ fn cases_without_else(rt: &(impl Abort + AllocGlobal)) -> Stmt {
 
 #[test]
 fn branches(rt: HostRuntime) {
-    assert!(rt; is_copied(&rt, choice(&rt), " if (true) { nothing } (null) { return (1) } { return (2) }"));
-    assert!(rt; is_copied(&rt, choice_without_else(&rt), " if (true) { nothing } (null) { return (1) } -"));
-    assert!(rt; is_copied(&rt, cases(&rt), " case (true) { nothing } (null) { return (1) } { nothing }"));
-    assert!(rt; is_copied(&rt, cases_without_else(&rt), " case (true) { nothing } (null) { return (1) } -"));
+    assert!(rt;
+        is_copied(
+            &rt,
+            choice(&rt),
+            " if (true) { nothing } (null) { return (1) } { return (2) }"
+        )
+    );
+    assert!(rt;
+        is_copied(
+            &rt,
+            choice_without_else(&rt),
+            " if (true) { nothing } (null) { return (1) } -"
+        )
+    );
+    assert!(rt;
+        is_copied(
+            &rt,
+            cases(&rt),
+            " case (true) { nothing } (null) { return (1) } { nothing }"
+        )
+    );
+    assert!(rt;
+        is_copied(
+            &rt,
+            cases_without_else(&rt),
+            " case (true) { nothing } (null) { return (1) } -"
+        )
+    );
 }
 
 fn deep_body(rt: &(impl Abort + AllocGlobal)) -> Stmt {

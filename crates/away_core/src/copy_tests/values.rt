@@ -80,10 +80,10 @@ fn tables(rt: HostRuntime) {
 
 #[test]
 fn answers(rt: HostRuntime) {
-    let class = Class {
-        code: *b"22012",
-    };
-    let value = Answer::Value(Value::Int(5)).copy(rt.alloc()).expect(&rt, "memory");
+    let class = Class { code: *b"22012" };
+    let value = Answer::Value(Value::Int(5))
+        .copy(rt.alloc())
+        .expect(&rt, "memory");
     assert!(rt; matches!(value, Answer::Value(Value::Int(5))));
     let fault = Answer::Fault(class).copy(rt.alloc()).expect(&rt, "memory");
     assert!(rt; matches!(fault, Answer::Fault(found) if found == class));
@@ -117,7 +117,11 @@ fn schema(rt: &(impl Abort + AllocGlobal)) -> Schema {
     }
 }
 
-fn put_table_schema(table: &TableSchema, out: &mut String, alloc: Global) -> Result<(), AllocError> {
+fn put_table_schema(
+    table: &TableSchema,
+    out: &mut String,
+    alloc: Global,
+) -> Result<(), AllocError> {
     out.push_str(table.name.text())?;
     for column in table.columns.as_slice() {
         let name = column.name.text();
