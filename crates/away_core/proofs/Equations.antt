@@ -7,7 +7,6 @@ use Rattle.away_core.specs.declared.operators.CmpOp.{CmpOp}
 use Rattle.away_core.specs.declared.operators.IsTest.{IsTest}
 use Rattle.away_core.specs.declared.queries.Expr.{Expr}
 use Rattle.away_core.specs.declared.queries.Expr.TheVariants as expr
-use Rattle.away_core.specs.declared.queries.Source.{Source}
 use Rattle.away_core.specs.declared.queries.Source.TheVariants as source
 use Rattle.away_core.specs.declared.queries.FromItem.{FromItem}
 use Rattle.away_core.specs.declared.queries.Item.{Item}
@@ -68,7 +67,7 @@ of_int a n = refl
 pub of_bool : (a : Algebra) (v : Bool) → expr_of a (expr.Bool v) ≡ a.expr (ex.Bool v)
 of_bool a v = refl
 
-pub of_null : (a : Algebra)  → expr_of a (expr.Null) ≡ a.expr (ex.Null)
+pub of_null : (a : Algebra) → expr_of a (expr.Null) ≡ a.expr (ex.Null)
 of_null a = refl
 
 pub of_str : (a : Algebra) (t : List ℕ) → expr_of a (expr.Str t) ≡ a.expr (ex.Str t)
@@ -89,7 +88,7 @@ of_column a c = refl
 pub of_param : (a : Algebra) (i : ℕ) (t : Ty) → expr_of a (expr.Param i t) ≡ a.expr (ex.Param i t)
 of_param a i t = refl
 
-pub of_countrows : (a : Algebra)  → expr_of a (expr.CountRows) ≡ a.expr (ex.CountRows)
+pub of_countrows : (a : Algebra) → expr_of a (expr.CountRows) ≡ a.expr (ex.CountRows)
 of_countrows a = refl
 
 pub of_neg : (a : Algebra) (e : Expr) → expr_of a (expr.Neg e) ≡ a.expr (ex.Neg (expr_of a e))

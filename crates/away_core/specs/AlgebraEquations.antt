@@ -1,5 +1,5 @@
 -- What the recursion over queries gives at each kind of node: the step of that kind, over what it gives at the parts.
-use Rattle.std.specs.Prelude.{◌≡◌, ℕ, ℤ, Bool, List, Option, Some, None, map, option_map}
+use Rattle.std.specs.Prelude.{◌≡◌, ℕ, ℤ, Bool, List, Option, map, option_map}
 use Rattle.away_core.specs.declared.types.Ty.{Ty}
 use Rattle.away_core.specs.declared.queries.Col.{Col}
 use Rattle.away_core.specs.declared.operators.ChainOp.{ChainOp}
@@ -35,9 +35,24 @@ pub record Steps (AnExpr ASource AFrom AnItem AKey AQuery ARecursive ASelect : T
 
 abbrev pub algebra : {AnExpr ASource AFrom AnItem AKey AQuery ARecursive ASelect : Type 0} → Steps AnExpr ASource AFrom AnItem AKey AQuery ARecursive ASelect → Algebra
 algebra {AnExpr} {ASource} {AFrom} {AnItem} {AKey} {AQuery} {ARecursive} {ASelect} s = record {
-  AnExpr = AnExpr; ASource = ASource; AFrom = AFrom; AnItem = AnItem; AKey = AKey; AQuery = AQuery; ARecursive = ARecursive; ASelect = ASelect;
-  no_expr = s.no_expr; no_query = s.no_query;
-  expr = s.expr; source = s.source; from = s.from; item = s.item; key = s.key; query = s.query; recursive = s.recursive; select = s.select;
+  AnExpr = AnExpr;
+  ASource = ASource;
+  AFrom = AFrom;
+  AnItem = AnItem;
+  AKey = AKey;
+  AQuery = AQuery;
+  ARecursive = ARecursive;
+  ASelect = ASelect;
+  no_expr = s.no_expr;
+  no_query = s.no_query;
+  expr = s.expr;
+  source = s.source;
+  from = s.from;
+  item = s.item;
+  key = s.key;
+  query = s.query;
+  recursive = s.recursive;
+  select = s.select;
 }
 
 pub record Equations (a : Algebra) : Type 0 where
@@ -55,15 +70,15 @@ pub record Equations (a : Algebra) : Type 0 where
   pub not : (e : Expr) → expr_of a (expr.Not e) ≡ a.expr (ex.Not (expr_of a e))
   pub is : (e : Expr) (test : IsTest) (negative : Bool) → expr_of a (expr.Is e test negative) ≡ a.expr (ex.Is (expr_of a e) test negative)
   pub chain : (e : Expr) (links : List (ChainOp × Expr)) →
-    expr_of a (expr.Chain e links) ≡ a.expr (ex.Chain (expr_of a e) (map (λ l. (l.0, expr_of a l.1)) links))
+      expr_of a (expr.Chain e links) ≡ a.expr (ex.Chain (expr_of a e) (map (λ l. (l.0, expr_of a l.1)) links))
   pub compare : (op : CmpOp) (x y : Expr) → expr_of a (expr.Compare op x y) ≡ a.expr (ex.Compare op (expr_of a x) (expr_of a y))
   pub between : (negative : Bool) (x y z : Expr) →
-    expr_of a (expr.Between negative x y z) ≡ a.expr (ex.Between negative (expr_of a x) (expr_of a y) (expr_of a z))
+      expr_of a (expr.Between negative x y z) ≡ a.expr (ex.Between negative (expr_of a x) (expr_of a y) (expr_of a z))
   pub one_of : (negative : Bool) (e : Expr) (choices : List Expr) →
-    expr_of a (expr.OneOf negative e choices) ≡ a.expr (ex.OneOf negative (expr_of a e) (map (λ x. expr_of a x) choices))
+      expr_of a (expr.OneOf negative e choices) ≡ a.expr (ex.OneOf negative (expr_of a e) (map (λ x. expr_of a x) choices))
   pub cast : (e : Expr) (ty : Ty) → expr_of a (expr.Cast e ty) ≡ a.expr (ex.Cast (expr_of a e) ty)
   pub cases : (arms : List (Expr × Expr)) (other : Option Expr) →
-    expr_of a (expr.Cases arms other) ≡ a.expr (ex.Cases (map (λ x. (expr_of a x.0, expr_of a x.1)) arms) (option_map (λ x. expr_of a x) other))
+      expr_of a (expr.Cases arms other) ≡ a.expr (ex.Cases (map (λ x. (expr_of a x.0, expr_of a x.1)) arms) (option_map (λ x. expr_of a x) other))
   pub call : (name : List ℕ) (args : List Expr) → expr_of a (expr.Call name args) ≡ a.expr (ex.Call name (map (λ x. expr_of a x) args))
   pub count_rows : expr_of a expr.CountRows ≡ a.expr ex.CountRows
   pub scalar : (q : Query) → expr_of a (expr.Scalar q) ≡ a.expr (ex.Scalar (query_of a q))
@@ -71,17 +86,17 @@ pub record Equations (a : Algebra) : Type 0 where
   pub table : (name : List ℕ) → source_of a (source.Table name) ≡ a.source (ex.Table name)
   pub sub : (q : Query) (lateral : Bool) → source_of a (source.Sub q lateral) ≡ a.source (ex.Sub (query_of a q) lateral)
   pub from : (s : Source) (alias : List ℕ) (columns : List (List ℕ)) →
-    from_of a (roll-FromItem (record { source = s; alias = alias; columns = columns })) ≡ a.from (record { source = source_of a s; alias = alias; columns = columns })
+      from_of a (roll-FromItem (record { source = s; alias = alias; columns = columns })) ≡ a.from (record { source = source_of a s; alias = alias; columns = columns })
   pub item : (e : Expr) (alias : Option (List ℕ)) →
-    item_of a (roll-Item (record { expr = e; alias = alias })) ≡ a.item (record { expr = expr_of a e; alias = alias })
+      item_of a (roll-Item (record { expr = e; alias = alias })) ≡ a.item (record { expr = expr_of a e; alias = alias })
   pub key : (e : Expr) (descending : Bool) →
-    key_of a (roll-Key (record { expr = e; descending = descending })) ≡ a.key (record { expr = expr_of a e; descending = descending })
+      key_of a (roll-Key (record { expr = e; descending = descending })) ≡ a.key (record { expr = expr_of a e; descending = descending })
   pub select : (list : List Item) (from : List FromItem) (filter : Option Expr) (order : List Key) (limit : Option Expr) →
-    select_of a (roll-Select (record { list = list; from = from; filter = filter; order = order; limit = limit }))
+      select_of a (roll-Select (record { list = list; from = from; filter = filter; order = order; limit = limit }))
       ≡ a.select (record { list = map (λ x. item_of a x) list; from = map (λ x. from_of a x) from; filter = option_map (λ e. expr_of a e) filter; order = map (λ x. key_of a x) order; limit = option_map (λ e. expr_of a e) limit })
   pub recursive : (name : List ℕ) (columns : List (List ℕ)) (first : List Select) (second : Select) →
-    recursive_of a (roll-Recursive (record { name = name; columns = columns; first = first; second = second }))
+      recursive_of a (roll-Recursive (record { name = name; columns = columns; first = first; second = second }))
       ≡ a.recursive (record { name = name; columns = columns; first = map (λ x. select_of a x) first; second = select_of a second })
   pub query : (recursive : Option Recursive) (selects : List Select) →
-    query_of a (roll-Query (record { recursive = recursive; selects = selects }))
+      query_of a (roll-Query (record { recursive = recursive; selects = selects }))
       ≡ a.query (record { recursive = option_map (λ r. recursive_of a r) recursive; selects = map (λ s. select_of a s) selects })

@@ -1,6 +1,6 @@
 -- How many nodes a function has. A node is a statement (a block is one), an arm, a declaration, a parameter or a target of INTO. An arm is each
 -- condition of IF, ELSIF or CASE with its statements, and each ELSE.
-use Rattle.std.specs.Prelude.{ℕ, ◌+◌, ◌*◌, List, length, sum, Option, Some, None}
+use Rattle.std.specs.Prelude.{ℕ, ◌+◌, ◌*◌, List, length, sum, sum_by, Option, Some, None}
 use Rattle.away_core.specs.declared.statements.Arm.{Arm}
 use Rattle.away_core.specs.declared.statements.Function.{Function}
 use Rattle.away_core.specs.declared.statements.Stmt.{Stmt}
@@ -31,14 +31,21 @@ of_statement st.Nothing = 1
 abbrev of_branch : Arm-F ℕ ℕ → ℕ
 of_branch a = 1 + sum a.body
 
-abbrev counting : StatementAlgebra
+abbrev pub counting : StatementAlgebra
 counting = record { AStmt = ℕ; AnArm = ℕ; stmt = of_statement; arm = of_branch }
 
+-- of a statement with what stands in it
 unfoldable pub nodes_of : Stmt → ℕ
 nodes_of s = stmt_of counting s
 
+-- of an arm with its statements
 unfoldable pub nodes_of_arm : Arm → ℕ
 nodes_of_arm a = branch_of counting a
+
+-- of what stands behind an ELSE, the ELSE included
+unfoldable pub nodes_of_else : Option (List Stmt) → ℕ
+nodes_of_else None = 0
+nodes_of_else (Some body) = 1 + sum_by nodes_of body
 
 -- a parameter is a node
 unfoldable pub nodes : Function → ℕ

@@ -12,6 +12,8 @@ pub mod FunctionFile
 pub mod AlgebraEquations
 pub mod StatementAlgebra
 pub mod Count
+pub mod StatementEquations
+pub mod WorkedFunctions
 pub mod Values
 pub mod BigintSpellings
 pub mod OrderLaws

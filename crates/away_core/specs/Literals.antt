@@ -1,5 +1,5 @@
 -- How many literals a query has, its subqueries included: a first use of the recursion over queries.
-use Rattle.std.specs.Prelude.{ℕ, ◌+◌, List, [], ◌∷◌, Option, Some, None, sum, sum_by, codes, pos, true, false}
+use Rattle.std.specs.Prelude.{ℕ, ◌+◌, List, [], ◌∷◌, Option, Some, None, sum, sum_by, codes, pos, true}
 use Rattle.away_core.specs.declared.operators.ChainOp.{ChainOp}
 use Rattle.away_core.specs.declared.operators.ChainOp.TheVariants as chain
 use Rattle.away_core.specs.declared.operators.IntOp.TheVariants as int
@@ -11,7 +11,7 @@ use Rattle.away_core.specs.declared.queries.Query.{Query}
 use Rattle.away_core.specs.declared.queries.Expr.TheOpen.{Expr-F, Source-F, FromItem-F, Item-F, Key-F, Select-F, Recursive-F, Query-F}
 use Rattle.away_core.specs.declared.queries.Expr.TheOpen as ex
 use Rattle.away_core.specs.declared.queries.Expr.TheViews.{roll-Item, roll-FromItem, roll-Select, roll-Query}
-use Rattle.away_core.specs.Algebra.{Algebra, expr_of, query_of}
+use Rattle.away_core.specs.Algebra.{Algebra}
 
 abbrev of_option : Option ℕ → ℕ
 of_option None = 0

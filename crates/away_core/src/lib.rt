@@ -1,13 +1,14 @@
 //! The values, the operators and the trees of functions and queries, with the definitions that say what they are.
 #![tactic(auto)]
 
+mod arithmetic;
+mod comparison;
 mod copy_names;
 mod copy_queries;
 mod copy_schemas;
 mod copy_statements;
 mod copy_values;
-mod arithmetic;
-mod comparison;
+mod count;
 mod errors;
 mod from_text;
 mod operator_laws;
@@ -20,12 +21,14 @@ mod statements;
 mod tokens;
 mod tree_laws;
 mod texts;
+mod tree_laws;
 mod types;
 mod values;
 mod words;
 
 pub use arithmetic::{int_op, small};
 pub use comparison::compare;
+pub use count::{nodes, weight};
 pub use errors::{NoMemory, OpError};
 pub use from_text::{name, word};
 pub use operator_laws::{
@@ -40,6 +43,15 @@ pub use statements::{Arm, Decl, Function, LoopKind, Raised, Stmt};
 pub use tokens::TokenKind;
 pub use tree_laws::{literals_of_a_query_compute, queries_go_by_their_parts};
 pub use texts::text_op;
+pub use tree_laws::{
+    literals_of_a_query_compute, nodes_of_worked_functions, queries_go_by_their_parts,
+    statements_go_by_their_parts,
+};
 pub use types::Ty;
 pub use values::{Answer, Class, Table, Tables, Value};
 pub use words::{Name, Word};
+
+#[cfg(test)]
+mod copy_tests;
+#[cfg(test)]
+mod count_tests;

@@ -3,6 +3,9 @@
 ghost use Rattle.std.specs.Prelude.{◌≡◌};
 ghost use Rattle.away_core.specs.Algebra.{expr_of, query_of};
 ghost use Rattle.away_core.specs.AlgebraEquations.{Steps, Equations, algebra};
+ghost use Rattle.away_core.specs.StatementEquations.{StatementSteps, StatementEquations, statement_algebra};
+ghost use Rattle.away_core.specs.Count.{nodes, weight};
+ghost use Rattle.away_core.specs.WorkedFunctions.{collatz, walk};
 ghost use Rattle.away_core.specs.Literals.{literals, inner, outer};
 
 /// A definition by the recursion computes on a tree that is written out: the literals of a query.
@@ -12,6 +15,28 @@ pub fn literals_of_a_query_compute()
 {}
 
 /// At each kind of node of a query the recursion is the step of that kind over what it gives at the parts.
-pub fn queries_go_by_their_parts<AnExpr, ASource, AFrom, AnItem, AKey, AQuery, ARecursive, ASelect>()
+pub fn queries_go_by_their_parts<
+    AnExpr,
+    ASource,
+    AFrom,
+    AnItem,
+    AKey,
+    AQuery,
+    ARecursive,
+    ASelect,
+>()
     ensures { (s : Steps AnExpr ASource AFrom AnItem AKey AQuery ARecursive ASelect) → Equations (algebra s) }
+{}
+
+/// At each kind of statement the recursion is the step of that kind over what it gives at the parts.
+pub fn statements_go_by_their_parts<AStmt, AnArm>()
+    ensures { (s : StatementSteps AStmt AnArm) → StatementEquations (statement_algebra s) }
+{}
+
+/// The nodes and the weight of two functions that are written out.
+pub fn nodes_of_worked_functions()
+    ensures collatz_nodes { nodes collatz ≡ 11 }
+    ensures collatz_weight { weight collatz ≡ 192 }
+    ensures walk_nodes { nodes walk ≡ 10 }
+    ensures walk_weight { weight walk ≡ 176 }
 {}
