@@ -235,13 +235,13 @@ quote_stands m z tag j is is_tag place =
     let first : IsFirstBehind m (take j z) = λ at h.
     elim (cases_lt at j) [
       | inl lt ↦ absurd (
-        let room : j + n ≡ at + (j + n - at) = omega arith in
-        let cut : take n (drop at (take j z ++ m)) ≡ take n (drop at z) =
-        ap (λ l. take n (drop at l)) (sym front ∙ ap (λ k. take k z) room) ∙ ap (take n) (drop-take at (j + n - at) z) ∙ take-take n (j + n - at) (drop at z) (omega arith) in
-        let y : begins_with m (drop at z) ≡ true = take_begins m (drop at z) (sym cut ∙ h) in
-        let off : begins_with m (drop at z) ≡ false = place_least m z j at place lt in
-        cc
-      )
+          let room : j + n ≡ at + (j + n - at) = omega arith in
+          let cut : take n (drop at (take j z ++ m)) ≡ take n (drop at z) =
+          ap (λ l. take n (drop at l)) (sym front ∙ ap (λ k. take k z) room) ∙ ap (take n) (drop-take at (j + n - at) z) ∙ take-take n (j + n - at) (drop at z) (omega arith) in
+          let y : begins_with m (drop at z) ≡ true = take_begins m (drop at z) (sym cut ∙ h) in
+          let off : begins_with m (drop at z) ≡ false = place_least m z j at place lt in
+          cc
+          )
       | inr ge ↦ omega arith
     ] in (
       omega (arith, length-append m z),
@@ -339,9 +339,9 @@ mark_found b [] p h =
     cond_has _ (is_single b) h3 (λ one e. found_is (b ∷ []) (Token Symbol 1) p e (symbol_one b [] one off line_no block_no)) (λ _ e. absurd (cc)))))
 mark_found b (c ∷ z) p h =
     cond_has _ (eqb b 45 && eqb c 45) h (λ y e. let is = two_are b c 45 45 y in
-      found_is (b ∷ c ∷ z) (Skipped (2 + run class.Line z)) p e (subst (λ (q : ℕ × ℕ). Found (q.0 ∷ q.1 ∷ z) (Skipped (2 + run class.Line z))) (λ i. (is.0 i, is.1 i)) (line_stands z))) (λ line_no h1.
+    found_is (b ∷ c ∷ z) (Skipped (2 + run class.Line z)) p e (subst (λ (q : ℕ × ℕ). Found (q.0 ∷ q.1 ∷ z) (Skipped (2 + run class.Line z))) (λ i. (is.0 i, is.1 i)) (line_stands z))) (λ line_no h1.
     cond_has _ (eqb b 47 && eqb c 42) h1 (λ y e. let is = two_are b c 47 42 y in
-      subst (λ (q : ℕ × ℕ). Found (q.0 ∷ q.1 ∷ z) p) (λ i. (is.0 i, is.1 i)) (comment_found_at z (comment_len 0 z) p refl e)) (λ block_no h2.
+    subst (λ (q : ℕ × ℕ). Found (q.0 ∷ q.1 ∷ z) p) (λ i. (is.0 i, is.1 i)) (comment_found_at z (comment_len 0 z) p refl e)) (λ block_no h2.
     cond_has _ (is_pair b c) h2 (λ y e. found_is (b ∷ c ∷ z) (Token Symbol 2) p e (symbol_two b c z y)) (λ off h3.
     cond_has _ (is_single b) h3 (λ one e. found_is (b ∷ c ∷ z) (Token Symbol 1) p e (symbol_one b (c ∷ z) one off line_no block_no)) (λ _ e. absurd (cc)))))
 

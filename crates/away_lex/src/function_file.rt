@@ -59,7 +59,11 @@ fn first_dollar<'a>(list: &[Token<'a>]) -> Option<Token<'a>>
     None
 }
 
-fn part_tokens<'a>(alloc: Global, text: &'a str, start: u64) -> Result<Vec<Token<'a>>, TokensRefusal>
+fn part_tokens<'a>(
+    alloc: Global,
+    text: &'a str,
+    start: u64,
+) -> Result<Vec<Token<'a>>, TokensRefusal>
     requires { start + length text.now < 2 ^ 63 }
     ensures ok { IfOk result (λ v. LexesPart start text.now (map seen v.items) None) }
     ensures err { IfErr result (PartRefusedAs start text.now) }
@@ -97,7 +101,10 @@ fn inside_tokens<'a>(alloc: Global, quote: &Token<'a>) -> Result<Vec<Token<'a>>,
 
 /// Both token lists of a function's file. A bad token of the whole file comes before one of the body; in the body a dollar
 /// quote is a bad token.
-pub fn function_tokens<'a>(alloc: Global, text: &'a str) -> Result<FunctionTokens<'a>, TokensRefusal>
+pub fn function_tokens<'a>(
+    alloc: Global,
+    text: &'a str,
+) -> Result<FunctionTokens<'a>, TokensRefusal>
     ensures ok { IfOk result (λ f. LexesFile text.now (map seen f.outer.items) (map seen f.body.items) None) }
     ensures err { IfErr result (FileRefusedAs text.now) }
 {

@@ -94,7 +94,9 @@ impl Token<'_> {
 pub fn is_reserved(word: &str) -> bool
     ensures { result ≡ spec.is_reserved word.now }
 {
-    RESERVED.iter().any(|reserved| word.eq_ignore_ascii_case(reserved))
+    RESERVED
+        .iter()
+        .any(|reserved| word.eq_ignore_ascii_case(reserved))
 }
 
 /// The name that a word spells, which is the word in lower case (PostgreSQL manual, Identifiers and Key Words).
