@@ -1,22 +1,20 @@
 -- What the code finds at the front of a text is a piece of the definition.
-use Rattle.std.proofs.Common.{◌≡◌, ℕ, zero, suc, ◌+◌, ◌-◌, ◌<◌, ◌≤◌, Bool, true, false, cond, not, ◌&&◌, ◌||◌, eqb, leb, ltb, List, [], ◌∷◌, ◌++◌, length, get_or, take, drop, Option, Some, None, refl, sym, ap, ◌∙◌, subst, arith, length-append, append_assoc, ◌⊎◌, inl, inr, get_or-drop, take-append-drop}
+use Rattle.std.proofs.Common.{◌≡◌, ℕ, zero, suc, ◌+◌, ◌-◌, ◌<◌, ◌≤◌, Bool, true, false, cond, not, ◌&&◌, ◌||◌, eqb, leb, ltb, List, [], ◌∷◌, ◌++◌, length, get_or, take, drop, Option, Some, None, refl, sym, ap, ◌∙◌, subst, arith, length-append, inl, inr, get_or-drop, take-append-drop}
 use Rattle.std.proofs.lemmas.List.{get_or-take, length-take-le, take_at, take_more, get_or_past, drop-take, take-take}
 use Rattle.std.proofs.Math.Seq.{take-add, take-append-add}
 use Rattle.std.proofs.lemmas.List.Sums.{prefix_len-le-length, prefix_len_passes}
-use Rattle.std.proofs.lemmas.Bool.{cases_Bool, cases_lt, eqb-true, eqb-false}
+use Rattle.std.proofs.lemmas.Bool.{cases_Bool, cases_lt, eqb-true}
 use Rattle.std.proofs.lemmas.Bool.Decides.{nat_tests}
 use Rattle.std.specs.Char.{is_ascii_digit}
-use Rattle.std.specs.List.{list_all}
-use Rattle.away_core.specs.declared.tokens.TokenKind.{TokenKind}
 use Rattle.away_core.specs.declared.tokens.TokenKind.TheVariants.{Word, Integer, Str, Parameter, Dollar, Symbol}
 use Rattle.away_core.specs.Words.{IsWord}
-use Rattle.away_core.specs.Spellings.{byte, is_blank, is_start, goes_on, number, doubled, quoted, mark_of, IsTag, IsFirstBehind, IsNameText, IsInteger, IsParameter, IsString, IsDollarQuote, is_symbol_text, opens_comment, Spells, may_precede}
-use Rattle.away_core.specs.Tokens.{is_line, EndsLine, ClosesComment, Skips, blank, line, block, Stands}
+use Rattle.away_core.specs.Spellings.{byte, is_blank, is_start, goes_on, number, doubled, mark_of, IsTag, IsFirstBehind, is_symbol_text}
+use Rattle.away_core.specs.Tokens.{is_line, EndsLine, Skips, blank, line, block, Stands}
 use Rattle.away_lex.specs.declared.kind.Piece.{Piece}
 use Rattle.away_lex.specs.declared.kind.Piece.TheVariants.{Skipped, Token}
 use Rattle.away_lex.specs.declared.front.Class.{Class}
 use Rattle.away_lex.specs.declared.front.Class.TheVariants as class
-use Rattle.away_lex.specs.Pieces.{first_piece, is_in, run, word, integer, is_number, string, string_of, closing, plus, undoubled, has_no_zero, is_text, dollar, parameter, quote, quote_of, place_of, begins_with, mark, comment_of, comment_len, symbol, is_pair, is_single}
+use Rattle.away_lex.specs.Pieces.{first_piece, is_in, run, is_number, string_of, closing, undoubled, has_no_zero, is_text, dollar, quote_of, place_of, begins_with, mark, comment_of, comment_len, is_pair, is_single}
 use Rattle.away_lex.proofs.Apart.{plus_some, place_fits}
 use Rattle.away_lex.proofs.Alone.{undoubled-doubled, begins_take, take_begins}
 use Rattle.away_lex.proofs.Runs.{run_all, run_stops, and_left, and_right}

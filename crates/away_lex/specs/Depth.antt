@@ -1,5 +1,5 @@
 -- The greatest count of a token list, from its end on.
-use Rattle.std.specs.Prelude.{ℕ, ◌+◌, ◌-◌, Bool, true, false, ◌&&◌, if◌then◌else◌, List, [], ◌∷◌}
+use Rattle.std.specs.Prelude.{ℕ, ◌+◌, ◌-◌, Bool, false, ◌&&◌, if◌then◌else◌, List, [], ◌∷◌}
 use Rattle.away_core.specs.Tokens.{Lexeme}
 use Rattle.away_core.specs.Nesting.{is_end, is_closed, is_opening, is_closing}
 

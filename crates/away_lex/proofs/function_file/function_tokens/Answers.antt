@@ -1,4 +1,4 @@
-use Rattle.std.proofs.Common.{◌≡◌, ◌∙◌, sym, ap, subst, map, Some, length, arith, option_map}
+use Rattle.std.proofs.Common.{◌≡◌, ◌∙◌, sym, ap, map, Some, arith, option_map}
 use Rattle.away_core.specs.FunctionFile.{first_dollar}
 use Rattle.away_lex.specs.Lexed.{seen}
 use Rattle.away_lex.proofs.Parts.{dollar_in, file_refused}

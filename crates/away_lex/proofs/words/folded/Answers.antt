@@ -1,4 +1,4 @@
-use Rattle.std.proofs.Common.{◌≡◌, MatchOption, subst, sym, ap, ◌∙◌, ℕ, List}
+use Rattle.std.proofs.Common.{◌≡◌, MatchOption, subst, sym, ◌∙◌}
 use Rattle.away_core.specs.Words.{IsName}
 use Rattle.away_core.specs.Reserved.{folded}
 use Rattle.away_lex.proofs.Folds.{folded_is_name}
