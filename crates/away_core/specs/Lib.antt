@@ -9,3 +9,6 @@ pub mod Nesting
 pub mod Reserved
 pub mod Spacing
 pub mod FunctionFile
+pub mod AlgebraEquations
+pub mod StatementAlgebra
+pub mod Count

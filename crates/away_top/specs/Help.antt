@@ -1,0 +1,8 @@
+-- What the two words about the program itself write.
+use Rattle.std.specs.Prelude.{ℕ, List, codes}
+
+abbrev pub help_text : List ℕ
+help_text = codes "away compile SCHEMA FUNC   write the query that the function in FUNC becomes, over the tables of SCHEMA\naway --help                write these lines\naway --version             write the program's name and version\n"
+
+abbrev pub version_text : List ℕ
+version_text = codes "away 0.1.0\n"

@@ -1,0 +1,87 @@
+//! How a run ends: a status and all that it writes.
+
+ghost use Rattle.std.specs.Prelude.{◌≡◌, IfOk, codes};
+ghost use Rattle.away_top.specs.Lines.{bad_token, line, read_fault, refusal};
+ghost use Rattle.away_top.specs.Help.{help_text, version_text};
+ghost use Rattle.away_top.specs.Steps.{IsEnding};
+
+use crate::Status;
+use itoa::Buffer;
+use std::alloc::{AllocError, Global};
+
+const HELP: &[u8] = b"away compile SCHEMA FUNC   write the query that the function in FUNC becomes, over the tables of SCHEMA\naway --help                write these lines\naway --version             write the program's name and version\n";
+
+/// A status with the whole output of the run.
+#[derive(Drop)]
+pub struct Ending {
+    pub status: Status,
+    pub output: Vec<u8>,
+}
+
+fn with_output(alloc: Global, status: Status, output: &[u8]) -> Result<Ending, AllocError>
+    ensures { IfOk result (λ ending. IsEnding ending status output.now) }
+{
+    Ok(Ending {
+        status,
+        output: output.to_vec(alloc)?,
+    })
+}
+
+/// The words are no form.
+pub fn usage(alloc: Global) -> Result<Ending, AllocError>
+    ensures { IfOk result (λ ending. IsEnding ending Status.Usage (line (codes "usage"))) }
+{
+    with_output(alloc, Status::Usage, b"usage\n")
+}
+
+/// The forms of the words, a line each.
+pub fn help(alloc: Global) -> Result<Ending, AllocError>
+    ensures { IfOk result (λ ending. IsEnding ending Status.Done help_text) }
+{
+    with_output(alloc, Status::Done, HELP)
+}
+
+/// The program's name and version.
+pub fn version(alloc: Global) -> Result<Ending, AllocError>
+    ensures { IfOk result (λ ending. IsEnding ending Status.Done version_text) }
+{
+    with_output(alloc, Status::Done, b"away 0.1.0\n")
+}
+
+/// The file can't be read.
+pub fn unreadable(alloc: Global, name: &str) -> Result<Ending, AllocError>
+    ensures { IfOk result (λ ending. IsEnding ending Status.ReadFault (read_fault name.now)) }
+{
+    let mut output = b"read fault ".to_vec(alloc)?;
+    output.extend_from_slice(name.as_bytes())?;
+    output.push(b'\n')?;
+    Ok(Ending {
+        status: Status::ReadFault,
+        output,
+    })
+}
+
+/// The file is refused by a rule.
+pub fn refused(alloc: Global, name: &str, rule: &[u8]) -> Result<Ending, AllocError>
+    ensures { IfOk result (λ ending. IsEnding ending Status.Refused (refusal name.now rule.now)) }
+{
+    let mut output = b"refused ".to_vec(alloc)?;
+    output.extend_from_slice(name.as_bytes())?;
+    output.push(b' ')?;
+    output.extend_from_slice(rule)?;
+    output.push(b'\n')?;
+    Ok(Ending {
+        status: Status::Refused,
+        output,
+    })
+}
+
+/// The file is refused for a bad token.
+pub fn refused_token(alloc: Global, name: &str, offset: u64) -> Result<Ending, AllocError>
+    ensures { IfOk result (λ ending. IsEnding ending Status.Refused (refusal name.now (bad_token offset))) }
+{
+    let mut buffer = Buffer::new();
+    let mut rule = b"X2 ".to_vec(alloc)?;
+    rule.extend_from_slice(buffer.format(offset).as_bytes())?;
+    refused(alloc, name, &rule)
+}

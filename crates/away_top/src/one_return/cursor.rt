@@ -1,0 +1,140 @@
+//! A place in a list of tokens, from which the reader takes them one after the other.
+
+ghost use Rattle.std.specs.Prelude.{◌≡◌, ◌-◌, ◌<◌, ◌≤◌, length, OnSome};
+ghost use Rattle.std.specs.Bool.{OnTrue};
+
+use crate::one_return::refusal::Refusal;
+use away_core::{Name, name};
+use away_lex::{Token, TokenKind};
+use std::alloc::Global;
+
+/// The words that are never names.
+const RESERVED: [&str; 53] = [
+    "all", "and", "as", "asc", "begin", "between", "by", "case", "cast", "coalesce", "constant",
+    "continue", "create", "declare", "default", "desc", "else", "elseif", "elsif", "end", "exists",
+    "exit", "false", "for", "from", "greatest", "if", "in", "into", "is", "lateral", "least",
+    "limit", "loop", "not", "null", "on", "or", "order", "raise", "recursive", "return", "reverse",
+    "select", "strict", "table", "then", "true", "union", "when", "where", "while", "with",
+];
+
+/// The tokens that are left.
+#[derive(Drop)]
+pub struct Cursor<'a> {
+    rest: &'a [Token<'a>],
+}
+
+impl<'a> Cursor<'a> {
+    pub fn new(list: &'a [Token<'a>]) -> Cursor<'a> {
+        Cursor { rest: list }
+    }
+
+    /// Whether no token is left.
+    pub fn is_at_end(&self) -> bool {
+        self.rest.is_empty()
+    }
+
+    /// The next token.
+    fn peek(&self) -> Option<Token<'a>>
+        ensures { OnSome result (0 < length self.now.rest.now) }
+    {
+        self.rest.first().copied()
+    }
+
+    /// Takes the next token.
+    pub fn take(&mut self) -> Option<Token<'a>>
+        ensures { length self.new.rest.now ≡ length self.old.rest.now - 1 }
+    {
+        let [token, rest @ ..] = self.rest else {
+            return None;
+        };
+        self.rest = rest;
+        Some(*token)
+    }
+
+    /// Takes the word, in whatever case, if it stands next.
+    pub fn eat_word(&mut self, word: &str) -> bool
+        ensures { length self.new.rest.now ≤ length self.old.rest.now }
+    {
+        let found = match self.peek() {
+            Some(token) => is_word(&token, word),
+            None => false,
+        };
+        if found {
+            self.take();
+        }
+        found
+    }
+
+    /// Takes the symbol, if it stands next.
+    pub fn eat_symbol(&mut self, symbol: &str) -> bool
+        ensures shrinks { length self.new.rest.now ≤ length self.old.rest.now }
+        ensures eaten { OnTrue result (length self.new.rest.now < length self.old.rest.now) }
+    {
+        match self.peek() {
+            Some(token) if is_symbol(&token, symbol) => {
+                self.take();
+                true
+            }
+            _ => false,
+        }
+    }
+
+    /// Takes these words, one after the other.
+    pub fn expect_words(&mut self, words: &[&str]) -> Result<(), Refusal>
+        ensures { length self.new.rest.now ≤ length self.old.rest.now }
+    {
+        for word in words {
+            if !self.eat_word(word) {
+                return Err(Refusal::NoTree);
+            }
+        }
+        Ok(())
+    }
+
+    /// Takes the symbol.
+    pub fn expect_symbol(&mut self, symbol: &str) -> Result<(), Refusal>
+        ensures { length self.new.rest.now ≤ length self.old.rest.now }
+    {
+        if self.eat_symbol(symbol) {
+            Ok(())
+        } else {
+            Err(Refusal::NoTree)
+        }
+    }
+
+    /// Takes a name, folded to lower case.
+    pub fn expect_name(&mut self, alloc: Global) -> Result<Name, Refusal>
+        ensures { length self.new.rest.now ≤ length self.old.rest.now }
+    {
+        match self.take() {
+            Some(token) => name_of(alloc, &token),
+            None => Err(Refusal::NoTree),
+        }
+    }
+}
+
+fn is_symbol(token: &Token<'_>, symbol: &str) -> bool {
+    matches!(token.kind, TokenKind::Symbol) && token.text == symbol
+}
+
+/// Whether a token is the word, in whatever case.
+fn is_word(token: &Token<'_>, word: &str) -> bool {
+    matches!(token.kind, TokenKind::Word) && token.text.eq_ignore_ascii_case(word)
+}
+
+/// The name that a token is, folded to lower case.
+pub fn name_of(alloc: Global, token: &Token<'_>) -> Result<Name, Refusal> {
+    if !matches!(token.kind, TokenKind::Word) || is_reserved(token.text) {
+        return Err(Refusal::NoTree);
+    }
+    let mut folded = String::from_str(alloc, token.text)?;
+    folded.make_ascii_lowercase();
+    match name(alloc, &folded)? {
+        Some(name) => Ok(name),
+        None => Err(Refusal::NoTree),
+    }
+}
+
+fn is_reserved(text: &str) -> bool {
+    RESERVED.iter().any(|word| text.eq_ignore_ascii_case(word))
+}

@@ -1,0 +1,30 @@
+//! From the bytes of a function that is one RETURN to the text of its query.
+
+ghost use Rattle.std.specs.Prelude.{IfErr, IfOk};
+ghost use Rattle.away_top.specs.Refusals.{HasReadTokens, IsRefusal};
+
+mod cursor;
+mod level;
+mod names;
+mod printer;
+mod reader;
+mod refusal;
+mod source;
+mod template;
+mod trees;
+mod writer;
+
+
+pub use refusal::Refusal;
+pub use source::tokens_of;
+use std::alloc::Global;
+
+/// The text of the query that the function is compiled into.
+pub fn compiled(alloc: Global, bytes: &[u8]) -> Result<String, Refusal>
+    ensures ok { IfOk result (λ query. HasReadTokens bytes.now) }
+    ensures err { IfErr result (IsRefusal bytes.now) }
+{
+    let function = reader::read_function(alloc, bytes)?;
+    let query = template::query_of(alloc, &function)?;
+    Ok(printer::print_query(alloc, &query)?)
+}
