@@ -30,16 +30,20 @@ abbrev pub bad_with_dollar : List Lexeme → Option ℕ → Option ℕ
 bad_with_dollar [] bad = bad
 bad_with_dollar (t ∷ ts) bad = if is_dollar t.kind then Some t.start else bad_with_dollar ts bad
 
--- The tokens of the inside of a dollar quote, with the file's offsets, and the first bad offset. A dollar quote is a bad token here.
+-- The tokens of a part of a file, from its offset on, and the first bad offset, where a dollar quote is a bad token.
+pub record LexesPart (at : ℕ) (z : List ℕ) (ts : List Lexeme) (bad : Option ℕ) : Type 0 where
+  pub all : List Lexeme
+  pub all_bad : Option ℕ
+  pub lexes : Lexes at z all all_bad
+  pub tokens : ts ≡ up_to_dollar all
+  pub first : bad ≡ bad_with_dollar all all_bad
+
+-- those of the inside of a dollar quote, with the file's offsets
 pub record LexesInside (quote : Lexeme) (ts : List Lexeme) (bad : Option ℕ) : Type 0 where
   pub mark : List ℕ
   pub inside : List ℕ
   pub is_inside : IsInside quote.text inside mark
-  pub all : List Lexeme
-  pub all_bad : Option ℕ
-  pub lexes : Lexes (quote.start + length mark) inside all all_bad
-  pub tokens : ts ≡ up_to_dollar all
-  pub first : bad ≡ bad_with_dollar all all_bad
+  pub part : LexesPart (quote.start + length mark) inside ts bad
 
 -- the body's list: that of the first dollar quote, and empty where there is none
 abbrev pub LexesBody : Option Lexeme → List Lexeme → Option ℕ → Type 0

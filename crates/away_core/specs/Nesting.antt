@@ -1,5 +1,5 @@
 -- How deep the parentheses and blocks of a token list nest.
-use Rattle.std.specs.Prelude.{◌≡◌, ◌≤◌, ℕ, ◌+◌, Bool, true, false, ◌&&◌, ◌||◌, if◌then◌else◌, List, [], ◌∷◌, take, codes, bytes_eq}
+use Rattle.std.specs.Prelude.{◌≡◌, ◌≤◌, ℕ, ◌+◌, Bool, false, ◌&&◌, ◌||◌, if◌then◌else◌, List, [], ◌∷◌, take, codes, bytes_eq}
 use Rattle.away_core.specs.declared.tokens.TokenKind.{TokenKind}
 use Rattle.away_core.specs.declared.tokens.TokenKind.TheVariants.{Word, Symbol}
 use Rattle.away_core.specs.Tokens.{Lexeme}

@@ -1,7 +1,7 @@
 -- Words that are never names, and words without regard to case.
-use Rattle.std.specs.Prelude.{ℕ, Bool, not, ◌||◌, List, [], ◌∷◌, bytes_eq, codes}
+use Rattle.std.specs.Prelude.{ℕ, Bool, not, ◌||◌, List, [], ◌∷◌, codes}
 use Rattle.std.specs.List.{list_any}
-use Rattle.std.specs.Str.{str_to_ascii_lowercase}
+use Rattle.std.specs.Str.{str_to_ascii_lowercase, str_eq_ignore_ascii_case}
 
 -- a word in lower case: the name that it spells where it isn't reserved
 abbrev pub folded : List ℕ → List ℕ
@@ -18,8 +18,8 @@ reserved =
 
 -- a word that is never a name, in any case
 unfoldable pub is_reserved : List ℕ → Bool
-is_reserved word = list_any (bytes_eq (folded word)) reserved
+is_reserved word = list_any (str_eq_ignore_ascii_case word) reserved
 
 -- A word that a printed `(` follows without a space: a name, or one of the reserved words that read as a function's name.
 unfoldable pub calls : List ℕ → Bool
-calls word = not (is_reserved word) || list_any (bytes_eq (folded word)) (codes "cast" ∷ codes "coalesce" ∷ codes "greatest" ∷ codes "least" ∷ codes "exists" ∷ [])
+calls word = not (is_reserved word) || list_any (str_eq_ignore_ascii_case word) (codes "cast" ∷ codes "coalesce" ∷ codes "greatest" ∷ codes "least" ∷ codes "exists" ∷ [])

@@ -1,10 +1,9 @@
 -- The tokens of a text: the text is cut into pieces, in order, with nothing left over. A piece is a token, or white space or a
 -- comment, which gives no token.
-use Rattle.std.specs.Prelude.{◌≡◌, ◌<◌, ℕ, ◌+◌, Bool, true, false, not, ◌&&◌, ◌||◌, ◌==◌, List, [], ◌∷◌, ◌++◌, length, Option, Some, None}
+use Rattle.std.specs.Prelude.{◌≡◌, ◌≤◌, ◌<◌, ℕ, ◌+◌, Bool, true, false, not, ◌&&◌, ◌||◌, ◌==◌, List, [], ◌∷◌, ◌++◌, take, drop, length, Option, Some, None}
 use Rattle.std.specs.List.{list_all}
 use Rattle.away_core.specs.declared.tokens.TokenKind.{TokenKind}
-use Rattle.away_core.specs.declared.tokens.TokenKind.TheVariants.{Dollar}
-use Rattle.away_core.specs.Spellings.{byte, is_blank, Spells, may_precede, mark_of, IsTag}
+use Rattle.away_core.specs.Spellings.{byte, is_blank, Spells, may_precede}
 
 -- ---- pieces that give no token
 
@@ -65,3 +64,58 @@ pub data Lexes : ℕ → List ℕ → List Lexeme → Option ℕ → Type 0 wher
       → z ≡ piece ++ rest → Stands kind piece rest → Lexes (at + length piece) rest ts bad
       → Lexes at z (record { kind = kind; text = piece; start = at } ∷ ts) bad
   stops : {at : ℕ} {z : List ℕ} → 0 < length z → NoPiece z → Lexes at z [] (Some at)
+
+-- ---- the same by the list of pieces
+
+-- a piece that gives no token, or a token of a kind
+pub data Piece : Type 0 where
+  skipped : List ℕ → Piece
+  lexed : TokenKind → List ℕ → Piece
+
+abbrev pub text_of : Piece → List ℕ
+text_of (skipped z) = z
+text_of (lexed kind z) = z
+
+-- the pieces one behind the other
+abbrev pub joined : List Piece → List ℕ
+joined [] = []
+joined (p ∷ ps) = text_of p ++ joined ps
+
+-- the tokens among them, with the offsets where they stand
+abbrev pub tokens_of : ℕ → List Piece → List Lexeme
+tokens_of at [] = []
+tokens_of at (skipped z ∷ ps) = tokens_of (at + length z) ps
+tokens_of at (lexed kind z ∷ ps) = record { kind = kind; text = z; start = at } ∷ tokens_of (at + length z) ps
+
+abbrev pub IsPiece : Piece → List ℕ → Type 0
+IsPiece (skipped z) rest = Skips z rest
+IsPiece (lexed kind z) rest = Stands kind z rest
+
+-- each is a piece before all that follows it
+abbrev pub ArePieces : List Piece → List ℕ → Type 0
+ArePieces [] rest = Unit {0}
+ArePieces (p ∷ ps) rest = IsPiece p (joined ps ++ rest) × ArePieces ps rest
+
+-- what is left behind the pieces: nothing, or what begins with a bad token
+abbrev pub IsLeft : List ℕ → Option ℕ → ℕ → Type 0
+IsLeft rest None at = rest ≡ []
+IsLeft rest (Some bad) at = (bad ≡ at) × (0 < length rest) × NoPiece rest
+
+-- The text is pieces one behind the other, and what is left; the tokens are those among the pieces.
+pub record IsCut (at : ℕ) (z : List ℕ) (ts : List Lexeme) (bad : Option ℕ) : Type 0 where
+  pub pieces : List Piece
+  pub rest : List ℕ
+  pub whole : z ≡ joined pieces ++ rest
+  pub each : ArePieces pieces rest
+  pub tokens : ts ≡ tokens_of at pieces
+  pub left : IsLeft rest bad (at + length (joined pieces))
+
+-- Each token is a slice of the text at its start, has a byte, and begins at or behind the end of the one before it.
+abbrev pub StandInOrder : ℕ → List ℕ → List Lexeme → Type 0
+StandInOrder at z [] = Unit {0}
+StandInOrder at z (t ∷ ts) = (gap : ℕ) × ((n : ℕ) × (t.start ≡ at + gap) × (t.text ≡ take n (drop gap z)) × (1 ≤ n) × StandInOrder (at + (gap + n)) (drop (gap + n) z) ts)
+
+-- each token is spelled as its kind
+abbrev pub AreSpelled : List Lexeme → Type 0
+AreSpelled [] = Unit {0}
+AreSpelled (t ∷ ts) = Spells t.kind t.text × AreSpelled ts
