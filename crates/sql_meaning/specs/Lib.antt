@@ -5,3 +5,8 @@ pub mod Expressions
 pub mod Selects
 pub mod Meaning
 pub mod Working
+pub mod Trees
+pub mod Placed
+pub mod Reads
+pub mod Names
+pub mod Template
