@@ -10,3 +10,4 @@ pub mod Placed
 pub mod Reads
 pub mod Names
 pub mod Template
+pub mod Examples

@@ -1,14 +1,10 @@
-//! What an expression, a select and a query mean.
+//! What an expression, a select and a query mean, and the laws on which every proof about queries stands.
 #![tactic(auto)]
 
-ghost use Rattle.std.specs.Prelude.{◌≡◌, ℕ, List};
-ghost use Rattle.away_core.specs.declared.queries.Query.{Query};
-ghost use Rattle.away_core.specs.declared.values.Value.{Value};
-ghost use Rattle.sql_meaning.specs.Context.{Rows};
-ghost use Rattle.sql_meaning.specs.Working.{rows, answered, sql};
+mod examples;
 
-/// A query's answer is what its rows say.
-pub fn answers_by_rows()
-    ensures { (q : Query) (T : List Rows) (args : List Value) (k : ℕ) → sql q T args k ≡ answered (rows q T args k) }
-{
-}
+pub use examples::{
+    a_query_is_asked_for_one_row, a_subquery_is_evaluated_whole, aggregates_skip_null,
+    integers_have_32_bits, operators_stop_where_decided, parts_of_a_select_come_in_order,
+    recursion_needs_its_bound, rows_are_put_in_order,
+};
