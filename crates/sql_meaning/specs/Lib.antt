@@ -11,3 +11,4 @@ pub mod Reads
 pub mod Names
 pub mod Template
 pub mod Examples
+pub mod Equations

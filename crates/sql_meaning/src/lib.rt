@@ -1,8 +1,14 @@
 //! What an expression, a select and a query mean, and the laws on which every proof about queries stands.
 #![tactic(auto)]
 
+mod equations;
 mod examples;
 
+pub use equations::{
+    aggregates_stand_outside_subqueries, calls_take_their_arguments, items_give_rows,
+    leaves_have_their_values, operators_take_their_operands, selects_give_rows,
+    subqueries_take_their_rows,
+};
 pub use examples::{
     a_query_is_asked_for_one_row, a_subquery_is_evaluated_whole, aggregates_skip_null,
     integers_have_32_bits, operators_stop_where_decided, parts_of_a_select_come_in_order,
