@@ -1,3 +1,4 @@
 pub mod Related
 pub mod Lists
 pub mod Nodes
+pub mod Bounds

@@ -12,3 +12,4 @@ pub mod Names
 pub mod Template
 pub mod Examples
 pub mod Equations
+pub mod Laws

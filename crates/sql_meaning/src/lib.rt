@@ -3,6 +3,7 @@
 
 mod equations;
 mod examples;
+mod laws;
 
 pub use equations::{
     aggregates_stand_outside_subqueries, calls_take_their_arguments, items_give_rows,
@@ -14,3 +15,4 @@ pub use examples::{
     integers_have_32_bits, operators_stop_where_decided, parts_of_a_select_come_in_order,
     recursion_needs_its_bound, rows_are_put_in_order,
 };
+pub use laws::{answers_are_told_by_rows, answers_stay, the_first_empty_or_faulty_table_decides};
