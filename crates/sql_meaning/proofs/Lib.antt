@@ -2,3 +2,4 @@ pub mod Related
 pub mod Lists
 pub mod Nodes
 pub mod Bounds
+pub mod Same
