@@ -29,13 +29,20 @@ pub record Ready (d : ℕ) (l g : List Frame) : Type 0 where
 pub into : (d : ℕ) (l g : List Frame) → Ready d l g → (frame : Frame) (rows : List Frame) → Ready (suc d) (frame ∷ l) rows
 into d l g r frame rows = record { size = ap suc r.size; alone = λ z. absurd (omega arith) }
 
-module _ (env args env' args' : List Value) (outer outer' : List Frame) (tables tables' : List Rows) where
+-- what stands outside the expression
+pub record Surroundings : Type 0 where
+  pub env : List Value
+  pub args : List Value
+  pub outer : List Frame
+  pub tables : List Rows
+
+module _ (one two : Surroundings) where
   -- the two contexts
   abbrev pub here : List Frame → List Frame → Context
-  here l g = record { env = env; args = args; frames = l ++ outer; tables = tables; group = g }
+  here l g = record { env = one.env; args = one.args; frames = l ++ one.outer; tables = one.tables; group = g }
 
   abbrev pub there : List Frame → List Frame → Context
-  there l g = record { env = env'; args = args'; frames = l ++ outer'; tables = tables'; group = g }
+  there l g = record { env = two.env; args = two.args; frames = l ++ two.outer; tables = two.tables; group = g }
 
   abbrev pub Gives : {A : Type 0} → ℕ → (Context → Or A) → (Context → Or A) → Type 0
   Gives d x y = (l g : List Frame) → Ready d l g → y (there l g) ≡ x (here l g)
@@ -120,7 +127,7 @@ module _ (env args env' args' : List Value) (outer outer' : List Frame) (tables 
       inner : Gives d (expr_meaning (ex.Column c)).value (expr_meaning (ex.Column c)).value
       inner l g r =
           let below : c.level < length l = omega (arith, ltb-true c.level d h, r.size) in
-          ap (λ f. Ok (slice_index_or (slice_index_or f c.item []) c.column val.Null)) (get_or-append l outer' [] c.level below ∙ sym (get_or-append l outer [] c.level below))
+          ap (λ f. Ok (slice_index_or (slice_index_or f c.item []) c.column val.Null)) (get_or-append l two.outer [] c.level below ∙ sym (get_or-append l one.outer [] c.level below))
 
   pub neg_same : (d : ℕ) (x y : ExprMeaning) → Same d x y → Same d (expr_meaning (ex.Neg x)) (expr_meaning (ex.Neg y))
   neg_same d x y h = (h.0, λ l g r i. and_then (h.1 l g r i) negated)

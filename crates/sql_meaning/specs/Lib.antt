@@ -13,3 +13,4 @@ pub mod Template
 pub mod Examples
 pub mod Equations
 pub mod Laws
+pub mod Substitution
