@@ -5,3 +5,6 @@ pub mod Bounds
 pub mod Same
 pub mod Uses
 pub mod Replacing
+pub mod Reading
+pub mod Substitution
+pub mod Nameless

@@ -14,3 +14,4 @@ pub mod Examples
 pub mod Equations
 pub mod Laws
 pub mod Substitution
+pub mod PlaceExamples

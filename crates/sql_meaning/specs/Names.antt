@@ -94,3 +94,7 @@ nameless =
 -- the tree without its names
 abbrev pub bare : Query → Query
 bare = query_of nameless
+
+-- the same of an expression
+abbrev pub bare_value : Expr → Expr
+bare_value = expr_of nameless
