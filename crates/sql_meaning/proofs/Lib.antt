@@ -8,3 +8,5 @@ pub mod Replacing
 pub mod Reading
 pub mod Substitution
 pub mod Nameless
+pub mod SelectRows
+pub mod RowPlaces

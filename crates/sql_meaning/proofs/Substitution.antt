@@ -25,18 +25,12 @@ use Rattle.sql_meaning.specs.Substitution.{SeesAlike, Keeps, Substitution, OnlyS
 use Rattle.sql_meaning.proofs.Replacing.{replaced_same}
 use Rattle.sql_meaning.proofs.Reading.{reads_same}
 use Rattle.sql_meaning.proofs.Same as same
+use Rattle.sql_meaning.proofs.SelectRows.{null_cast}
 use Rattle.sql_meaning.proofs.Uses.{and_first, and_second, both_true}
 
 -- what stands outside an expression in a context
 abbrev around : Context → same.Surroundings
 around cx = record { env = cx.env; args = cx.args; outer = cx.frames; tables = cx.tables }
-
--- NULL has every type
-null_cast : (t : Ty) → cast t val.Null ≡ Ok val.Null
-null_cast ty.Bigint = refl
-null_cast ty.Boolean = refl
-null_cast ty.Integer = refl
-null_cast ty.Text = refl
 
 module _ (cx qx : Context) where
   -- where the expression stands

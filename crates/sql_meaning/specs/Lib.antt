@@ -15,3 +15,6 @@ pub mod Equations
 pub mod Laws
 pub mod Substitution
 pub mod PlaceExamples
+pub mod Typed
+pub mod Equivalent
+pub mod OneReturn
