@@ -10,3 +10,5 @@ pub mod Substitution
 pub mod Nameless
 pub mod SelectRows
 pub mod RowPlaces
+pub mod Returns
+pub mod Theorem

@@ -4,6 +4,7 @@
 mod equations;
 mod examples;
 mod laws;
+mod one_return;
 mod places;
 
 pub use equations::{
@@ -21,3 +22,4 @@ pub use places::{
     a_slot_may_be_a_column, names_mean_nothing, only_the_slots_that_are_read_matter,
     places_are_computed,
 };
+pub use one_return::one_return_is_equivalent;
