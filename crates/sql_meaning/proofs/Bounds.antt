@@ -1,5 +1,5 @@
 -- The working tables at a bound, and the answer at greater ones.
-use Rattle.std.proofs.Common.{◌≡◌, ◌≢◌, refl, ap, sym, ◌∙◌, subst, ℕ, zero, suc, ◌+◌, ◌-◌, ◌<◌, ◌≤◌, List, [], ◌∷◌, ◌++◌, Option, Some, None, Ok, Err, arith}
+use Rattle.std.proofs.Common.{◌≡◌, ◌≢◌, refl, ap, sym, ◌∙◌, ℕ, zero, suc, ◌+◌, ◌-◌, ◌≤◌, List, [], ◌∷◌, ◌++◌, Option, Some, None, Ok, Err, arith}
 use Rattle.away_core.specs.declared.values.Value.{Value}
 use Rattle.away_core.specs.declared.values.Class.{Class}
 use Rattle.away_core.specs.declared.values.Answer.TheVariants as answer
@@ -8,7 +8,7 @@ use Rattle.away_core.specs.Results.{Or, and_then, mapped}
 use Rattle.away_core.specs.Algebra.{query_of}
 use Rattle.sql_meaning.specs.Context.{Rows, outermost}
 use Rattle.sql_meaning.specs.Expressions.{SelectMeaning, RecursiveMeaning}
-use Rattle.sql_meaning.specs.Laws.{IsFilled, AreFilledBefore}
+use Rattle.sql_meaning.specs.Laws.{AreFilledBefore}
 use Rattle.sql_meaning.specs.Meaning.{meaning}
 use Rattle.sql_meaning.specs.Working.{Bounded, next_rows, working, all_working, worked, recursive_table, over_table, rows_with, rows, answered, sql}
 
@@ -44,9 +44,12 @@ module _ (r : RecursiveMeaning) (T : List Rows) (args : List Value) where
       let s = stands i (λ j p. h j (omega (arith, p))) in
       let f = h i (omega arith) in
       let whole : all_working r T args i ≡ Ok (s.0 ++ f.0 ∷ f.1) =
-          all_is i ∙ (λ t. and_then (s.1 t) (λ done. mapped (λ rows. done ++ rows) (f.2 t))) in
-      (s.0 ++ f.0 ∷ f.1, whole, λ k.
-          ap (recursive_table r T args) (at_suc i k) ∙ (s.2 (suc k) ∙ (ap (worked step (suc k) s.0) f.2 ∙ ap (λ o. worked step k (s.0 ++ f.0 ∷ f.1) (and_then o step)) (sym f.2))))
+      all_is i ∙ (λ t. and_then (s.1 t) (λ done. mapped (λ rows. done ++ rows) (f.2 t))) in (
+        s.0 ++ f.0 ∷ f.1,
+        whole,
+        λ k.
+            ap (recursive_table r T args) (at_suc i k) ∙ (s.2 (suc k) ∙ (ap (worked step (suc k) s.0) f.2 ∙ ap (λ o. worked step k (s.0 ++ f.0 ∷ f.1) (and_then o step)) (sym f.2))),
+      )
     where
       at_suc : (i k : ℕ) → suc i + k ≡ i + suc k
       at_suc i k = omega arith
@@ -70,7 +73,7 @@ module _ (r : RecursiveMeaning) (T : List Rows) (args : List Value) where
   empty_table i k p h e =
       let s = stands i h in
       let whole : all_working r T args i ≡ Ok (s.0 ++ []) =
-          all_is i ∙ (λ t. and_then (s.1 t) (λ done. mapped (λ rows. done ++ rows) (e t))) in
+      all_is i ∙ (λ t. and_then (s.1 t) (λ done. mapped (λ rows. done ++ rows) (e t))) in
       at_bound i k p s ∙ (ap (worked step (k - i) s.0) e ∙ ap Some (ap Ok (sym (append-nil s.0)) ∙ sym whole))
     where
       append-nil : (xs : Rows) → xs ++ [] ≡ xs

@@ -16,7 +16,7 @@ use Rattle.away_core.specs.Algebra.{expr_of, item_of, key_of, source_of, from_of
 use Rattle.away_core.proofs.Equations as eq
 use Rattle.sql_meaning.specs.Context.{Rows}
 use Rattle.sql_meaning.specs.Expressions.{ExprMeaning, SourceMeaning, FromMeaning, SelectMeaning, KeyMeaning, RecursiveMeaning, QueryMeaning, expr_meaning}
-use Rattle.sql_meaning.specs.Meaning.{meaning, value}
+use Rattle.sql_meaning.specs.Meaning.{meaning}
 use Rattle.sql_meaning.specs.Names.{nameless, bare_columns, bare, bare_value}
 use Rattle.sql_meaning.specs.Selects.{source_meaning, key_meaning, select_meaning, recursive_meaning, query_meaning}
 use Rattle.sql_meaning.specs.Working.{rows_with, rows, answered, sql}
@@ -51,14 +51,14 @@ Selects x z w = select_of meaning z ≡ x
 abbrev relation : Relation meaning nameless meaning
 relation =
     record {
-        Exprs = Exprs;
-        Sources = Sources;
-        Froms = Froms;
-        Items = Items;
-        Keys = Keys;
-        Queries = Queries;
-        Recursives = Recursives;
-        Selects = Selects
+      Exprs = Exprs;
+      Sources = Sources;
+      Froms = Froms;
+      Items = Items;
+      Keys = Keys;
+      Queries = Queries;
+      Recursives = Recursives;
+      Selects = Selects;
     }
 
 -- ---- lists of parts
@@ -110,40 +110,40 @@ first_kept (c ∷ cs) = refl
 steps : IsKept meaning nameless meaning relation
 steps =
     record {
-        no_expr = refl;
-        no_query = eq.of_query meaning [];
-        int = λ n. refl;
-        str = λ t. refl;
-        bool = λ v. refl;
-        null = refl;
-        named = λ t. refl;
-        dotted = λ t s. refl;
-        slot = λ i. refl;
-        column = λ c. refl;
-        param = λ i t. refl;
-        neg = λ x z w k. eq.of_neg meaning z ∙ (λ i. expr_meaning (ex.Neg (k i)));
-        neg_small = λ x z w k. eq.of_negsmall meaning z ∙ (λ i. expr_meaning (ex.NegSmall (k i)));
-        not = λ x z w k. eq.of_not meaning z ∙ (λ i. expr_meaning (ex.Not (k i)));
-        is = λ x z w test negative k. eq.of_is meaning z test negative ∙ (λ i. expr_meaning (ex.Is (k i) test negative));
-        chain = λ x z w xs zs ws k r. eq.of_chain meaning z zs ∙ (λ i. expr_meaning (ex.Chain (k i) (links_are xs zs ws r i)));
-        compare = λ op x₁ x₂ z₁ z₂ w₁ w₂ k₁ k₂. eq.of_compare meaning op z₁ z₂ ∙ (λ i. expr_meaning (ex.Compare op (k₁ i) (k₂ i)));
-        between = λ v x₁ x₂ x₃ z₁ z₂ z₃ w₁ w₂ w₃ k₁ k₂ k₃. eq.of_between meaning v z₁ z₂ z₃ ∙ (λ i. expr_meaning (ex.Between v (k₁ i) (k₂ i) (k₃ i)));
-        one_of = λ v x z w xs zs ws k r. eq.of_oneof meaning v z zs ∙ (λ i. expr_meaning (ex.OneOf v (k i) (exprs_are xs zs ws r i)));
-        cast = λ x z w t k. eq.of_cast meaning z t ∙ (λ i. expr_meaning (ex.Cast (k i) t));
-        cases = λ xs zs ws x z w r k. eq.of_cases meaning zs z ∙ (λ i. expr_meaning (ex.Cases (arms_are xs zs ws r i) (optional_is x z w k i)));
-        call = λ name xs zs ws r. eq.of_call meaning name zs ∙ (λ i. expr_meaning (ex.Call name (exprs_are xs zs ws r i)));
-        count_rows = refl;
-        scalar = λ x z w k. eq.of_scalar meaning z ∙ (λ i. expr_meaning (ex.Scalar (k i)));
-        exists = λ x z w k. eq.of_exists meaning z ∙ (λ i. expr_meaning (ex.Exists (k i)));
-        table = λ name columns i cx frame. Ok (slice_index_or cx.tables (digits_value 10 (first_kept columns i)) []);
-        sub = λ x z w lateral k columns. ap (λ s. s []) (eq.of_sub meaning z lateral) ∙ (λ i. source_meaning (ex.Sub (k i) lateral) columns);
-        from = λ x z w alias columns k. k columns;
-        item = λ x z w alias k. k;
-        key = λ x z w descending k i. key_meaning (record { expr = k i; descending = descending });
-        select = λ l₁ l₂ l₃ f₁ f₂ f₃ w₁ w₂ w₃ o₁ o₂ o₃ m₁ m₂ m₃ lr fr wr kr mr.
-            eq.of_select meaning l₂ f₂ w₂ o₂ m₂ ∙ (λ i. select_meaning (record { list = items_are l₁ l₂ l₃ lr i; from = froms_are f₁ f₂ f₃ fr i; filter = optional_is w₁ w₂ w₃ wr i; order = keys_are o₁ o₂ o₃ kr i; limit = optional_is m₁ m₂ m₃ mr i }));
-        recursive = λ name columns xs zs ws x z w r k. eq.of_recursive meaning [] [] zs z ∙ (λ i. recursive_meaning (record { name = []; columns = []; first = selects_are xs zs ws r i; second = k i }));
-        query = λ x z w xs zs ws k r. eq.query_roll meaning z zs ∙ (λ i. query_meaning (record { recursive = recursives_are x z w k i; selects = selects_are xs zs ws r i }))
+      no_expr = refl;
+      no_query = eq.of_query meaning [];
+      int = λ n. refl;
+      str = λ t. refl;
+      bool = λ v. refl;
+      null = refl;
+      named = λ t. refl;
+      dotted = λ t s. refl;
+      slot = λ i. refl;
+      column = λ c. refl;
+      param = λ i t. refl;
+      neg = λ x z w k. eq.of_neg meaning z ∙ (λ i. expr_meaning (ex.Neg (k i)));
+      neg_small = λ x z w k. eq.of_negsmall meaning z ∙ (λ i. expr_meaning (ex.NegSmall (k i)));
+      not = λ x z w k. eq.of_not meaning z ∙ (λ i. expr_meaning (ex.Not (k i)));
+      is = λ x z w test negative k. eq.of_is meaning z test negative ∙ (λ i. expr_meaning (ex.Is (k i) test negative));
+      chain = λ x z w xs zs ws k r. eq.of_chain meaning z zs ∙ (λ i. expr_meaning (ex.Chain (k i) (links_are xs zs ws r i)));
+      compare = λ op x₁ x₂ z₁ z₂ w₁ w₂ k₁ k₂. eq.of_compare meaning op z₁ z₂ ∙ (λ i. expr_meaning (ex.Compare op (k₁ i) (k₂ i)));
+      between = λ v x₁ x₂ x₃ z₁ z₂ z₃ w₁ w₂ w₃ k₁ k₂ k₃. eq.of_between meaning v z₁ z₂ z₃ ∙ (λ i. expr_meaning (ex.Between v (k₁ i) (k₂ i) (k₃ i)));
+      one_of = λ v x z w xs zs ws k r. eq.of_oneof meaning v z zs ∙ (λ i. expr_meaning (ex.OneOf v (k i) (exprs_are xs zs ws r i)));
+      cast = λ x z w t k. eq.of_cast meaning z t ∙ (λ i. expr_meaning (ex.Cast (k i) t));
+      cases = λ xs zs ws x z w r k. eq.of_cases meaning zs z ∙ (λ i. expr_meaning (ex.Cases (arms_are xs zs ws r i) (optional_is x z w k i)));
+      call = λ name xs zs ws r. eq.of_call meaning name zs ∙ (λ i. expr_meaning (ex.Call name (exprs_are xs zs ws r i)));
+      count_rows = refl;
+      scalar = λ x z w k. eq.of_scalar meaning z ∙ (λ i. expr_meaning (ex.Scalar (k i)));
+      exists = λ x z w k. eq.of_exists meaning z ∙ (λ i. expr_meaning (ex.Exists (k i)));
+      table = λ name columns i cx frame. Ok (slice_index_or cx.tables (digits_value 10 (first_kept columns i)) []);
+      sub = λ x z w lateral k columns. ap (λ s. s []) (eq.of_sub meaning z lateral) ∙ (λ i. source_meaning (ex.Sub (k i) lateral) columns);
+      from = λ x z w alias columns k. k columns;
+      item = λ x z w alias k. k;
+      key = λ x z w descending k i. key_meaning (record { expr = k i; descending = descending });
+      select = λ l₁ l₂ l₃ f₁ f₂ f₃ w₁ w₂ w₃ o₁ o₂ o₃ m₁ m₂ m₃ lr fr wr kr mr.
+          eq.of_select meaning l₂ f₂ w₂ o₂ m₂ ∙ (λ i. select_meaning (record { list = items_are l₁ l₂ l₃ lr i; from = froms_are f₁ f₂ f₃ fr i; filter = optional_is w₁ w₂ w₃ wr i; order = keys_are o₁ o₂ o₃ kr i; limit = optional_is m₁ m₂ m₃ mr i }));
+      recursive = λ name columns xs zs ws x z w r k. eq.of_recursive meaning [] [] zs z ∙ (λ i. recursive_meaning (record { name = []; columns = []; first = selects_are xs zs ws r i; second = k i }));
+      query = λ x z w xs zs ws k r. eq.query_roll meaning z zs ∙ (λ i. query_meaning (record { recursive = recursives_are x z w k i; selects = selects_are xs zs ws r i }));
     }
 
 pub bare_means : (q : Query) → query_of meaning (bare q) ≡ query_of meaning q

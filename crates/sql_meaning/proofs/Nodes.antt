@@ -13,9 +13,9 @@ use Rattle.away_core.specs.Operators.{negation_if}
 use Rattle.away_core.specs.Results.{Or, and_then, mapped, each, each_joined}
 use Rattle.away_core.specs.Algebra.{expr_of, recursive_of, select_of}
 use Rattle.away_core.proofs.Equations as eq
-use Rattle.sql_meaning.specs.Context.{Rows, Frame, Context, at_row, outermost}
+use Rattle.sql_meaning.specs.Context.{Rows, Context, at_row, outermost}
 use Rattle.sql_meaning.specs.Equations.{all_values, known, recursive_part}
-use Rattle.sql_meaning.specs.Expressions.{ExprMeaning, RecursiveMeaning, values, answers, over_group, called, other_value}
+use Rattle.sql_meaning.specs.Expressions.{ExprMeaning, values, over_group, called}
 use Rattle.sql_meaning.specs.Functions.{Function, Length, Substr, Coalesce, Greatest, Least, Count, Min, Max, Sum, BoolAnd, BoolOr, Unknown, aggregate, function, is_aggregate, scalar}
 use Rattle.sql_meaning.specs.Meaning.{has_aggregate, meaning, rows_of_query, rows_of_select, value}
 use Rattle.sql_meaning.specs.Parts.{among, chained, chosen, first_known}

@@ -1,14 +1,12 @@
 -- An expression has the same value in two contexts that agree on what it reads.
-use Rattle.std.proofs.Common.{◌≡◌, refl, ap, sym, ◌∙◌, ℕ, suc, Bool, true, false, ◌&&◌, nat_lt, List, [], ◌∷◌, ◌++◌, slice_index_or, Option, Some, None, Ok}
+use Rattle.std.proofs.Common.{◌≡◌, refl, ap, ℕ, suc, Bool, true, nat_lt, List, [], ◌++◌, slice_index_or, Option, Ok}
 use Rattle.std.specs.List.{list_all, flat_map}
-use Rattle.away_core.specs.declared.types.Ty.{Ty}
 use Rattle.away_core.specs.declared.operators.ChainOp.{ChainOp}
 use Rattle.away_core.specs.declared.queries.Expr.{Expr}
-use Rattle.away_core.specs.declared.queries.Expr.TheOpen as ex
 use Rattle.away_core.specs.Results.{Or}
 use Rattle.away_core.specs.Algebra.{expr_of}
-use Rattle.sql_meaning.specs.Context.{Rows, Context, argument, at}
-use Rattle.sql_meaning.specs.Expressions.{ExprMeaning, SourceMeaning, FromMeaning, SelectMeaning, KeyMeaning, RecursiveMeaning, QueryMeaning, expr_meaning}
+use Rattle.sql_meaning.specs.Context.{Context, argument, at}
+use Rattle.sql_meaning.specs.Expressions.{ExprMeaning, SourceMeaning, FromMeaning, SelectMeaning, KeyMeaning, QueryMeaning}
 use Rattle.sql_meaning.specs.Meaning.{meaning}
 use Rattle.sql_meaning.specs.Reads.{Read, Reads, SourceReads, reading, allows, of_list, of_option}
 use Rattle.sql_meaning.specs.Selects.{place_of}
@@ -55,14 +53,14 @@ module _ (one two : same.Surroundings) (slots : ℕ → Bool) (params places : �
   abbrev relation : Relation meaning reading meaning
   relation =
       record {
-          Exprs = Exprs;
-          Sources = Sources;
-          Froms = Froms;
-          Items = Exprs;
-          Keys = Keys;
-          Queries = Queries;
-          Recursives = λ x u z. Unit {0};
-          Selects = Selects
+        Exprs = Exprs;
+        Sources = Sources;
+        Froms = Froms;
+        Items = Exprs;
+        Keys = Keys;
+        Queries = Queries;
+        Recursives = λ x u z. Unit {0};
+        Selects = Selects;
       }
 
   -- ---- lists of parts
@@ -98,43 +96,43 @@ module _ (one two : same.Surroundings) (slots : ℕ → Bool) (params places : �
     steps : IsKept meaning reading meaning relation
     steps =
         record {
-            no_expr = λ d h. (refl, λ l g r. refl);
-            no_query = λ d h l g r. refl;
-            int = λ n d h. (refl, λ l g r. refl);
-            str = λ t d h. (refl, λ l g r. refl);
-            bool = λ v d h. (refl, λ l g r. refl);
-            null = λ d h. (refl, λ l g r. refl);
-            named = λ t d h. (refl, λ l g r. refl);
-            dotted = λ t s d h. (refl, λ l g r. refl);
-            slot = λ i d h. (refl, λ l g r. ap Ok (agree i (and_first (slots i) true h)));
-            column = λ c d h. same.column_same one two d c (own_column ok (nat_lt c.level d) c refl h);
-            param = λ i t d h. (refl, λ l g r. ap Ok (given i (and_first (nat_lt i params) true h)));
-            neg = λ x u z k d h. same.neg_same one two d x z (k d h);
-            neg_small = λ x u z k d h. same.neg_small_same one two d x z (k d h);
-            not = λ x u z k d h. same.not_same one two d x z (k d h);
-            is = λ x u z test negative k d h. same.is_same one two d x z test negative (k d h);
-            chain = λ x u z xs us zs k r d h. same.chain_same one two d x z xs zs (k d (left ok (u d) _ h)) (links d xs us zs r (right ok (u d) _ h));
-            compare = λ op x₁ x₂ u₁ u₂ z₁ z₂ k₁ k₂ d h. same.compare_same one two d op x₁ x₂ z₁ z₂ (k₁ d (left ok (u₁ d) _ h)) (k₂ d (right ok (u₁ d) _ h));
-            between = λ v x₁ x₂ x₃ u₁ u₂ u₃ z₁ z₂ z₃ k₁ k₂ k₃ d h. same.between_same one two d v x₁ x₂ x₃ z₁ z₂ z₃ (k₁ d (left ok (u₁ d) _ h)) (k₂ d (left ok (u₂ d) _ (right ok (u₁ d) _ h))) (k₃ d (right ok (u₂ d) _ (right ok (u₁ d) _ h)));
-            one_of = λ v x u z xs us zs k r d h. same.one_of_same one two d v x z xs zs (k d (left ok (u d) _ h)) (exprs d xs us zs r (right ok (u d) _ h));
-            cast = λ x u z t k d h. same.cast_same one two d x z t (k d h);
-            cases = λ xs us zs x u z r k d h. same.cases_same one two d xs zs x z (arms d xs us zs r (left ok (flat_map (λ a. arm_reads d a) us) _ h)) (option d x u z k (right ok (flat_map (λ a. arm_reads d a) us) _ h));
-            call = λ name xs us zs r d h. same.call_same one two d name xs zs (exprs d xs us zs r h);
-            count_rows = λ d h. (refl, λ l g r. refl);
-            scalar = λ x u z k d h. same.scalar_same one two d x z (k d h);
-            exists = λ x u z k d h. same.exists_same one two d x z (k d h);
-            table = λ name d columns h frame l g r. ap Ok (stands (place_of columns) (and_first (nat_lt (place_of columns) places) true h));
-            sub = λ x u z lateral k d columns h frame l g r. same.sub_same one two d x z lateral (k (suc d) h) frame l g r;
-            from = λ x u z alias columns k d h. k d columns h;
-            item = λ x u z alias k. k;
-            key = λ x u z descending k d h. (refl, (k d h).1);
-            select = λ l₁ l₂ l₃ f₁ f₂ f₃ w₁ w₂ w₃ o₁ o₂ o₃ m₁ m₂ m₃ lr fr wr kr mr d h.
-                let h₁ = right ok (of_list (suc d) l₂) _ h in
-                let h₂ = right ok (of_list (suc d) f₂) _ h₁ in
-                let h₃ = right ok (of_option (suc d) w₂) _ h₂ in
-                same.select_same one two d l₁ l₃ f₁ f₃ w₁ w₃ o₁ o₃ m₁ m₃ (exprs (suc d) l₁ l₂ l₃ lr (left ok (of_list (suc d) l₂) _ h)) (froms d f₁ f₂ f₃ fr (left ok (of_list (suc d) f₂) _ h₁)) (option (suc d) w₁ w₂ w₃ wr (left ok (of_option (suc d) w₂) _ h₂)) (keys (suc d) o₁ o₂ o₃ kr (left ok (of_list (suc d) o₂) _ h₃)) (option (suc d) m₁ m₂ m₃ mr (right ok (of_list (suc d) o₂) _ h₃));
-            recursive = λ name columns xs us zs x u z r k. tt;
-            query = λ x u z xs us zs h r d p l g ready. same.union_same one two d xs zs (selects d xs us zs r p) l g ready
+          no_expr = λ d h. (refl, λ l g r. refl);
+          no_query = λ d h l g r. refl;
+          int = λ n d h. (refl, λ l g r. refl);
+          str = λ t d h. (refl, λ l g r. refl);
+          bool = λ v d h. (refl, λ l g r. refl);
+          null = λ d h. (refl, λ l g r. refl);
+          named = λ t d h. (refl, λ l g r. refl);
+          dotted = λ t s d h. (refl, λ l g r. refl);
+          slot = λ i d h. (refl, λ l g r. ap Ok (agree i (and_first (slots i) true h)));
+          column = λ c d h. same.column_same one two d c (own_column ok (nat_lt c.level d) c refl h);
+          param = λ i t d h. (refl, λ l g r. ap Ok (given i (and_first (nat_lt i params) true h)));
+          neg = λ x u z k d h. same.neg_same one two d x z (k d h);
+          neg_small = λ x u z k d h. same.neg_small_same one two d x z (k d h);
+          not = λ x u z k d h. same.not_same one two d x z (k d h);
+          is = λ x u z test negative k d h. same.is_same one two d x z test negative (k d h);
+          chain = λ x u z xs us zs k r d h. same.chain_same one two d x z xs zs (k d (left ok (u d) _ h)) (links d xs us zs r (right ok (u d) _ h));
+          compare = λ op x₁ x₂ u₁ u₂ z₁ z₂ k₁ k₂ d h. same.compare_same one two d op x₁ x₂ z₁ z₂ (k₁ d (left ok (u₁ d) _ h)) (k₂ d (right ok (u₁ d) _ h));
+          between = λ v x₁ x₂ x₃ u₁ u₂ u₃ z₁ z₂ z₃ k₁ k₂ k₃ d h. same.between_same one two d v x₁ x₂ x₃ z₁ z₂ z₃ (k₁ d (left ok (u₁ d) _ h)) (k₂ d (left ok (u₂ d) _ (right ok (u₁ d) _ h))) (k₃ d (right ok (u₂ d) _ (right ok (u₁ d) _ h)));
+          one_of = λ v x u z xs us zs k r d h. same.one_of_same one two d v x z xs zs (k d (left ok (u d) _ h)) (exprs d xs us zs r (right ok (u d) _ h));
+          cast = λ x u z t k d h. same.cast_same one two d x z t (k d h);
+          cases = λ xs us zs x u z r k d h. same.cases_same one two d xs zs x z (arms d xs us zs r (left ok (flat_map (λ a. arm_reads d a) us) _ h)) (option d x u z k (right ok (flat_map (λ a. arm_reads d a) us) _ h));
+          call = λ name xs us zs r d h. same.call_same one two d name xs zs (exprs d xs us zs r h);
+          count_rows = λ d h. (refl, λ l g r. refl);
+          scalar = λ x u z k d h. same.scalar_same one two d x z (k d h);
+          exists = λ x u z k d h. same.exists_same one two d x z (k d h);
+          table = λ name d columns h frame l g r. ap Ok (stands (place_of columns) (and_first (nat_lt (place_of columns) places) true h));
+          sub = λ x u z lateral k d columns h frame l g r. same.sub_same one two d x z lateral (k (suc d) h) frame l g r;
+          from = λ x u z alias columns k d h. k d columns h;
+          item = λ x u z alias k. k;
+          key = λ x u z descending k d h. (refl, (k d h).1);
+          select = λ l₁ l₂ l₃ f₁ f₂ f₃ w₁ w₂ w₃ o₁ o₂ o₃ m₁ m₂ m₃ lr fr wr kr mr d h.
+              let h₁ = right ok (of_list (suc d) l₂) _ h in
+              let h₂ = right ok (of_list (suc d) f₂) _ h₁ in
+              let h₃ = right ok (of_option (suc d) w₂) _ h₂ in
+              same.select_same one two d l₁ l₃ f₁ f₃ w₁ w₃ o₁ o₃ m₁ m₃ (exprs (suc d) l₁ l₂ l₃ lr (left ok (of_list (suc d) l₂) _ h)) (froms d f₁ f₂ f₃ fr (left ok (of_list (suc d) f₂) _ h₁)) (option (suc d) w₁ w₂ w₃ wr (left ok (of_option (suc d) w₂) _ h₂)) (keys (suc d) o₁ o₂ o₃ kr (left ok (of_list (suc d) o₂) _ h₃)) (option (suc d) m₁ m₂ m₃ mr (right ok (of_list (suc d) o₂) _ h₃));
+          recursive = λ name columns xs us zs x u z r k. tt;
+          query = λ x u z xs us zs h r d p l g ready. same.union_same one two d xs zs (selects d xs us zs r p) l g ready;
         }
 
     pub reads_same : (e : Expr) → list_all ok (expr_of reading e 0) ≡ true → Same 0 (expr_of meaning e) (expr_of meaning e)

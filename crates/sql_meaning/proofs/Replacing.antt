@@ -1,5 +1,5 @@
 -- A replaced expression has in one context the value that the expression has in another.
-use Rattle.std.proofs.Common.{◌≡◌, refl, ap, sym, ◌∙◌, subst, ℕ, suc, ℤ, Bool, true, false, ◌&&◌, nat_lt, List, [], ◌∷◌, ◌++◌, map, slice_index_or, Option, Some, None, option_map, Ok}
+use Rattle.std.proofs.Common.{◌≡◌, refl, ap, sym, ◌∙◌, subst, ℕ, suc, Bool, true, nat_lt, List, [], ◌++◌, map, slice_index_or, Option, option_map, Ok}
 use Rattle.std.specs.List.{list_all, flat_map}
 use Rattle.away_core.specs.declared.types.Ty.{Ty}
 use Rattle.away_core.specs.declared.types.Ty.TheVariants as ty
@@ -8,7 +8,6 @@ use Rattle.away_core.specs.declared.values.Value.TheVariants as val
 use Rattle.away_core.specs.declared.operators.ChainOp.{ChainOp}
 use Rattle.away_core.specs.declared.operators.CmpOp.{CmpOp}
 use Rattle.away_core.specs.declared.operators.IsTest.{IsTest}
-use Rattle.away_core.specs.declared.queries.Col.{Col}
 use Rattle.away_core.specs.declared.queries.Expr.{Expr}
 use Rattle.away_core.specs.declared.queries.Expr.TheVariants as expr
 use Rattle.away_core.specs.declared.queries.Expr.TheOpen as ex
@@ -24,7 +23,7 @@ use Rattle.away_core.specs.Operators.{cast}
 use Rattle.away_core.specs.Results.{Or}
 use Rattle.away_core.specs.Algebra.{expr_of, item_of, key_of, source_of, from_of, select_of, query_of}
 use Rattle.away_core.proofs.Equations as eq
-use Rattle.sql_meaning.specs.Context.{Rows, Frame, Context, argument, at}
+use Rattle.sql_meaning.specs.Context.{Context, argument}
 use Rattle.sql_meaning.specs.Expressions.{ExprMeaning, SourceMeaning, FromMeaning, SelectMeaning, KeyMeaning, RecursiveMeaning, QueryMeaning, constant, expr_meaning}
 use Rattle.sql_meaning.specs.Meaning.{meaning}
 use Rattle.sql_meaning.specs.Placed.{Deep, replacing, replaced, select_in_place, query_in_place}
@@ -71,14 +70,14 @@ module _ (one two : same.Surroundings) (slots : ℕ → Bool) (params places : �
   abbrev relation : Relation meaning reading (replacing leaf literal)
   relation =
       record {
-          Exprs = Exprs;
-          Sources = Sources;
-          Froms = Froms;
-          Items = Items;
-          Keys = Keys;
-          Queries = Queries;
-          Recursives = λ x u z. Unit {0};
-          Selects = Selects
+        Exprs = Exprs;
+        Sources = Sources;
+        Froms = Froms;
+        Items = Items;
+        Keys = Keys;
+        Queries = Queries;
+        Recursives = λ x u z. Unit {0};
+        Selects = Selects;
       }
 
   -- ---- the steps
@@ -198,39 +197,39 @@ module _ (one two : same.Surroundings) (slots : ℕ → Bool) (params places : �
     steps : IsKept meaning reading (replacing leaf literal) relation
     steps =
         record {
-            no_expr = λ d h. (refl, λ l g r. refl);
-            no_query = λ d h l g r. ap (λ w. w.rows (same.there one two l g)) (eq.of_query meaning []);
-            int = λ n d h. literals (expr.Int n) ty.Bigint (val.Int n) refl refl d;
-            str = λ t d h. literals (expr.Str t) ty.Text (val.Text t) refl refl d;
-            bool = λ v d h. literals (expr.Bool v) ty.Boolean (val.Bool v) refl refl d;
-            null = λ d h. (refl, λ l g r. refl);
-            named = λ t d h. (refl, λ l g r. refl);
-            dotted = λ t s d h. (refl, λ l g r. refl);
-            slot = λ i d h. leaves d i (and_first (slots i) true h);
-            column = λ c d h. same.column_same one two d c (own_column ok (nat_lt c.level d) c refl h);
-            param = λ i t d h. (refl, λ l g r. ap Ok (given i (and_first (nat_lt i params) true h)));
-            neg = neg;
-            neg_small = neg_small;
-            not = negation;
-            is = is;
-            chain = chain;
-            compare = compare;
-            between = between;
-            one_of = one_of;
-            cast = to_type;
-            cases = cases;
-            call = call;
-            count_rows = λ d h. (refl, λ l g r. refl);
-            scalar = scalar;
-            exists = exists;
-            table = λ name d columns h frame l g r. ap Ok (stands (place_of columns) (and_first (nat_lt (place_of columns) places) true h));
-            sub = sub;
-            from = λ x u z alias columns k d h. k d columns h;
-            item = λ x u z alias k. k;
-            key = λ x u z descending k d h. (refl, (k d h).1);
-            select = select;
-            recursive = λ name columns xs ys zs x y z h k. tt;
-            query = λ x u z xs us zs h r. query x z xs us zs r
+          no_expr = λ d h. (refl, λ l g r. refl);
+          no_query = λ d h l g r. ap (λ w. w.rows (same.there one two l g)) (eq.of_query meaning []);
+          int = λ n d h. literals (expr.Int n) ty.Bigint (val.Int n) refl refl d;
+          str = λ t d h. literals (expr.Str t) ty.Text (val.Text t) refl refl d;
+          bool = λ v d h. literals (expr.Bool v) ty.Boolean (val.Bool v) refl refl d;
+          null = λ d h. (refl, λ l g r. refl);
+          named = λ t d h. (refl, λ l g r. refl);
+          dotted = λ t s d h. (refl, λ l g r. refl);
+          slot = λ i d h. leaves d i (and_first (slots i) true h);
+          column = λ c d h. same.column_same one two d c (own_column ok (nat_lt c.level d) c refl h);
+          param = λ i t d h. (refl, λ l g r. ap Ok (given i (and_first (nat_lt i params) true h)));
+          neg = neg;
+          neg_small = neg_small;
+          not = negation;
+          is = is;
+          chain = chain;
+          compare = compare;
+          between = between;
+          one_of = one_of;
+          cast = to_type;
+          cases = cases;
+          call = call;
+          count_rows = λ d h. (refl, λ l g r. refl);
+          scalar = scalar;
+          exists = exists;
+          table = λ name d columns h frame l g r. ap Ok (stands (place_of columns) (and_first (nat_lt (place_of columns) places) true h));
+          sub = sub;
+          from = λ x u z alias columns k d h. k d columns h;
+          item = λ x u z alias k. k;
+          key = λ x u z descending k d h. (refl, (k d h).1);
+          select = select;
+          recursive = λ name columns xs ys zs x y z h k. tt;
+          query = λ x u z xs us zs h r. query x z xs us zs r;
         }
 
     pub replaced_same : (e : Expr) → list_all ok (expr_of reading e 0) ≡ true → Same 0 (expr_of meaning e) (expr_of meaning (replaced leaf literal 0 e))

@@ -1,5 +1,5 @@
 -- The working tables of the template of one RETURN: the call, the finished row, and nothing.
-use Rattle.std.proofs.Common.{◌≡◌, refl, ap, sym, ◌∙◌, subst, ℕ, zero, suc, ◌+◌, ◌<◌, ◌^◌, pos, Bool, true, false, ◌||◌, if◌then◌else◌, nat_lt, List, [], ◌∷◌, ◌++◌, map, length, slice_index_or, decimal, Option, Some, None, Ok, Err, option_map, arith}
+use Rattle.std.proofs.Common.{◌≡◌, refl, ap, sym, ◌∙◌, subst, ℕ, suc, ◌+◌, ◌<◌, ◌^◌, pos, Bool, true, false, ◌||◌, if◌then◌else◌, nat_lt, List, [], ◌∷◌, ◌++◌, map, length, slice_index_or, decimal, Some, None, Ok, Err, arith}
 use Rattle.std.proofs.lemmas.List.{get_or_append_left}
 use Rattle.std.proofs.lemmas.Bool.{ltb-true}
 use Rattle.away_core.specs.declared.types.Ty.{Ty}
@@ -12,17 +12,16 @@ use Rattle.away_core.specs.declared.queries.Expr.{Expr}
 use Rattle.away_core.specs.declared.queries.Expr.TheVariants as expr
 use Rattle.away_core.specs.declared.queries.FromItem.{FromItem}
 use Rattle.away_core.specs.declared.queries.Select.{Select}
-use Rattle.away_core.specs.Operators.{compare, is_true, negation, cast, fits, fits_small, small}
+use Rattle.away_core.specs.Operators.{compare, is_true, negation, cast, fits_small}
 use Rattle.away_core.specs.Results.{Or, and_then, mapped}
 use Rattle.away_core.specs.Algebra.{expr_of, from_of}
 use Rattle.away_core.proofs.Equations as eq
-use Rattle.sql_meaning.specs.Context.{Rows, Frame, Context, at, argument, column, inside, outermost}
+use Rattle.sql_meaning.specs.Context.{Rows, Frame, Context, at, column, inside, outermost}
 use Rattle.sql_meaning.specs.Expressions.{FromMeaning, values}
 use Rattle.sql_meaning.specs.Meaning.{meaning, value, has_aggregate, rows_of_item, rows_of_select}
 use Rattle.sql_meaning.specs.OneReturn.{body, IsSource}
 use Rattle.sql_meaning.specs.Placed.{placed_at}
-use Rattle.sql_meaning.specs.Reads as reads
-use Rattle.sql_meaning.specs.Selects.{product, extend, keep, keep_if, kept}
+use Rattle.sql_meaning.specs.Selects.{product, extend, keep, keep_if}
 use Rattle.sql_meaning.specs.Substitution.{Keeps}
 use Rattle.sql_meaning.specs.Template.{below, slot_at, gate, let_item, arguments, start, is_label, branch, step, last}
 use Rattle.sql_meaning.specs.Trees.{col, cast_to, number, truth, null_of, select, one, lateral, table}
@@ -92,8 +91,8 @@ rows_of_start T params result args typed =
 
 is_test : (cx : Context) → Is cx is_label (compare cmp.Eq (column cx.frames (record { level = 2; item = 0; column = 1 })) (val.Int (pos 1)))
 is_test cx = record {
-    gives = ap (λ x. x.value cx) (eq.of_compare meaning cmp.Eq (col 2 0 1) (number (pos 1))) ∙ (λ i. and_then ((is_col cx 2 0 1).gives i) (λ v. mapped (compare cmp.Eq v) ((is_number cx (pos 1)).gives i)));
-    single = ap (λ x. x.aggregates) (eq.of_compare meaning cmp.Eq (col 2 0 1) (number (pos 1))) ∙ (λ i. (is_col cx 2 0 1).single i || (is_number cx (pos 1)).single i)
+  gives = ap (λ x. x.value cx) (eq.of_compare meaning cmp.Eq (col 2 0 1) (number (pos 1))) ∙ (λ i. and_then ((is_col cx 2 0 1).gives i) (λ v. mapped (compare cmp.Eq v) ((is_number cx (pos 1)).gives i)));
+  single = ap (λ x. x.aggregates) (eq.of_compare meaning cmp.Eq (col 2 0 1) (number (pos 1))) ∙ (λ i. (is_col cx 2 0 1).single i || (is_number cx (pos 1)).single i);
 }
 
 abbrev gate_select : Select

@@ -14,7 +14,7 @@ use Rattle.away_core.specs.declared.queries.Col.{Col}
 use Rattle.away_core.specs.declared.queries.Expr.TheOpen as ex
 use Rattle.away_core.specs.Operators.{compare, is_null, negated, negation, negation_if, passes, cast, small}
 use Rattle.away_core.specs.Results.{Or, and_then, mapped, each, each_joined}
-use Rattle.sql_meaning.specs.Context.{Rows, Frame, Context, column, at_row}
+use Rattle.sql_meaning.specs.Context.{Rows, Frame, Context, at_row}
 use Rattle.sql_meaning.specs.Expressions.{ExprMeaning, FromMeaning, SelectMeaning, KeyMeaning, QueryMeaning, answers, link_answers, arm_answers, values, any_aggregates, other_value, other_aggregates, over_group, called, expr_meaning}
 use Rattle.sql_meaning.specs.Functions.{Function, Coalesce, function, is_aggregate, aggregate, scalar}
 use Rattle.sql_meaning.specs.Parts.{between, chained, among, chosen, first_known, only, has_row}
@@ -215,7 +215,7 @@ module _ (one two : Surroundings) where
   listed_same : (d : ℕ) (xs ys : List ExprMeaning) → Zipped (Same (suc d)) xs ys → (ks js : List KeyMeaning) → Zipped (SameKey (suc d)) ks js → (frames : List Frame) → Gives d (λ cx. listed cx xs ks frames) (λ cx. listed cx ys js frames)
   listed_same d xs ys h ks js k frames l g r =
       λ i. if any_terms (suc d) xs ys h i then mapped (λ row. row ∷ []) (values_same (suc d) xs ys h ([] ∷ l) frames (into d l g r [] frames) i)
-          else and_then (each (λ frame. values_same (suc d) xs ys h (frame ∷ l) [] (into d l g r frame []) i) frames) (λ rows. ordered_same d ks js k frames rows l g r i)
+      else and_then (each (λ frame. values_same (suc d) xs ys h (frame ∷ l) [] (into d l g r frame []) i) frames) (λ rows. ordered_same d ks js k frames rows l g r i)
 
   pub select_same : (d : ℕ) (l₁ l₂ : List ExprMeaning) (f₁ f₂ : List FromMeaning) (w₁ w₂ : Option ExprMeaning) (o₁ o₂ : List KeyMeaning) (m₁ m₂ : Option ExprMeaning) → Zipped (Same (suc d)) l₁ l₂ → Zipped (SameFrom d) f₁ f₂ → ZippedOption (Same (suc d)) w₁ w₂ → Zipped (SameKey (suc d)) o₁ o₂ → ZippedOption (Same (suc d)) m₁ m₂ → Gives d (select_meaning (record { list = l₁; from = f₁; filter = w₁; order = o₁; limit = m₁ })) (select_meaning (record { list = l₂; from = f₂; filter = w₂; order = o₂; limit = m₂ }))
   select_same d l₁ l₂ f₁ f₂ w₁ w₂ o₁ o₂ m₁ m₂ a f c k m l g r =

@@ -1,5 +1,5 @@
 -- The rows of a select, of a table and of a LATERAL subquery, by those of their parts.
-use Rattle.std.proofs.Common.{◌≡◌, refl, ap, ◌∙◌, ℕ, ◌<◌, ◌^◌, ℤ, Bool, true, false, ◌||◌, cond, List, [], ◌∷◌, ◌++◌, map, decimal, slice_index_or, Option, None, Ok, Err, option_map}
+use Rattle.std.proofs.Common.{◌≡◌, refl, ap, ◌∙◌, ℕ, ◌<◌, ◌^◌, ℤ, Bool, true, false, ◌||◌, cond, List, [], ◌∷◌, ◌++◌, map, slice_index_or, Option, None, Ok, Err, option_map}
 use Rattle.std.proofs.lemmas.Fmt.{decimal_is_IsNumeral}
 use Rattle.away_core.specs.declared.types.Ty.{Ty}
 use Rattle.away_core.specs.declared.types.Ty.TheVariants as ty
@@ -12,7 +12,7 @@ use Rattle.away_core.specs.declared.queries.FromItem.{FromItem}
 use Rattle.away_core.specs.declared.queries.Select.{Select}
 use Rattle.away_core.specs.Operators.{cast}
 use Rattle.away_core.specs.Results.{Or, and_then, mapped, each}
-use Rattle.away_core.specs.Algebra.{expr_of, item_of, from_of, select_of}
+use Rattle.away_core.specs.Algebra.{expr_of, item_of, from_of}
 use Rattle.away_core.proofs.Equations as eq
 use Rattle.sql_meaning.specs.Context.{Rows, Frame, Context, inside, over, column}
 use Rattle.sql_meaning.specs.Expressions.{ExprMeaning, FromMeaning, values, any_aggregates}
@@ -29,8 +29,8 @@ pub record Is (cx : Context) (e : Expr) (v : Value) : Type 0 where
 
 pub is_cast : (cx : Context) (e : Expr) (v w : Value) (t : Ty) → Is cx e v → cast t v ≡ Ok w → Is cx (expr.Cast e t) w
 is_cast cx e v w t h k = record {
-    gives = ap (λ x. x.value cx) (eq.of_cast meaning e t) ∙ (ap (λ o. and_then o (cast t)) h.gives ∙ k);
-    single = ap (λ x. x.aggregates) (eq.of_cast meaning e t) ∙ h.single
+  gives = ap (λ x. x.value cx) (eq.of_cast meaning e t) ∙ (ap (λ o. and_then o (cast t)) h.gives ∙ k);
+  single = ap (λ x. x.aggregates) (eq.of_cast meaning e t) ∙ h.single;
 }
 
 pub is_number : (cx : Context) (k : ℤ) → Is cx (t.number k) (val.Int k)
@@ -66,8 +66,8 @@ none cx = record { gives = refl; single = refl }
 
 pub more : (cx : Context) (e : Expr) (es : List Expr) (v : Value) (vs : List Value) → Is cx e v → Are cx es vs → Are cx (e ∷ es) (v ∷ vs)
 more cx e es v vs h rest = record {
-    gives = λ i. and_then (h.gives i) (λ v. mapped (λ ys. v ∷ ys) (rest.gives i));
-    single = λ i. h.single i || rest.single i
+  gives = λ i. and_then (h.gives i) (λ v. mapped (λ ys. v ∷ ys) (rest.gives i));
+  single = λ i. h.single i || rest.single i;
 }
 
 -- an expression for each member of a list

@@ -1,10 +1,9 @@
 -- Substitution, and that only the slots that are read matter.
-use Rattle.std.proofs.Common.{◌≡◌, refl, ap, sym, ◌∙◌, ℕ, zero, suc, ◌+◌, ◌<◌, Bool, true, false, not, ◌&&◌, ◌||◌, ◌==◌, if◌then◌else◌, subst, nat_lt, length, List, [], ◌∷◌, ◌++◌, slice_index_or, filter, Option, Some, None, Ok, All, arith}
+use Rattle.std.proofs.Common.{◌≡◌, refl, ap, sym, ◌∙◌, ℕ, suc, ◌+◌, Bool, true, false, not, ◌||◌, ◌==◌, if◌then◌else◌, subst, nat_lt, length, List, [], ◌∷◌, ◌++◌, slice_index_or, filter, Ok, All, arith}
 use Rattle.std.proofs.lemmas.Bool.{eqb-true, eq-eqb}
 use Rattle.std.proofs.lemmas.List.{get_or-append-add}
 use Rattle.std.specs.List.{list_all, list_any, filter_map}
 use Rattle.away_core.specs.declared.types.Ty.{Ty}
-use Rattle.away_core.specs.declared.types.Ty.TheVariants as ty
 use Rattle.away_core.specs.declared.values.Value.{Value}
 use Rattle.away_core.specs.declared.values.Value.TheVariants as val
 use Rattle.away_core.specs.declared.queries.Col.{Col}
@@ -13,14 +12,14 @@ use Rattle.away_core.specs.declared.queries.Expr.TheVariants as expr
 use Rattle.away_core.specs.declared.queries.Expr.TheBlock as b
 use Rattle.away_core.specs.declared.queries.Expr.TheOpen as ex
 use Rattle.away_core.specs.Operators.{cast}
-use Rattle.away_core.specs.Results.{Or, and_then}
+use Rattle.away_core.specs.Results.{and_then}
 use Rattle.away_core.specs.Algebra.{expr_of}
 use Rattle.away_core.proofs.Equations.{of_cast}
-use Rattle.sql_meaning.specs.Context.{Rows, Frame, Context, at, column, argument}
-use Rattle.sql_meaning.specs.Expressions.{ExprMeaning, constant, expr_meaning}
+use Rattle.sql_meaning.specs.Context.{Context, at, column}
+use Rattle.sql_meaning.specs.Expressions.{constant, expr_meaning}
 use Rattle.sql_meaning.specs.Meaning.{meaning, value}
-use Rattle.sql_meaning.specs.Placed.{further, column_of, with_cast, placed, placed_at, replaced}
-use Rattle.sql_meaning.specs.Reads.{Read, Slot, Param, Table, Outer, reading, reads, allows, fits, slot_of, first_occurrences, slots_of}
+use Rattle.sql_meaning.specs.Placed.{column_of, with_cast, placed, placed_at}
+use Rattle.sql_meaning.specs.Reads.{Read, Slot, Param, Table, Outer, reads, allows, fits, slot_of, first_occurrences, slots_of}
 use Rattle.sql_meaning.specs.Substitution.{SeesAlike, Keeps, Substitution, OnlySlotsMatter}
 use Rattle.sql_meaning.proofs.Replacing.{replaced_same}
 use Rattle.sql_meaning.proofs.Reading.{reads_same}
@@ -36,8 +35,8 @@ module _ (cx qx : Context) where
   -- where the expression stands
   keeps : cx.group ≡ [] → qx.group ≡ [] → (e e' : Expr) → same.Same (around cx) (around qx) 0 (expr_of meaning e) (expr_of meaning e') → Keeps cx qx e e'
   keeps p q e e' s = record {
-      same = (λ i. value e' (record qx { group = q i })) ∙ (s.1 [] [] (record { size = refl; alone = λ z. refl }) ∙ (λ i. value e (record cx { group = sym p i })));
-      single = s.0
+    same = (λ i. value e' (record qx { group = q i })) ∙ (s.1 [] [] (record { size = refl; alone = λ z. refl }) ∙ (λ i. value e (record cx { group = sym p i })));
+    single = s.0;
   }
 
   -- a literal under a cast that keeps its value
@@ -47,12 +46,14 @@ module _ (cx qx : Context) where
 
   -- a column further out
   outward : (ref : ℕ → Col) (slots : ℕ → Bool) → ((i : ℕ) → slots i ≡ true → column qx.frames (ref i) ≡ at cx.env i) → (d i : ℕ) → slots i ≡ true → same.Same (around cx) (around qx) d (expr_meaning (ex.Slot i)) (expr_of meaning (column_of ref d i))
-  outward ref slots shows d i h =
-      (refl, λ l g r.
-          let place : (ref i).level + d ≡ length l + (ref i).level = omega (arith, r.size) in
-          ap (λ k. Ok (at (slice_index_or (slice_index_or (l ++ qx.frames) k []) (ref i).item []) (ref i).column)) place
-          ∙ (ap (λ f. Ok (at (slice_index_or f (ref i).item []) (ref i).column)) (get_or-append-add l qx.frames (ref i).level [])
-          ∙ ap Ok (shows i h)))
+  outward ref slots shows d i h = (
+    refl,
+    λ l g r.
+        let place : (ref i).level + d ≡ length l + (ref i).level = omega (arith, r.size) in
+        ap (λ k. Ok (at (slice_index_or (slice_index_or (l ++ qx.frames) k []) (ref i).item []) (ref i).column)) place
+        ∙ (ap (λ f. Ok (at (slice_index_or f (ref i).item []) (ref i).column)) (get_or-append-add l qx.frames (ref i).level [])
+        ∙ ap Ok (shows i h)),
+  )
 
 module _ (ref : ℕ → Col) (slots : ℕ → Bool) (params tables : ℕ) (cx qx : Context) (alike : SeesAlike params tables cx qx) (shows : (i : ℕ) → slots i ≡ true → column qx.frames (ref i) ≡ at cx.env i) where
   at_place : (e : Expr) → fits slots params tables e ≡ true → Keeps cx qx e (placed ref e)

@@ -1,5 +1,5 @@
 -- The compiler theorem for one RETURN.
-use Rattle.std.proofs.Common.{◌≡◌, ◌≢◌, refl, ap, sym, ◌∙◌, subst, ℕ, zero, suc, ◌+◌, ◌*◌, ◌<◌, ◌^◌, List, [], ◌∷◌, ◌++◌, length, decimal, Option, Some, None, Ok, Err, arith}
+use Rattle.std.proofs.Common.{◌≡◌, ◌≢◌, refl, ap, sym, ◌∙◌, subst, ℕ, zero, suc, ◌+◌, ◌*◌, ◌<◌, ◌^◌, List, [], ◌∷◌, ◌++◌, length, decimal, Some, Ok, Err, arith}
 use Rattle.away_core.specs.declared.types.Ty.{Ty}
 use Rattle.away_core.specs.declared.values.Value.{Value}
 use Rattle.away_core.specs.declared.values.Answer.{Answer}
@@ -8,7 +8,7 @@ use Rattle.away_core.specs.declared.queries.Expr.{Expr}
 use Rattle.away_core.specs.declared.queries.Expr.TheViews.{roll-Recursive}
 use Rattle.away_core.specs.Results.{Or, and_then}
 use Rattle.away_core.proofs.Equations as eq
-use Rattle.sql_meaning.specs.Context.{Rows, outermost}
+use Rattle.sql_meaning.specs.Context.{Rows}
 use Rattle.sql_meaning.specs.Equivalent.{IsEquivalent}
 use Rattle.sql_meaning.specs.Expressions.{RecursiveMeaning}
 use Rattle.sql_meaning.specs.Meaning.{meaning, value, rows_of_select}
@@ -104,11 +104,11 @@ module _ (T : List Rows) (args : List Value) (small : length T < 2 ^ 64) (params
 
 one_query : (tables weight : ℕ) (params : List Ty) (result : Ty) (e : Expr) → tables < 2 ^ 64 → 0 < weight → IsSource tables (length params) e → IsEquivalent (λ T. length T ≡ tables) (λ args. AreTyped params args) weight (answer_of_return e) (query_of_return tables params result e)
 one_query tables weight params result e small positive ok = record {
-    ends = λ T args n long typed more.
-        subst (λ t. sql (query_of_return t params result e) T args ((n + 1) * weight + 1) ≡ returned (value e (body T args))) long (ends T args (subst (λ t. t < 2 ^ 64) (sym long) small) params typed result e (source T args long typed) n weight positive);
-    goes_on = λ T args n long typed more. absurd (never_more (value e (body T args)) more);
-    only = λ T args k long typed more.
-        subst (λ t. sql (query_of_return t params result e) T args k ≢ answer.More → returned (value e (body T args)) ≡ sql (query_of_return t params result e) T args k) long (only T args (subst (λ t. t < 2 ^ 64) (sym long) small) params typed result e (source T args long typed) k) more
+  ends = λ T args n long typed more.
+      subst (λ t. sql (query_of_return t params result e) T args ((n + 1) * weight + 1) ≡ returned (value e (body T args))) long (ends T args (subst (λ t. t < 2 ^ 64) (sym long) small) params typed result e (source T args long typed) n weight positive);
+  goes_on = λ T args n long typed more. absurd (never_more (value e (body T args)) more);
+  only = λ T args k long typed more.
+      subst (λ t. sql (query_of_return t params result e) T args k ≢ answer.More → returned (value e (body T args)) ≡ sql (query_of_return t params result e) T args k) long (only T args (subst (λ t. t < 2 ^ 64) (sym long) small) params typed result e (source T args long typed) k) more;
 }
   where
     source : (T : List Rows) (args : List Value) → length T ≡ tables → AreTyped params args → IsSource (length T) (length args) e
@@ -120,7 +120,7 @@ one_return tables weight params result e small positive ok q same =
     let h = one_query tables weight params result e small positive ok in
     let as_is = same_sql q (query_of_return tables params result e) same in
     record {
-        ends = λ T args n long typed more. as_is T args ((n + 1) * weight + 1) ∙ h.ends T args n long typed more;
-        goes_on = λ T args n long typed more. as_is T args n ∙ h.goes_on T args n long typed more;
-        only = λ T args k long typed more. h.only T args k long typed (λ z. more (as_is T args k ∙ z)) ∙ sym (as_is T args k)
+      ends = λ T args n long typed more. as_is T args ((n + 1) * weight + 1) ∙ h.ends T args n long typed more;
+      goes_on = λ T args n long typed more. as_is T args n ∙ h.goes_on T args n long typed more;
+      only = λ T args k long typed more. h.only T args k long typed (λ z. more (as_is T args k ∙ z)) ∙ sym (as_is T args k);
     }

@@ -1,5 +1,5 @@
 -- What a node reads is what its parts read.
-use Rattle.std.proofs.Common.{◌≡◌, refl, ap, sym, ◌∙◌, ℕ, Bool, true, false, ◌&&◌, nat_lt, if◌then◌else◌, List, [], ◌∷◌, ◌++◌, map, Option, Some, None, option_map}
+use Rattle.std.proofs.Common.{◌≡◌, refl, ap, sym, ◌∙◌, ℕ, Bool, true, false, ◌&&◌, if◌then◌else◌, List, [], ◌∷◌, ◌++◌, map, Option, Some, None, option_map}
 use Rattle.std.specs.List.{list_all, flat_map}
 use Rattle.away_core.specs.declared.queries.Col.{Col}
 use Rattle.sql_meaning.specs.Reads.{Read, Outer, Reads, of_option}

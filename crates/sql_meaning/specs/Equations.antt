@@ -1,16 +1,11 @@
 -- Words for the equations of the meaning: what stands in a struct of the trees, and the meanings of its parts.
-use Rattle.std.specs.Prelude.{ℕ, Bool, List, map, Option, option_map, not, filter}
+use Rattle.std.specs.Prelude.{ℕ, List, map, Option, option_map, not, filter}
 use Rattle.away_core.specs.declared.values.Value.{Value}
 use Rattle.away_core.specs.declared.queries.Expr.{Expr}
-use Rattle.away_core.specs.declared.queries.Select.{Select}
 use Rattle.away_core.specs.declared.queries.Recursive.{Recursive}
-use Rattle.away_core.specs.declared.queries.Query.{Query}
-use Rattle.away_core.specs.declared.queries.Expr.TheOpen.{Select-F, Recursive-F, Query-F}
-use Rattle.away_core.specs.declared.queries.FromItem.{FromItem}
 use Rattle.away_core.specs.declared.queries.Item.{Item}
 use Rattle.away_core.specs.declared.queries.Key.{Key}
 use Rattle.away_core.specs.declared.queries.Source.{Source}
-use Rattle.away_core.specs.declared.queries.Expr.TheViews.{out-FromItem, out-Item, out-Key, out-Select, out-Recursive, out-Query}
 use Rattle.away_core.specs.Operators.{is_null}
 use Rattle.away_core.specs.Results.{Or, each}
 use Rattle.away_core.specs.Algebra.{expr_of, item_of, key_of, source_of, recursive_of}

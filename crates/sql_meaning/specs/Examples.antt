@@ -1,7 +1,6 @@
 -- Small trees, written out, whose meanings the checker computes.
-use Rattle.std.specs.Prelude.{ℕ, Bool, true, false, ℤ, pos, negsuc, List, [], ◌∷◌, map, Option, Some, None, codes, Ok, Err}
+use Rattle.std.specs.Prelude.{ℕ, Bool, false, ℤ, pos, negsuc, List, [], ◌∷◌, map, Option, Some, None, codes, Err}
 use Rattle.away_core.specs.declared.types.Ty.TheVariants as ty
-use Rattle.away_core.specs.declared.values.Class.{Class}
 use Rattle.away_core.specs.declared.values.Value.{Value}
 use Rattle.away_core.specs.declared.values.Value.TheVariants as val
 use Rattle.away_core.specs.declared.operators.IntOp.TheVariants as op
@@ -11,7 +10,6 @@ use Rattle.away_core.specs.declared.operators.ChainOp.TheVariants as chain
 use Rattle.away_core.specs.declared.queries.Expr.{Expr}
 use Rattle.away_core.specs.declared.queries.Expr.TheVariants as expr
 use Rattle.away_core.specs.declared.queries.FromItem.{FromItem}
-use Rattle.away_core.specs.declared.queries.Key.{Key}
 use Rattle.away_core.specs.declared.queries.Query.{Query}
 use Rattle.away_core.specs.declared.queries.Expr.TheViews.{roll-Key, roll-Select, roll-Recursive, roll-Query}
 use Rattle.away_core.specs.Results.{Or, class}
@@ -96,8 +94,8 @@ first_path =
 abbrev pub recursive : Expr → Expr → Query
 recursive first next =
     roll-Query (record {
-        recursive = Some (roll-Recursive (record { name = []; columns = []; first = select (first ∷ []) [] None ∷ []; second = select (next ∷ []) (t ∷ []) (Some (expr.Compare cmp.Lt (col 0 0 0) (n 5))) }));
-        selects = select (expr.Cast (call (codes "sum") (col 0 0 0)) ty.Bigint ∷ null_of ty.Text ∷ []) (t ∷ []) None ∷ []
+      recursive = Some (roll-Recursive (record { name = []; columns = []; first = select (first ∷ []) [] None ∷ []; second = select (next ∷ []) (t ∷ []) (Some (expr.Compare cmp.Lt (col 0 0 0) (n 5))) }));
+      selects = select (expr.Cast (call (codes "sum") (col 0 0 0)) ty.Bigint ∷ null_of ty.Text ∷ []) (t ∷ []) None ∷ [];
     })
 
 -- the numbers from 1 to 5

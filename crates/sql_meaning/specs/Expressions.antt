@@ -1,5 +1,5 @@
 -- What an expression means, by the meanings of its parts.
-use Rattle.std.specs.Prelude.{ℕ, Bool, true, false, not, ◌||◌, if◌then◌else◌, pos, List, [], ◌∷◌, map, length, filter, Option, Some, None, Ok}
+use Rattle.std.specs.Prelude.{ℕ, Bool, true, false, not, ◌||◌, if◌then◌else◌, pos, List, map, length, filter, Option, Some, None, Ok}
 use Rattle.std.specs.List.{list_any}
 use Rattle.away_core.specs.declared.values.Value.{Value}
 use Rattle.away_core.specs.declared.values.Value.TheVariants as val

@@ -16,24 +16,24 @@ use Rattle.sql_meaning.specs.Selects.{source_meaning, from_meaning, item_meaning
 abbrev pub meaning : Algebra
 meaning =
     record {
-        AnExpr = ExprMeaning;
-        ASource = SourceMeaning;
-        AFrom = FromMeaning;
-        AnItem = ExprMeaning;
-        AKey = KeyMeaning;
-        AQuery = QueryMeaning;
-        ARecursive = RecursiveMeaning;
-        ASelect = SelectMeaning;
-        no_expr = constant val.Null;
-        no_query = record { recursive = None; rows = λ cx. Ok [] };
-        expr = expr_meaning;
-        source = source_meaning;
-        from = from_meaning;
-        item = item_meaning;
-        key = key_meaning;
-        query = query_meaning;
-        recursive = recursive_meaning;
-        select = select_meaning
+      AnExpr = ExprMeaning;
+      ASource = SourceMeaning;
+      AFrom = FromMeaning;
+      AnItem = ExprMeaning;
+      AKey = KeyMeaning;
+      AQuery = QueryMeaning;
+      ARecursive = RecursiveMeaning;
+      ASelect = SelectMeaning;
+      no_expr = constant val.Null;
+      no_query = record { recursive = None; rows = λ cx. Ok [] };
+      expr = expr_meaning;
+      source = source_meaning;
+      from = from_meaning;
+      item = item_meaning;
+      key = key_meaning;
+      query = query_meaning;
+      recursive = recursive_meaning;
+      select = select_meaning;
     }
 
 -- the value of an expression, or the class of its fault

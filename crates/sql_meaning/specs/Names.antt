@@ -1,5 +1,5 @@
 -- A query without its names: no alias, no column name, no table name. A table is known by its place.
-use Rattle.std.specs.Prelude.{ℕ, List, [], ◌∷◌, take, Option, None}
+use Rattle.std.specs.Prelude.{ℕ, List, [], take, None}
 use Rattle.away_core.specs.declared.queries.Expr.{Expr}
 use Rattle.away_core.specs.declared.queries.Expr.TheVariants as expr
 use Rattle.away_core.specs.declared.queries.Source.{Source}
@@ -71,24 +71,24 @@ bare_query q = roll-Query (record { recursive = q.recursive; selects = q.selects
 abbrev pub nameless : Algebra
 nameless =
     record {
-        AnExpr = Expr;
-        ASource = Source;
-        AFrom = FromItem;
-        AnItem = Item;
-        AKey = Key;
-        AQuery = Query;
-        ARecursive = Recursive;
-        ASelect = Select;
-        no_expr = expr.Null;
-        no_query = roll-Query (record { recursive = None; selects = [] });
-        expr = bare_expr;
-        source = bare_source;
-        from = bare_from;
-        item = bare_item;
-        key = bare_key;
-        query = bare_query;
-        recursive = bare_recursive;
-        select = bare_select
+      AnExpr = Expr;
+      ASource = Source;
+      AFrom = FromItem;
+      AnItem = Item;
+      AKey = Key;
+      AQuery = Query;
+      ARecursive = Recursive;
+      ASelect = Select;
+      no_expr = expr.Null;
+      no_query = roll-Query (record { recursive = None; selects = [] });
+      expr = bare_expr;
+      source = bare_source;
+      from = bare_from;
+      item = bare_item;
+      key = bare_key;
+      query = bare_query;
+      recursive = bare_recursive;
+      select = bare_select;
     }
 
 -- the tree without its names

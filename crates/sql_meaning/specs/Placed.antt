@@ -1,5 +1,5 @@
 -- An expression with others in place of its slots and literals, and so a function's expression as a query has it.
-use Rattle.std.specs.Prelude.{ℕ, suc, ◌+◌, List, [], map, Option, Some, None, option_map}
+use Rattle.std.specs.Prelude.{ℕ, suc, ◌+◌, [], map, None, option_map}
 use Rattle.away_core.specs.declared.types.Ty.{Ty}
 use Rattle.away_core.specs.declared.types.Ty.TheVariants as ty
 use Rattle.away_core.specs.declared.queries.Col.{Col}
@@ -70,11 +70,11 @@ module _ (leaf : ℕ → ℕ → Expr) (literal : Ty → Expr → Expr) where
   abbrev pub select_in_place : Parts Select-F → ℕ → Select
   select_in_place s d =
       roll-Select (record {
-          list = map (λ x. x (suc d)) s.list;
-          from = map (λ x. x (suc d)) s.from;
-          filter = option_map (λ x. x (suc d)) s.filter;
-          order = map (λ x. x (suc d)) s.order;
-          limit = option_map (λ x. x (suc d)) s.limit
+        list = map (λ x. x (suc d)) s.list;
+        from = map (λ x. x (suc d)) s.from;
+        filter = option_map (λ x. x (suc d)) s.filter;
+        order = map (λ x. x (suc d)) s.order;
+        limit = option_map (λ x. x (suc d)) s.limit;
       })
 
   abbrev pub recursive_in_place : Parts Recursive-F → ℕ → Recursive
@@ -86,24 +86,24 @@ module _ (leaf : ℕ → ℕ → Expr) (literal : Ty → Expr → Expr) where
   abbrev pub replacing : Algebra
   replacing =
       record {
-          AnExpr = Deep Expr;
-          ASource = Deep Source;
-          AFrom = Deep FromItem;
-          AnItem = Deep Item;
-          AKey = Deep Key;
-          AQuery = Deep Query;
-          ARecursive = Deep Recursive;
-          ASelect = Deep Select;
-          no_expr = λ d. expr.Null;
-          no_query = λ d. roll-Query (record { recursive = None; selects = [] });
-          expr = expr_in_place;
-          source = source_in_place;
-          from = from_in_place;
-          item = item_in_place;
-          key = key_in_place;
-          query = query_in_place;
-          recursive = recursive_in_place;
-          select = select_in_place
+        AnExpr = Deep Expr;
+        ASource = Deep Source;
+        AFrom = Deep FromItem;
+        AnItem = Deep Item;
+        AKey = Deep Key;
+        AQuery = Deep Query;
+        ARecursive = Deep Recursive;
+        ASelect = Deep Select;
+        no_expr = λ d. expr.Null;
+        no_query = λ d. roll-Query (record { recursive = None; selects = [] });
+        expr = expr_in_place;
+        source = source_in_place;
+        from = from_in_place;
+        item = item_in_place;
+        key = key_in_place;
+        query = query_in_place;
+        recursive = recursive_in_place;
+        select = select_in_place;
       }
 
   abbrev pub replaced : ℕ → Expr → Expr

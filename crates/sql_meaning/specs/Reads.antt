@@ -1,5 +1,5 @@
 -- What an expression reads from outside itself, in the order of its text, a select's list before its FROM.
-use Rattle.std.specs.Prelude.{◌≡◌, ℕ, suc, Bool, true, false, not, ◌==◌, nat_lt, if◌then◌else◌, List, [], ◌∷◌, ◌++◌, filter, flat_map, filter_map, Option, Some, None}
+use Rattle.std.specs.Prelude.{ℕ, suc, Bool, false, not, ◌==◌, nat_lt, if◌then◌else◌, List, [], ◌∷◌, ◌++◌, filter, flat_map, filter_map, Option, Some, None}
 use Rattle.std.specs.List.{list_all}
 use Rattle.away_core.specs.declared.queries.Col.{Col}
 use Rattle.away_core.specs.declared.queries.Expr.{Expr}
@@ -81,24 +81,24 @@ query_reads q d = of_list d q.selects
 abbrev pub reading : Algebra
 reading =
     record {
-        AnExpr = Reads;
-        ASource = SourceReads;
-        AFrom = Reads;
-        AnItem = Reads;
-        AKey = Reads;
-        AQuery = Reads;
-        ARecursive = Reads;
-        ASelect = Reads;
-        no_expr = λ d. [];
-        no_query = λ d. [];
-        expr = expr_reads;
-        source = source_reads;
-        from = from_reads;
-        item = item_reads;
-        key = key_reads;
-        query = query_reads;
-        recursive = recursive_reads;
-        select = select_reads
+      AnExpr = Reads;
+      ASource = SourceReads;
+      AFrom = Reads;
+      AnItem = Reads;
+      AKey = Reads;
+      AQuery = Reads;
+      ARecursive = Reads;
+      ASelect = Reads;
+      no_expr = λ d. [];
+      no_query = λ d. [];
+      expr = expr_reads;
+      source = source_reads;
+      from = from_reads;
+      item = item_reads;
+      key = key_reads;
+      query = query_reads;
+      recursive = recursive_reads;
+      select = select_reads;
     }
 
 abbrev pub reads : Expr → List Read

@@ -74,8 +74,8 @@ last digits n = select (col 0 0 (suc (suc n)) ∷ col 0 0 (suc (suc (suc n))) �
 abbrev pub query_with : List ℕ → List Ty → Ty → Expr → Query
 query_with digits params result e =
     roll-Query (record {
-        recursive = Some (roll-Recursive (record { name = []; columns = []; first = start params result ∷ []; second = step digits params e }));
-        selects = last digits (length params) ∷ []
+      recursive = Some (roll-Recursive (record { name = []; columns = []; first = start params result ∷ []; second = step digits params e }));
+      selects = last digits (length params) ∷ [];
     })
 
 -- over so many tables

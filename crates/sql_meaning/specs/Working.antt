@@ -9,7 +9,7 @@ use Rattle.away_core.specs.declared.queries.Query.{Query}
 use Rattle.away_core.specs.Results.{Or, and_then, mapped, class}
 use Rattle.away_core.specs.Algebra.{query_of}
 use Rattle.sql_meaning.specs.Context.{Rows, outermost}
-use Rattle.sql_meaning.specs.Expressions.{SelectMeaning, RecursiveMeaning, QueryMeaning}
+use Rattle.sql_meaning.specs.Expressions.{SelectMeaning, RecursiveMeaning}
 use Rattle.sql_meaning.specs.Meaning.{meaning}
 
 -- an answer at a bound: None where the bound doesn't suffice

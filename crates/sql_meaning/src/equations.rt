@@ -1,8 +1,26 @@
 //! The equations of the meaning: what it is of each kind of node, by the meanings of the node's parts.
 
 ghost use Rattle.std.specs.Prelude.{
-    [], false, List, map, None, Ok, Option, option_map, pos, Some, true, Bool, length, ℕ,
-    ℤ, ◌∷◌, ◌||◌, ◌≡◌, ◌≢◌, slice_index_or,
+  [],
+  false,
+  List,
+  map,
+  None,
+  Ok,
+  Option,
+  option_map,
+  pos,
+  Some,
+  true,
+  Bool,
+  length,
+  ℕ,
+  ℤ,
+  ◌∷◌,
+  ◌||◌,
+  ◌≡◌,
+  ◌≢◌,
+  slice_index_or,
 };
 ghost use Rattle.std.specs.List.{list_any};
 ghost use Rattle.away_core.specs.declared.operators.ChainOp.{ChainOp};
@@ -12,7 +30,12 @@ ghost use Rattle.away_core.specs.declared.queries.Col.{Col};
 ghost use Rattle.away_core.specs.declared.queries.Expr.{Expr};
 ghost use Rattle.away_core.specs.declared.queries.Expr.TheVariants as expr;
 ghost use Rattle.away_core.specs.declared.queries.Expr.TheViews.{
-    out-FromItem, out-Item, out-Key, out-Query, out-Recursive, out-Select,
+  out-FromItem,
+  out-Item,
+  out-Key,
+  out-Query,
+  out-Recursive,
+  out-Select,
 };
 ghost use Rattle.away_core.specs.declared.queries.FromItem.{FromItem};
 ghost use Rattle.away_core.specs.declared.queries.Item.{Item};
@@ -26,20 +49,49 @@ ghost use Rattle.away_core.specs.declared.values.Value.TheVariants as val;
 ghost use Rattle.away_core.specs.declared.values.Value.{Value};
 ghost use Rattle.away_core.specs.Algebra.{expr_of, item_of, key_of};
 ghost use Rattle.away_core.specs.Operators.{
-    cast, compare, negated, negation, negation_if, passes, small,
+  cast,
+  compare,
+  negated,
+  negation,
+  negation_if,
+  passes,
+  small,
 };
 ghost use Rattle.away_core.specs.Results.{and_then, each_joined, mapped};
 ghost use Rattle.sql_meaning.specs.Context.{
-    argument, at, at_row, column, Context, Frame, inside, outermost, Rows,
+  argument,
+  at,
+  at_row,
+  column,
+  Context,
+  Frame,
+  inside,
+  outermost,
+  Rows,
 };
 ghost use Rattle.sql_meaning.specs.Equations.{
-    all_values, items, keys, known, optional, recursive_part, rows_of_source,
+  all_values,
+  items,
+  keys,
+  known,
+  optional,
+  recursive_part,
+  rows_of_source,
 };
 ghost use Rattle.sql_meaning.specs.Functions.{
-    aggregate, Coalesce, function, is_aggregate, scalar,
+  aggregate,
+  Coalesce,
+  function,
+  is_aggregate,
+  scalar,
 };
 ghost use Rattle.sql_meaning.specs.Meaning.{
-    has_aggregate, meaning, rows_of_item, rows_of_query, rows_of_select, value,
+  has_aggregate,
+  meaning,
+  rows_of_item,
+  rows_of_query,
+  rows_of_select,
+  value,
 };
 ghost use Rattle.sql_meaning.specs.Parts.{among, between, chained, chosen, first_known, has_row, only};
 ghost use Rattle.sql_meaning.specs.Selects.{cut, kept, listed, place_of, product};
@@ -57,8 +109,7 @@ pub fn leaves_have_their_values()
     ensures slot { (i : ℕ) (cx : Context) → value (expr.Slot i) cx ≡ Ok (at cx.env i) }
     ensures column { (c : Col) (cx : Context) → value (expr.Column c) cx ≡ Ok (column cx.frames c) }
     ensures param { (i : ℕ) (t : Ty) (cx : Context) → value (expr.Param i t) cx ≡ Ok (argument cx.args i) }
-{
-}
+{}
 
 /// An operator takes its operands from left to right, and stops as its definition says.
 pub fn operators_take_their_operands()
@@ -73,8 +124,7 @@ pub fn operators_take_their_operands()
     ensures cast { (e : Expr) (t : Ty) (cx : Context) → value (expr.Cast e t) cx ≡ and_then (value e cx) (cast t) }
     ensures cases { (arms : List (Expr × Expr)) (e : Expr) (cx : Context) → value (expr.Cases arms (Some e)) cx ≡ chosen (value e cx) (map (λ a. (value a.0 cx, value a.1 cx)) arms) }
     ensures cases_alone { (arms : List (Expr × Expr)) (cx : Context) → value (expr.Cases arms None) cx ≡ chosen (Ok val.Null) (map (λ a. (value a.0 cx, value a.1 cx)) arms) }
-{
-}
+{}
 
 /// COALESCE stops at its first value, an aggregate takes its argument at each row of the group, and the other functions take all arguments.
 pub fn calls_take_their_arguments()
@@ -82,15 +132,13 @@ pub fn calls_take_their_arguments()
     ensures aggregate { (name : List ℕ) (es : List Expr) (cx : Context) → is_aggregate (function name) ≡ true → value (expr.Call name es) cx ≡ and_then (each_joined (λ frame. all_values es (at_row frame cx)) cx.group) (λ vs. aggregate (function name) (known vs)) }
     ensures other { (name : List ℕ) (es : List Expr) (cx : Context) → function name ≢ Coalesce → is_aggregate (function name) ≡ false → value (expr.Call name es) cx ≡ and_then (all_values es cx) (scalar (function name)) }
     ensures count_rows { (cx : Context) → value expr.CountRows cx ≡ Ok (val.Int (pos (length cx.group))) }
-{
-}
+{}
 
 /// A scalar subquery is the one value of its rows, and EXISTS asks whether there is a row.
 pub fn subqueries_take_their_rows()
     ensures scalar { (q : Query) (cx : Context) → value (expr.Scalar q) cx ≡ and_then (rows_of_query q cx) only }
     ensures exists { (q : Query) (cx : Context) → value (expr.Exists q) cx ≡ mapped (λ rows. val.Bool (has_row rows)) (rows_of_query q cx) }
-{
-}
+{}
 
 /// An aggregate stands in an expression where it stands in a part outside subqueries.
 pub fn aggregates_stand_outside_subqueries()
@@ -118,8 +166,7 @@ pub fn aggregates_stand_outside_subqueries()
     ensures count_rows { has_aggregate expr.CountRows ≡ true }
     ensures scalar { (q : Query) → has_aggregate (expr.Scalar q) ≡ false }
     ensures exists { (q : Query) → has_aggregate (expr.Exists q) ≡ false }
-{
-}
+{}
 
 /// The rows of a table stand at its place, and those of a subquery are the query's, one select further in; a LATERAL one sees the row so far.
 pub fn items_give_rows()
@@ -130,8 +177,7 @@ pub fn items_give_rows()
     ensures listed { (i : Item) → item_of meaning i ≡ expr_of meaning (out-Item i).expr }
     ensures key_value { (k : Key) (cx : Context) → (key_of meaning k).value cx ≡ value (out-Key k).expr cx }
     ensures key_falls { (k : Key) → (key_of meaning k).descending ≡ (out-Key k).descending }
-{
-}
+{}
 
 /// The rows of a select come from FROM by WHERE, the list, ORDER BY and LIMIT, and UNION ALL joins those of several.
 pub fn selects_give_rows()
@@ -141,5 +187,4 @@ pub fn selects_give_rows()
     ensures second { (r : Recursive) (cx : Context) → (recursive_part r).second cx ≡ rows_of_select (out-Recursive r).second cx }
     ensures plain { (q : Query) (T : List Rows) (args : List Value) (k : ℕ) → (out-Query q).recursive ≡ None → rows q T args k ≡ Some (rows_of_query q (outermost T args)) }
     ensures with { (q : Query) (r : Recursive) (T : List Rows) (args : List Value) (k : ℕ) → (out-Query q).recursive ≡ Some r → rows q T args k ≡ over_table (rows_of_query q) T args (recursive_table (recursive_part r) T args k) }
-{
-}
+{}

@@ -1,7 +1,19 @@
 //! Worked examples: the meanings of small trees, computed.
 
 ghost use Rattle.std.specs.Prelude.{
-    [], codes, false, negsuc, None, Ok, pos, Some, suc, true, ℕ, ◌∷◌, ◌≡◌,
+  [],
+  codes,
+  false,
+  negsuc,
+  None,
+  Ok,
+  pos,
+  Some,
+  suc,
+  true,
+  ℕ,
+  ◌∷◌,
+  ◌≡◌,
 };
 ghost use Rattle.away_core.specs.declared.operators.ChainOp.TheVariants as chain;
 ghost use Rattle.away_core.specs.declared.operators.IntOp.TheVariants as op;
@@ -12,9 +24,31 @@ ghost use Rattle.away_core.specs.declared.values.Answer.TheVariants as answer;
 ghost use Rattle.away_core.specs.declared.values.Value.TheVariants as val;
 ghost use Rattle.away_core.specs.Results.{class};
 ghost use Rattle.sql_meaning.specs.Examples.{
-    aggregated, alone, beside, by_zero, call, chain_of, exists, fails, faulty, first_path, int,
-    keys_where, n, negative_length, numbers, over, scalar, summed, text, texts, three, to_a_fault,
-    to_five, whole, with_null,
+  aggregated,
+  alone,
+  beside,
+  by_zero,
+  call,
+  chain_of,
+  exists,
+  fails,
+  faulty,
+  first_path,
+  int,
+  keys_where,
+  n,
+  negative_length,
+  numbers,
+  over,
+  scalar,
+  summed,
+  text,
+  texts,
+  three,
+  to_a_fault,
+  to_five,
+  whole,
+  with_null,
 };
 ghost use Rattle.sql_meaning.specs.Trees.{col, null_of};
 ghost use Rattle.sql_meaning.specs.Working.{sql};
@@ -30,8 +64,7 @@ pub fn recursion_needs_its_bound()
     ensures five { sql to_five [] [] 5 ≡ answer.Value (int 15) }
     ensures before { sql to_a_fault [] [] 0 ≡ answer.More }
     ensures fault { sql to_a_fault [] [] 1 ≡ answer.Fault (class (codes "22012")) }
-{
-}
+{}
 
 /// A query answers a value or a fault by one row, and any other result tells the number of its rows.
 pub fn a_query_is_asked_for_one_row()
@@ -40,8 +73,7 @@ pub fn a_query_is_asked_for_one_row()
     ensures value { sql (keys_where None) (numbers (pos 7 ∷ []) ∷ []) [] 0 ≡ answer.Value (int 7) }
     ensures fault { sql (whole (expr.Null ∷ expr.Str (codes "AB123") ∷ []) None [] None) (numbers (pos 7 ∷ []) ∷ []) [] 0 ≡ answer.Fault (class (codes "AB123")) }
     ensures text { sql (whole (expr.Null ∷ expr.Str (codes "ab123") ∷ []) None [] None) (numbers (pos 7 ∷ []) ∷ []) [] 0 ≡ answer.Shape 1 }
-{
-}
+{}
 
 /// A scalar subquery of two rows is a fault and of none is NULL. An item beside no row isn't evaluated. EXISTS evaluates its list.
 pub fn a_subquery_is_evaluated_whole()
@@ -51,8 +83,7 @@ pub fn a_subquery_is_evaluated_whole()
     ensures row { over (beside true) [] ≡ fails (codes "22012") }
     ensures list { over (whole (exists None ∷ []) None [] None) (three ∷ []) ≡ fails (codes "22012") }
     ensures unlisted { over (whole (exists (Some (expr.Bool false)) ∷ []) None [] (Some (n 1))) (three ∷ []) ≡ Ok ((val.Bool false ∷ []) ∷ []) }
-{
-}
+{}
 
 /// A fault in WHERE comes before one in the list, that before one in a key, and that before LIMIT's. LIMIT is evaluated also where no row is
 /// left.
@@ -65,8 +96,7 @@ pub fn parts_of_a_select_come_in_order()
     ensures no_limit { over (texts None [] (Some expr.Null)) (three ∷ []) ≡ Ok ((text (codes "one") ∷ []) ∷ (text (codes "two") ∷ []) ∷ (text (codes "zwei") ∷ []) ∷ []) }
     ensures first_two { over (texts None [] (Some (n 2))) (three ∷ []) ≡ Ok ((text (codes "one") ∷ []) ∷ (text (codes "two") ∷ []) ∷ []) }
     ensures no_row { over (texts None [] (Some (n 0))) (three ∷ []) ≡ Ok [] }
-{
-}
+{}
 
 /// NULLs come last where the order rises and first where it falls, and rows with equal keys keep their order.
 pub fn rows_are_put_in_order()
@@ -74,8 +104,7 @@ pub fn rows_are_put_in_order()
     ensures falling { over (texts None ((col 0 0 0, true) ∷ []) None) (with_null ∷ []) ≡ Ok ((text (codes "c") ∷ []) ∷ (text (codes "b") ∷ []) ∷ (text (codes "a") ∷ []) ∷ []) }
     ensures ties { over (texts None ((col 0 0 0, true) ∷ []) None) (three ∷ []) ≡ Ok ((text (codes "two") ∷ []) ∷ (text (codes "zwei") ∷ []) ∷ (text (codes "one") ∷ []) ∷ []) }
     ensures second_key { over (texts None ((col 0 0 0, true) ∷ (col 0 0 1, true) ∷ []) None) (three ∷ []) ≡ Ok ((text (codes "zwei") ∷ []) ∷ (text (codes "two") ∷ []) ∷ (text (codes "one") ∷ []) ∷ []) }
-{
-}
+{}
 
 /// AND, OR, COALESCE, CASE, BETWEEN and IN stop before a fault where they are decided, and not before a NULL. A chain goes from its left end.
 pub fn operators_stop_where_decided()
@@ -99,8 +128,7 @@ pub fn operators_stop_where_decided()
     ensures greatest_takes_all { alone (expr.Call (codes "greatest") (n 1 ∷ by_zero ∷ [])) ≡ fails (codes "22012") }
     ensures from_the_left { alone (expr.Chain (n 9) ((chain.Int op.Sub, n 3) ∷ (chain.Int op.Sub, n 2) ∷ [])) ≡ Ok (int 4) }
     ensures first_fault { alone (expr.Chain (n 9223372036854775807) ((chain.Int op.Add, n 1) ∷ (chain.Int op.Add, by_zero) ∷ [])) ≡ fails (codes "22003") }
-{
-}
+{}
 
 /// Aggregates skip NULLs and are NULL over nothing, except the counts. A sum is tested for its range at its end alone.
 pub fn aggregates_skip_null()
@@ -109,8 +137,7 @@ pub fn aggregates_skip_null()
     ensures comes_back { over summed (numbers (pos 9223372036854775807 ∷ pos 1 ∷ negsuc 0 ∷ []) ∷ []) ≡ Ok ((int 9223372036854775807 ∷ []) ∷ []) }
     ensures leaves { over summed (numbers (pos 9223372036854775807 ∷ pos 1 ∷ []) ∷ []) ≡ fails (codes "22003") }
     ensures untaken { over (whole (expr.Cases ((expr.Bool false, call (codes "max") by_zero) ∷ []) (Some expr.CountRows) ∷ []) None [] None) (three ∷ []) ≡ Ok ((int 3 ∷ []) ∷ []) }
-{
-}
+{}
 
 /// Operations of 32 bits, their minus and the cast to integer give the value of the bigint operation, where it has 32 bits.
 pub fn integers_have_32_bits()
@@ -121,5 +148,4 @@ pub fn integers_have_32_bits()
     ensures no_minus { alone (expr.NegSmall (expr.Int (negsuc 2147483647))) ≡ fails (codes "22003") }
     ensures least { alone (expr.Cast (expr.Int (negsuc 2147483647)) ty.Integer) ≡ Ok (val.Int (negsuc 2147483647)) }
     ensures no_cast { alone (expr.Cast (n 2147483648) ty.Integer) ≡ fails (codes "22003") }
-{
-}
+{}

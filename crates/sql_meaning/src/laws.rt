@@ -1,7 +1,17 @@
 //! What holds of the answers of any query.
 
 ghost use Rattle.std.specs.Prelude.{
-    [], Err, List, None, Ok, Some, ℕ, ◌+◌, ◌≡◌, ◌≢◌, ◌≤◌,
+  [],
+  Err,
+  List,
+  None,
+  Ok,
+  Some,
+  ℕ,
+  ◌+◌,
+  ◌≡◌,
+  ◌≢◌,
+  ◌≤◌,
 };
 ghost use Rattle.away_core.specs.declared.queries.Query.{Query};
 ghost use Rattle.away_core.specs.declared.values.Answer.TheVariants as answer;
@@ -12,7 +22,12 @@ ghost use Rattle.sql_meaning.specs.Context.{Rows};
 ghost use Rattle.sql_meaning.specs.Expressions.{RecursiveMeaning};
 ghost use Rattle.sql_meaning.specs.Laws.{AreFilledBefore};
 ghost use Rattle.sql_meaning.specs.Working.{
-    all_working, answered, recursive_table, rows, sql, working,
+  all_working,
+  answered,
+  recursive_table,
+  rows,
+  sql,
+  working,
 };
 
 /// At a bound the recursive table isn't there yet where no working table up to the bound is empty or faults. Else the first such one decides: by
@@ -21,18 +36,15 @@ pub fn the_first_empty_or_faulty_table_decides()
     ensures more { (r : RecursiveMeaning) (T : List Rows) (args : List Value) (k : ℕ) → AreFilledBefore r T args (k + 1) → recursive_table r T args k ≡ None }
     ensures empty { (r : RecursiveMeaning) (T : List Rows) (args : List Value) (i k : ℕ) → i ≤ k → AreFilledBefore r T args i → working r T args i ≡ Ok [] → recursive_table r T args k ≡ Some (all_working r T args i) }
     ensures fault { (r : RecursiveMeaning) (T : List Rows) (args : List Value) (i k : ℕ) (c : Class) → i ≤ k → AreFilledBefore r T args i → working r T args i ≡ Err c → recursive_table r T args k ≡ Some (Err c) }
-{
-}
+{}
 
 /// What a query answers at a bound, other than that it needs more, it answers at every greater bound.
 pub fn answers_stay()
     ensures rows { (q : Query) (T : List Rows) (args : List Value) (k j : ℕ) (x : Or Rows) → k ≤ j → rows q T args k ≡ Some x → rows q T args j ≡ Some x }
     ensures answer { (q : Query) (T : List Rows) (args : List Value) (k j : ℕ) → k ≤ j → sql q T args k ≢ answer.More → sql q T args j ≡ sql q T args k }
-{
-}
+{}
 
 /// The answer of a query is what its rows say.
 pub fn answers_are_told_by_rows()
     ensures { (q : Query) (T : List Rows) (args : List Value) (k : ℕ) → sql q T args k ≡ answered (rows q T args k) }
-{
-}
+{}

@@ -18,8 +18,8 @@ pub use examples::{
     recursion_needs_its_bound, rows_are_put_in_order,
 };
 pub use laws::{answers_are_told_by_rows, answers_stay, the_first_empty_or_faulty_table_decides};
+pub use one_return::one_return_is_equivalent;
 pub use places::{
     a_slot_may_be_a_column, names_mean_nothing, only_the_slots_that_are_read_matter,
     places_are_computed,
 };
-pub use one_return::one_return_is_equivalent;

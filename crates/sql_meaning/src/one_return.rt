@@ -6,5 +6,4 @@ ghost use Rattle.sql_meaning.specs.OneReturn.{OneReturn};
 /// subqueries included, over tables and arguments that fit.
 pub fn one_return_is_equivalent()
     ensures { OneReturn }
-{
-}
+{}

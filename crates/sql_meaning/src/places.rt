@@ -1,7 +1,14 @@
 //! What a function's expression means in a query: at another place, with columns for its variables, and under other names.
 
 ghost use Rattle.std.specs.Prelude.{
-    [], false, List, nat_lt, true, ℕ, ◌∷◌, ◌≡◌,
+  [],
+  false,
+  List,
+  nat_lt,
+  true,
+  ℕ,
+  ◌∷◌,
+  ◌≡◌,
 };
 ghost use Rattle.away_core.specs.declared.queries.Expr.{Expr};
 ghost use Rattle.away_core.specs.declared.queries.Query.{Query};
@@ -21,22 +28,19 @@ ghost use Rattle.sql_meaning.specs.Working.{rows, sql};
 /// keys: the expression keeps its value, or its fault.
 pub fn a_slot_may_be_a_column()
     ensures { Substitution }
-{
-}
+{}
 
 /// Of a function's variables only those that an expression reads matter to its value.
 pub fn only_the_slots_that_are_read_matter()
     ensures { OnlySlotsMatter }
-{
-}
+{}
 
 /// The names of aliases, columns and tables mean nothing: trees that are the same without them have the same rows and the same answer.
 pub fn names_mean_nothing()
     ensures rows { (q r : Query) (T : List Rows) (args : List Value) (k : ℕ) → bare q ≡ bare r → rows q T args k ≡ rows r T args k }
     ensures answer { (q r : Query) (T : List Rows) (args : List Value) (k : ℕ) → bare q ≡ bare r → sql q T args k ≡ sql r T args k }
     ensures value { (e : Expr) (cx : Context) → value (bare_value e) cx ≡ value e cx }
-{
-}
+{}
 
 /// An expression with a subquery over a table and a LATERAL item: what it reads, its variables in the order of their first occurrence, and how it
 /// stands in a query. There the variable is two selects further out than at the expression's own place.
@@ -48,5 +52,4 @@ pub fn places_are_computed()
     ensures no_slot { fits (λ i. nat_lt i 5) 0 1 over_slots ≡ false }
     ensures no_table { fits (λ i. nat_lt i 6) 0 0 over_slots ≡ false }
     ensures outside { reads (col 0 1 2) ≡ Outer (record { level = 0; item = 1; column = 2 }) ∷ [] }
-{
-}
+{}
