@@ -12,3 +12,4 @@ pub mod SelectRows
 pub mod RowPlaces
 pub mod Returns
 pub mod Theorem
+pub mod Stops

@@ -18,3 +18,4 @@ pub mod PlaceExamples
 pub mod Typed
 pub mod Equivalent
 pub mod OneReturn
+pub mod Decided

@@ -11,16 +11,20 @@ ghost use Rattle.std.specs.Prelude.{
   ◌+◌,
   ◌≡◌,
   ◌≢◌,
-  ◌≤◌,
-};
+  ◌≤◌, map, false};
+ghost use Rattle.away_core.specs.declared.operators.ChainOp.TheVariants as chain;
 ghost use Rattle.away_core.specs.declared.queries.Query.{Query};
 ghost use Rattle.away_core.specs.declared.values.Answer.TheVariants as answer;
 ghost use Rattle.away_core.specs.declared.values.Class.{Class};
+ghost use Rattle.away_core.specs.declared.values.Value.TheVariants as val;
 ghost use Rattle.away_core.specs.declared.values.Value.{Value};
+ghost use Rattle.away_core.specs.Operators.{conjunction, disjunction};
 ghost use Rattle.away_core.specs.Results.{Or};
 ghost use Rattle.sql_meaning.specs.Context.{Rows};
+ghost use Rattle.sql_meaning.specs.Decided.{is_among, is_between};
 ghost use Rattle.sql_meaning.specs.Expressions.{RecursiveMeaning};
 ghost use Rattle.sql_meaning.specs.Laws.{AreFilledBefore};
+ghost use Rattle.sql_meaning.specs.Parts.{among, between, pair};
 ghost use Rattle.sql_meaning.specs.Working.{
   all_working,
   answered,
@@ -48,3 +52,13 @@ pub fn answers_stay()
 pub fn answers_are_told_by_rows()
     ensures { (q : Query) (T : List Rows) (args : List Value) (k : ℕ) → sql q T args k ≡ answered (rows q T args k) }
 {}
+
+/// Where nothing faults, stopping changes no value: AND and OR are those of three truth values, BETWEEN is an AND of two comparisons, and IN is
+/// true, NULL or false by all comparisons.
+pub fn stopping_changes_no_value()
+    ensures and { (a b : Value) → pair chain.And a (Ok b) ≡ Ok (conjunction a b) }
+    ensures or { (a b : Value) → pair chain.Or a (Ok b) ≡ Ok (disjunction a b) }
+    ensures between { (v low high : Value) → between v low (Ok high) ≡ Ok (is_between v low high) }
+    ensures among { (v : Value) (ws : List Value) → among v (map (λ w. Ok w) ws) (val.Bool false) ≡ Ok (is_among v ws) }
+{
+}
