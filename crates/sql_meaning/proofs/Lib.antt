@@ -13,3 +13,4 @@ pub mod RowPlaces
 pub mod Returns
 pub mod Theorem
 pub mod Stops
+pub mod Sorting

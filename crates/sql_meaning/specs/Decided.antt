@@ -1,5 +1,5 @@
 -- What IN and BETWEEN are, where nothing faults: by all comparisons at once.
-use Rattle.std.specs.Prelude.{Bool, true, false, if◌then◌else◌, List}
+use Rattle.std.specs.Prelude.{true, false, if◌then◌else◌, List}
 use Rattle.std.specs.List.{list_any}
 use Rattle.away_core.specs.declared.values.Value.{Value}
 use Rattle.away_core.specs.declared.values.Value.TheVariants as val
@@ -10,7 +10,7 @@ use Rattle.away_core.specs.Operators.{compare, conjunction, is_true, is_null}
 abbrev pub is_among : Value → List Value → Value
 is_among v ws =
     if list_any (λ w. is_true (compare cmp.Eq v w)) ws then val.Bool true
-        else (if list_any (λ w. is_null (compare cmp.Eq v w)) ws then val.Null else val.Bool false)
+    else (if list_any (λ w. is_null (compare cmp.Eq v w)) ws then val.Null else val.Bool false)
 
 -- at least the one and at most the other (PostgreSQL manual, Comparison Functions and Operators)
 abbrev pub is_between : Value → Value → Value → Value

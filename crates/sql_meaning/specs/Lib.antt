@@ -19,3 +19,4 @@ pub mod Typed
 pub mod Equivalent
 pub mod OneReturn
 pub mod Decided
+pub mod Ordered

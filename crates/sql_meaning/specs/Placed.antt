@@ -23,12 +23,12 @@ abbrev pub Deep : Type 0 → Type 0
 Deep A = ℕ → A
 
 -- the same of a node with such parts
-abbrev pub Parts : (Type 0 → Type 0 → Type 0 → Type 0 → Type 0 → Type 0 → Type 0 → Type 0 → Type 0) → Type 0
-Parts F = F (Deep Expr) (Deep Source) (Deep FromItem) (Deep Item) (Deep Key) (Deep Query) (Deep Recursive) (Deep Select)
+abbrev pub Layer : (Type 0 → Type 0 → Type 0 → Type 0 → Type 0 → Type 0 → Type 0 → Type 0 → Type 0) → Type 0
+Layer F = F (Deep Expr) (Deep Source) (Deep FromItem) (Deep Item) (Deep Key) (Deep Query) (Deep Recursive) (Deep Select)
 
 -- `leaf d i` stands for slot i at depth d, and `literal` goes round each literal
 module _ (leaf : ℕ → ℕ → Expr) (literal : Ty → Expr → Expr) where
-  abbrev pub expr_in_place : Parts Expr-F → ℕ → Expr
+  abbrev pub expr_in_place : Layer Expr-F → ℕ → Expr
   expr_in_place (ex.Int n) d = literal ty.Bigint (expr.Int n)
   expr_in_place (ex.Str t) d = literal ty.Text (expr.Str t)
   expr_in_place (ex.Bool v) d = literal ty.Boolean (expr.Bool v)
@@ -53,21 +53,21 @@ module _ (leaf : ℕ → ℕ → Expr) (literal : Ty → Expr → Expr) where
   expr_in_place (ex.Scalar q) d = expr.Scalar (q d)
   expr_in_place (ex.Exists q) d = expr.Exists (q d)
 
-  abbrev pub source_in_place : Parts Source-F → ℕ → Source
+  abbrev pub source_in_place : Layer Source-F → ℕ → Source
   source_in_place (ex.Table name) d = source.Table name
   source_in_place (ex.Sub q lateral) d = source.Sub (q d) lateral
 
-  abbrev pub from_in_place : Parts FromItem-F → ℕ → FromItem
+  abbrev pub from_in_place : Layer FromItem-F → ℕ → FromItem
   from_in_place f d = roll-FromItem (record { source = f.source d; alias = f.alias; columns = f.columns })
 
-  abbrev pub item_in_place : Parts Item-F → ℕ → Item
+  abbrev pub item_in_place : Layer Item-F → ℕ → Item
   item_in_place i d = roll-Item (record { expr = i.expr d; alias = i.alias })
 
-  abbrev pub key_in_place : Parts Key-F → ℕ → Key
+  abbrev pub key_in_place : Layer Key-F → ℕ → Key
   key_in_place k d = roll-Key (record { expr = k.expr d; descending = k.descending })
 
   -- its parts stand one select further in
-  abbrev pub select_in_place : Parts Select-F → ℕ → Select
+  abbrev pub select_in_place : Layer Select-F → ℕ → Select
   select_in_place s d =
       roll-Select (record {
         list = map (λ x. x (suc d)) s.list;
@@ -77,10 +77,10 @@ module _ (leaf : ℕ → ℕ → Expr) (literal : Ty → Expr → Expr) where
         limit = option_map (λ x. x (suc d)) s.limit;
       })
 
-  abbrev pub recursive_in_place : Parts Recursive-F → ℕ → Recursive
+  abbrev pub recursive_in_place : Layer Recursive-F → ℕ → Recursive
   recursive_in_place r d = roll-Recursive (record { name = r.name; columns = r.columns; first = map (λ s. s d) r.first; second = r.second d })
 
-  abbrev pub query_in_place : Parts Query-F → ℕ → Query
+  abbrev pub query_in_place : Layer Query-F → ℕ → Query
   query_in_place q d = roll-Query (record { recursive = option_map (λ r. r d) q.recursive; selects = map (λ s. s d) q.selects })
 
   abbrev pub replacing : Algebra

@@ -11,7 +11,13 @@ ghost use Rattle.std.specs.Prelude.{
   ◌+◌,
   ◌≡◌,
   ◌≢◌,
-  ◌≤◌, map, false};
+  ◌≤◌,
+  map,
+  false,
+  filter,
+  length,
+  Bool,
+};
 ghost use Rattle.away_core.specs.declared.operators.ChainOp.TheVariants as chain;
 ghost use Rattle.away_core.specs.declared.queries.Query.{Query};
 ghost use Rattle.away_core.specs.declared.values.Answer.TheVariants as answer;
@@ -24,7 +30,9 @@ ghost use Rattle.sql_meaning.specs.Context.{Rows};
 ghost use Rattle.sql_meaning.specs.Decided.{is_among, is_between};
 ghost use Rattle.sql_meaning.specs.Expressions.{RecursiveMeaning};
 ghost use Rattle.sql_meaning.specs.Laws.{AreFilledBefore};
+ghost use Rattle.sql_meaning.specs.Ordered.{Before, InOrder, IsOrder, Keyed, ties};
 ghost use Rattle.sql_meaning.specs.Parts.{among, between, pair};
+ghost use Rattle.sql_meaning.specs.Selects.{sorted};
 ghost use Rattle.sql_meaning.specs.Working.{
   all_working,
   answered,
@@ -60,5 +68,11 @@ pub fn stopping_changes_no_value()
     ensures or { (a b : Value) → pair chain.Or a (Ok b) ≡ Ok (disjunction a b) }
     ensures between { (v low high : Value) → between v low (Ok high) ≡ Ok (is_between v low high) }
     ensures among { (v : Value) (ws : List Value) → among v (map (λ w. Ok w) ws) (val.Bool false) ≡ Ok (is_among v ws) }
-{
-}
+{}
+
+/// ORDER BY gives the same rows, in their order, and rows with equal keys keep the order of the list, where the keys are in an order at all.
+pub fn sorting_is_stable()
+    ensures same { (before : Before) (xs : List Keyed) (test : Keyed → Bool) → length (filter test (sorted before xs)) ≡ length (filter test xs) }
+    ensures in_order { (before : Before) (xs : List Keyed) → IsOrder before → InOrder before (sorted before xs) }
+    ensures ties { (before : Before) (xs : List Keyed) (keys : List Value) → IsOrder before → filter (λ x. ties before keys x.0) (sorted before xs) ≡ filter (λ x. ties before keys x.0) xs }
+{}

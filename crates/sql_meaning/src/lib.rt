@@ -17,7 +17,10 @@ pub use examples::{
     integers_have_32_bits, operators_stop_where_decided, parts_of_a_select_come_in_order,
     recursion_needs_its_bound, rows_are_put_in_order,
 };
-pub use laws::{answers_are_told_by_rows, answers_stay, stopping_changes_no_value, the_first_empty_or_faulty_table_decides};
+pub use laws::{
+    answers_are_told_by_rows, answers_stay, sorting_is_stable, stopping_changes_no_value,
+    the_first_empty_or_faulty_table_decides,
+};
 pub use one_return::one_return_is_equivalent;
 pub use places::{
     a_slot_may_be_a_column, names_mean_nothing, only_the_slots_that_are_read_matter,
