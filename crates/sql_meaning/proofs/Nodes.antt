@@ -1,15 +1,18 @@
 -- What the meaning gives at each kind of node, by what it gives at the parts.
-use Rattle.std.proofs.Common.{◌≡◌, ◌≢◌, refl, ap, sym, ◌∙◌, ℕ, ◌||◌, Bool, true, false, List, map, Option, Some, None, Ok, option_map}
+use Rattle.std.proofs.Common.{◌≡◌, ◌≢◌, refl, ap, sym, ◌∙◌, ℕ, ◌||◌, Bool, true, false, List, map, Option, Some, None, Ok, Err, option_map}
 use Rattle.std.specs.List.{list_any}
 use Rattle.away_core.specs.declared.values.Value.{Value}
 use Rattle.away_core.specs.declared.values.Value.TheVariants as val
+use Rattle.away_core.specs.declared.types.Ty.TheVariants as ty
+use Rattle.away_core.specs.declared.operators.IntOp.{IntOp}
 use Rattle.away_core.specs.declared.operators.ChainOp.{ChainOp}
+use Rattle.away_core.specs.declared.operators.ChainOp.TheVariants as chain
 use Rattle.away_core.specs.declared.queries.Expr.{Expr}
 use Rattle.away_core.specs.declared.queries.Expr.TheVariants as expr
 use Rattle.away_core.specs.declared.queries.Query.{Query}
 use Rattle.away_core.specs.declared.queries.Recursive.{Recursive}
 use Rattle.away_core.specs.declared.queries.Expr.TheViews.{out-Query, out-Recursive, roll-out-Recursive}
-use Rattle.away_core.specs.Operators.{negation_if}
+use Rattle.away_core.specs.Operators.{int_op, negated, small, negation_if}
 use Rattle.away_core.specs.Results.{Or, and_then, mapped, each, each_joined}
 use Rattle.away_core.specs.Algebra.{expr_of, recursive_of, select_of}
 use Rattle.away_core.proofs.Equations as eq
@@ -18,7 +21,7 @@ use Rattle.sql_meaning.specs.Equations.{all_values, known, recursive_part}
 use Rattle.sql_meaning.specs.Expressions.{ExprMeaning, values, over_group, called}
 use Rattle.sql_meaning.specs.Functions.{Function, Length, Substr, Coalesce, Greatest, Least, Count, Min, Max, Sum, BoolAnd, BoolOr, Unknown, aggregate, function, is_aggregate, scalar}
 use Rattle.sql_meaning.specs.Meaning.{has_aggregate, meaning, rows_of_query, rows_of_select, value}
-use Rattle.sql_meaning.specs.Parts.{among, chained, chosen, first_known}
+use Rattle.sql_meaning.specs.Parts.{pair, among, chained, chosen, first_known}
 use Rattle.sql_meaning.specs.Selects.{recursive_meaning}
 use Rattle.sql_meaning.specs.Working.{over_table, recursive_table, rows, rows_with}
 use Rattle.sql_meaning.proofs.Lists.{fused, any_map, each_map, joined_map}
@@ -43,6 +46,23 @@ value_cases arms e cx = ap (λ m. m.value cx) (eq.of_cases meaning arms (Some e)
 
 pub value_cases_alone : (arms : List (Expr × Expr)) (cx : Context) → value (expr.Cases arms None) cx ≡ chosen (Ok val.Null) (map (λ a. (value a.0 cx, value a.1 cx)) arms)
 value_cases_alone arms cx = ap (λ m. m.value cx) (eq.of_cases meaning arms None) ∙ arms_are arms cx (Ok val.Null)
+
+-- ---- operations of 32 bits
+
+then_again : (o : Or Value) (f g : Value → Or Value) → and_then o (λ v. and_then (f v) g) ≡ and_then (and_then o f) g
+then_again (Ok v) f g = refl
+then_again (Err c) f g = refl
+
+pub small_pair : (op : IntOp) (a : Value) (right : Or Value) → pair (chain.Small op) a right ≡ and_then (pair (chain.Int op) a right) small
+small_pair op a right = then_again right (int_op op a) small
+
+pub small_minus : (e : Expr) (cx : Context) → value (expr.NegSmall e) cx ≡ and_then (value (expr.Neg e) cx) small
+small_minus e cx =
+    ap (λ m. m.value cx) (eq.of_negsmall meaning e) ∙ (then_again (value e cx) negated small ∙ sym (ap (λ m. and_then (m.value cx) small) (eq.of_neg meaning e)))
+
+pub small_cast : (e : Expr) (cx : Context) → value (expr.Cast e ty.Integer) cx ≡ and_then (value (expr.Cast e ty.Bigint) cx) small
+small_cast e cx =
+    ap (λ m. m.value cx) (eq.of_cast meaning e ty.Integer) ∙ (then_again (value e cx) (λ v. Ok v) small ∙ sym (ap (λ m. and_then (m.value cx) small) (eq.of_cast meaning e ty.Bigint)))
 
 -- ---- calls
 

@@ -24,7 +24,9 @@ ghost use Rattle.std.specs.Prelude.{
 };
 ghost use Rattle.std.specs.List.{list_any};
 ghost use Rattle.away_core.specs.declared.operators.ChainOp.{ChainOp};
+ghost use Rattle.away_core.specs.declared.operators.ChainOp.TheVariants as chain;
 ghost use Rattle.away_core.specs.declared.operators.CmpOp.{CmpOp};
+ghost use Rattle.away_core.specs.declared.operators.IntOp.{IntOp};
 ghost use Rattle.away_core.specs.declared.operators.IsTest.{IsTest};
 ghost use Rattle.away_core.specs.declared.queries.Col.{Col};
 ghost use Rattle.away_core.specs.declared.queries.Expr.{Expr};
@@ -44,6 +46,7 @@ ghost use Rattle.away_core.specs.declared.queries.Query.{Query};
 ghost use Rattle.away_core.specs.declared.queries.Recursive.{Recursive};
 ghost use Rattle.away_core.specs.declared.queries.Select.{Select};
 ghost use Rattle.away_core.specs.declared.queries.Source.TheVariants as source;
+ghost use Rattle.away_core.specs.declared.types.Ty.TheVariants as ty;
 ghost use Rattle.away_core.specs.declared.types.Ty.{Ty};
 ghost use Rattle.away_core.specs.declared.values.Value.TheVariants as val;
 ghost use Rattle.away_core.specs.declared.values.Value.{Value};
@@ -57,7 +60,7 @@ ghost use Rattle.away_core.specs.Operators.{
   passes,
   small,
 };
-ghost use Rattle.away_core.specs.Results.{and_then, each_joined, mapped};
+ghost use Rattle.away_core.specs.Results.{Or, and_then, each_joined, mapped};
 ghost use Rattle.sql_meaning.specs.Context.{
   argument,
   at,
@@ -93,7 +96,7 @@ ghost use Rattle.sql_meaning.specs.Meaning.{
   rows_of_select,
   value,
 };
-ghost use Rattle.sql_meaning.specs.Parts.{among, between, chained, chosen, first_known, has_row, only};
+ghost use Rattle.sql_meaning.specs.Parts.{among, between, chained, chosen, first_known, has_row, only, pair};
 ghost use Rattle.sql_meaning.specs.Selects.{cut, kept, listed, place_of, product};
 ghost use Rattle.sql_meaning.specs.Working.{over_table, recursive_table, rows};
 
@@ -124,6 +127,13 @@ pub fn operators_take_their_operands()
     ensures cast { (e : Expr) (t : Ty) (cx : Context) → value (expr.Cast e t) cx ≡ and_then (value e cx) (cast t) }
     ensures cases { (arms : List (Expr × Expr)) (e : Expr) (cx : Context) → value (expr.Cases arms (Some e)) cx ≡ chosen (value e cx) (map (λ a. (value a.0 cx, value a.1 cx)) arms) }
     ensures cases_alone { (arms : List (Expr × Expr)) (cx : Context) → value (expr.Cases arms None) cx ≡ chosen (Ok val.Null) (map (λ a. (value a.0 cx, value a.1 cx)) arms) }
+{}
+
+/// Of type integer an operation, the minus and the cast give what the operation of bigint gives, where it has 32 bits, and 22003 where it has more.
+pub fn small_operations_are_those_of_bigint()
+    ensures chain { (op : IntOp) (a : Value) (right : Or Value) → pair (chain.Small op) a right ≡ and_then (pair (chain.Int op) a right) small }
+    ensures minus { (e : Expr) (cx : Context) → value (expr.NegSmall e) cx ≡ and_then (value (expr.Neg e) cx) small }
+    ensures cast { (e : Expr) (cx : Context) → value (expr.Cast e ty.Integer) cx ≡ and_then (value (expr.Cast e ty.Bigint) cx) small }
 {}
 
 /// COALESCE stops at its first value, an aggregate takes its argument at each row of the group, and the other functions take all arguments.

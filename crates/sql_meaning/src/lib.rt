@@ -10,7 +10,7 @@ mod places;
 pub use equations::{
     aggregates_stand_outside_subqueries, calls_take_their_arguments, items_give_rows,
     leaves_have_their_values, operators_take_their_operands, selects_give_rows,
-    subqueries_take_their_rows,
+    small_operations_are_those_of_bigint, subqueries_take_their_rows,
 };
 pub use examples::{
     a_query_is_asked_for_one_row, a_subquery_is_evaluated_whole, aggregates_skip_null,
