@@ -1,0 +1,16 @@
+pub mod Related
+pub mod Lists
+pub mod Nodes
+pub mod Bounds
+pub mod Same
+pub mod Uses
+pub mod Replacing
+pub mod Reading
+pub mod Substitution
+pub mod Nameless
+pub mod SelectRows
+pub mod RowPlaces
+pub mod Returns
+pub mod Theorem
+pub mod Stops
+pub mod Sorting
