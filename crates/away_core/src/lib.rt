@@ -12,15 +12,12 @@ mod count;
 mod errors;
 mod from_text;
 mod operator_laws;
-#[cfg(test)]
-mod operator_tests;
 mod operators;
 mod queries;
 mod schemas;
 mod statements;
-mod tokens;
-mod tree_laws;
 mod texts;
+mod tokens;
 mod tree_laws;
 mod types;
 mod values;
@@ -40,9 +37,8 @@ pub use operators::{ChainOp, CmpOp, IntOp, IsTest, TextOp};
 pub use queries::{Col, Expr, FromItem, Item, Key, Query, Recursive, Select, Source};
 pub use schemas::{ColumnSchema, Schema, TableSchema};
 pub use statements::{Arm, Decl, Function, LoopKind, Raised, Stmt};
-pub use tokens::TokenKind;
-pub use tree_laws::{literals_of_a_query_compute, queries_go_by_their_parts};
 pub use texts::text_op;
+pub use tokens::TokenKind;
 pub use tree_laws::{
     literals_of_a_query_compute, nodes_of_worked_functions, queries_go_by_their_parts,
     statements_go_by_their_parts,
@@ -55,3 +51,5 @@ pub use words::{Name, Word};
 mod copy_tests;
 #[cfg(test)]
 mod count_tests;
+#[cfg(test)]
+mod operator_tests;
