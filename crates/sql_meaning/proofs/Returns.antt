@@ -13,6 +13,7 @@ use Rattle.away_core.specs.declared.queries.Expr.TheVariants as expr
 use Rattle.away_core.specs.declared.queries.FromItem.{FromItem}
 use Rattle.away_core.specs.declared.queries.Select.{Select}
 use Rattle.away_core.specs.Operators.{compare, is_true, negation, cast, fits_small}
+use Rattle.away_core.specs.Values.{HasType}
 use Rattle.away_core.specs.Results.{Or, and_then, mapped}
 use Rattle.away_core.specs.Algebra.{expr_of, from_of}
 use Rattle.away_core.proofs.Equations as eq
@@ -25,7 +26,7 @@ use Rattle.sql_meaning.specs.Selects.{product, extend, keep, keep_if}
 use Rattle.sql_meaning.specs.Substitution.{Keeps}
 use Rattle.sql_meaning.specs.Template.{below, slot_at, gate, let_item, arguments, start, is_label, branch, step, last}
 use Rattle.sql_meaning.specs.Trees.{col, cast_to, number, truth, null_of, select, one, lateral, table}
-use Rattle.sql_meaning.specs.Typed.{has_type, AreTyped}
+use Rattle.sql_meaning.specs.Typed.{AreTyped}
 use Rattle.sql_meaning.specs.Working.{with_table}
 use Rattle.sql_meaning.proofs.RowPlaces.{read_all, nulls_then, length_nulls, at_value, after_value, last_table, at_append}
 use Rattle.sql_meaning.proofs.SelectRows.{Is, Are, is_cast, is_number, is_truth, is_null_of, is_col, none, more, for_each, for_all, rows_of, fault_of, one_row, no_row, lateral_is, rows_of_table, extended, each_one}
@@ -44,19 +45,19 @@ ranged_small true n c h = refl
 ranged_small false n c h = cc
 
 -- the cast to its own type keeps a value
-own_cast : (t : Ty) (v : Value) → has_type t v ≡ true → cast t v ≡ Ok v
+own_cast : (t : Ty) (v : Value) → HasType v t → cast t v ≡ Ok v
 own_cast ty.Bigint v h = refl
 own_cast ty.Boolean v h = refl
 own_cast ty.Integer val.Null h = refl
 own_cast ty.Integer (val.Int n) h = ranged_small (fits_small n) n _ h
-own_cast ty.Integer (val.Bool b) h = cc
-own_cast ty.Integer (val.Text s) h = cc
+own_cast ty.Integer (val.Bool b) h = absurd h
+own_cast ty.Integer (val.Text s) h = absurd h
 own_cast ty.Text val.Null h = refl
 own_cast ty.Text (val.Text s) h = refl
-own_cast ty.Text (val.Int n) h = cc
-own_cast ty.Text (val.Bool b) h = cc
+own_cast ty.Text (val.Int n) h = absurd h
+own_cast ty.Text (val.Bool b) h = absurd h
 
-is_argument : (cx : Context) (k : ℕ) (t : Ty) (v : Value) → at cx.args k ≡ v → has_type t v ≡ true → Is cx (cast_to t (expr.Param (suc k) t)) v
+is_argument : (cx : Context) (k : ℕ) (t : Ty) (v : Value) → at cx.args k ≡ v → HasType v t → Is cx (cast_to t (expr.Param (suc k) t)) v
 is_argument cx k t v p h = is_cast cx (expr.Param (suc k) t) (at cx.args k) v t (record { gives = refl; single = refl }) (ap (cast t) p ∙ own_cast t v h)
 
 -- the arguments from the k-th on, which are vs, and more behind them
