@@ -3,19 +3,10 @@
 ghost use Rattle.std.specs.Prelude.{◌≡◌, ◌-◌, ◌<◌, ◌≤◌, length, OnSome};
 ghost use Rattle.std.specs.Bool.{OnTrue};
 
-use crate::one_return::refusal::Refusal;
+use crate::one_return::refusal::FormError;
 use away_core::{Name, name};
-use away_lex::{Token, TokenKind};
+use away_lex::{Token, TokenKind, is_reserved};
 use std::alloc::Global;
-
-/// The words that are never names.
-const RESERVED: [&str; 53] = [
-    "all", "and", "as", "asc", "begin", "between", "by", "case", "cast", "coalesce", "constant",
-    "continue", "create", "declare", "default", "desc", "else", "elseif", "elsif", "end", "exists",
-    "exit", "false", "for", "from", "greatest", "if", "in", "into", "is", "lateral", "least",
-    "limit", "loop", "not", "null", "on", "or", "order", "raise", "recursive", "return", "reverse",
-    "select", "strict", "table", "then", "true", "union", "when", "where", "while", "with",
-];
 
 /// The tokens that are left.
 #[derive(Drop)]
@@ -56,7 +47,7 @@ impl<'a> Cursor<'a> {
         ensures { length self.new.rest.now ≤ length self.old.rest.now }
     {
         let found = match self.peek() {
-            Some(token) => is_word(&token, word),
+            Some(token) => token.is_word(word),
             None => false,
         };
         if found {
@@ -71,7 +62,7 @@ impl<'a> Cursor<'a> {
         ensures eaten { OnTrue result (length self.new.rest.now < length self.old.rest.now) }
     {
         match self.peek() {
-            Some(token) if is_symbol(&token, symbol) => {
+            Some(token) if token.is_symbol(symbol) => {
                 self.take();
                 true
             }
@@ -80,61 +71,48 @@ impl<'a> Cursor<'a> {
     }
 
     /// Takes these words, one after the other.
-    pub fn expect_words(&mut self, words: &[&str]) -> Result<(), Refusal>
+    pub fn expect_words(&mut self, words: &[&str]) -> Result<(), FormError>
         ensures { length self.new.rest.now ≤ length self.old.rest.now }
     {
         for word in words {
             if !self.eat_word(word) {
-                return Err(Refusal::NoTree);
+                return Err(FormError::NoTree);
             }
         }
         Ok(())
     }
 
     /// Takes the symbol.
-    pub fn expect_symbol(&mut self, symbol: &str) -> Result<(), Refusal>
+    pub fn expect_symbol(&mut self, symbol: &str) -> Result<(), FormError>
         ensures { length self.new.rest.now ≤ length self.old.rest.now }
     {
         if self.eat_symbol(symbol) {
             Ok(())
         } else {
-            Err(Refusal::NoTree)
+            Err(FormError::NoTree)
         }
     }
 
     /// Takes a name, folded to lower case.
-    pub fn expect_name(&mut self, alloc: Global) -> Result<Name, Refusal>
+    pub fn expect_name(&mut self, alloc: Global) -> Result<Name, FormError>
         ensures { length self.new.rest.now ≤ length self.old.rest.now }
     {
         match self.take() {
             Some(token) => name_of(alloc, &token),
-            None => Err(Refusal::NoTree),
+            None => Err(FormError::NoTree),
         }
     }
 }
 
-fn is_symbol(token: &Token<'_>, symbol: &str) -> bool {
-    matches!(token.kind, TokenKind::Symbol) && token.text == symbol
-}
-
-/// Whether a token is the word, in whatever case.
-fn is_word(token: &Token<'_>, word: &str) -> bool {
-    matches!(token.kind, TokenKind::Word) && token.text.eq_ignore_ascii_case(word)
-}
-
 /// The name that a token is, folded to lower case.
-pub fn name_of(alloc: Global, token: &Token<'_>) -> Result<Name, Refusal> {
+pub fn name_of(alloc: Global, token: &Token<'_>) -> Result<Name, FormError> {
     if !matches!(token.kind, TokenKind::Word) || is_reserved(token.text) {
-        return Err(Refusal::NoTree);
+        return Err(FormError::NoTree);
     }
     let mut folded = String::from_str(alloc, token.text)?;
     folded.make_ascii_lowercase();
     match name(alloc, &folded)? {
         Some(name) => Ok(name),
-        None => Err(Refusal::NoTree),
+        None => Err(FormError::NoTree),
     }
-}
-
-fn is_reserved(text: &str) -> bool {
-    RESERVED.iter().any(|word| text.eq_ignore_ascii_case(word))
 }

@@ -14,9 +14,9 @@ mod template;
 mod trees;
 mod writer;
 
-
-pub use refusal::Refusal;
-pub use source::tokens_of;
+use away_lex::FunctionTokens;
+pub use refusal::{FormError, Refusal};
+pub use source::{SourceError, tokens_of};
 use std::alloc::Global;
 
 /// The text of the query that the function is compiled into.
@@ -24,7 +24,17 @@ pub fn compiled(alloc: Global, bytes: &[u8]) -> Result<String, Refusal>
     ensures ok { IfOk result (λ query. HasReadTokens bytes.now) }
     ensures err { IfErr result (IsRefusal bytes.now) }
 {
-    let function = reader::read_function(alloc, bytes)?;
+    match source::function_tokens_of(alloc, bytes) {
+        Ok(lists) => match query_text(alloc, &lists) {
+            Ok(text) => Ok(text),
+            Err(error) => Err(Refusal::Form(error)),
+        },
+        Err(error) => Err(Refusal::Source(error)),
+    }
+}
+
+fn query_text(alloc: Global, lists: &FunctionTokens<'_>) -> Result<String, FormError> {
+    let function = reader::function(alloc, &lists.outer, &lists.body)?;
     let query = template::query_of(alloc, &function)?;
     Ok(printer::print_query(alloc, &query)?)
 }

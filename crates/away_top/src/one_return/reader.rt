@@ -1,11 +1,9 @@
 //! The reader of functions that are one RETURN over bigint parameters.
 
-ghost use Rattle.std.specs.Prelude.{◌<◌, ◌≤◌, length, IfErr, IfOk, OnSome};
-ghost use Rattle.away_top.specs.Refusals.{HasReadTokens, IsRefusal};
+ghost use Rattle.std.specs.Prelude.{◌<◌, ◌≤◌, length, OnSome};
 
 use crate::one_return::cursor::{Cursor, name_of};
-use crate::one_return::refusal::Refusal;
-use crate::one_return::source::{first_quote, inside_tokens, mark_len, tokens_of};
+use crate::one_return::refusal::FormError;
 use away_core::{ChainOp, Expr, Function, IntOp, Name, Stmt, Ty};
 use away_lex::{Token, TokenKind};
 use sqlite_items::{Boxed, Items};
@@ -17,41 +15,32 @@ const MAX_NESTING: u32 = 64;
 /// How many parameters a function may have.
 const MAX_PARAMETERS: usize = 64;
 
-/// The function that the bytes of a file spell.
-pub fn read_function(alloc: Global, bytes: &[u8]) -> Result<Function, Refusal>
-    ensures ok { IfOk result (λ f. HasReadTokens bytes.now) }
-    ensures err { IfErr result (IsRefusal bytes.now) }
-{
-    let outer = tokens_of(alloc, bytes)?;
-    match first_quote(&outer) {
-        None => Err(Refusal::NoTree),
-        Some(quote) => {
-            let inner = inside_tokens(alloc, &quote)?;
-            function(alloc, &outer, &inner)
-        }
-    }
-}
-
-fn function(
+/// The function that the tokens of a file and those of its body spell.
+pub fn function(
     alloc: Global,
     outer: &[Token<'_>],
     inner: &[Token<'_>],
-) -> Result<Function, Refusal> {
+) -> Result<Function, FormError> {
     let (name, params) = header(alloc, outer)?;
-    let value = body(alloc, inner)?;
-    let mut statements = Items::new(alloc);
-    statements.push(Stmt::Return(value))?;
+    let body = block(alloc, body(alloc, inner)?)?;
     Ok(Function {
         name,
         strict: false,
         params,
         result: Ty::Bigint,
-        body: Stmt::Block {
-            label: None,
-            decls: Items::new(alloc),
-            body: statements,
-            closing: None,
-        },
+        body,
+    })
+}
+
+/// The block of one RETURN.
+fn block(alloc: Global, value: Expr) -> Result<Stmt, FormError> {
+    let mut body = Items::new(alloc);
+    body.push(Stmt::Return(value))?;
+    Ok(Stmt::Block {
+        label: None,
+        decls: Items::new(alloc),
+        body,
+        closing: None,
     })
 }
 
@@ -59,7 +48,7 @@ fn function(
 fn header(
     alloc: Global,
     outer: &[Token<'_>],
-) -> Result<(Name, Items<(Name, Ty)>), Refusal> {
+) -> Result<(Name, Items<(Name, Ty)>), FormError> {
     let mut cursor = Cursor::new(outer);
     cursor.expect_words(&["create", "function"])?;
     let name = qualified_name(alloc, &mut cursor)?;
@@ -71,20 +60,20 @@ fn header(
             if cursor.is_at_end() {
                 Ok((name, params))
             } else {
-                Err(Refusal::NoTree)
+                Err(FormError::NoTree)
             }
         }
-        _ => Err(Refusal::NoTree),
+        _ => Err(FormError::NoTree),
     }
 }
 
 /// Whether the token is a dollar quote without a tag.
 fn is_plain_quote(token: &Token<'_>) -> bool {
-    matches!(token.kind, TokenKind::Dollar) && mark_len(token.text) == 2
+    matches!(token.kind, TokenKind::Dollar) && token.text.starts_with("$$")
 }
 
 /// A name, or `public`, a dot and a name.
-fn qualified_name(alloc: Global, cursor: &mut Cursor<'_>) -> Result<Name, Refusal> {
+fn qualified_name(alloc: Global, cursor: &mut Cursor<'_>) -> Result<Name, FormError> {
     let name = cursor.expect_name(alloc)?;
     if name.text() == "public" && cursor.eat_symbol(".") {
         cursor.expect_name(alloc)
@@ -94,7 +83,7 @@ fn qualified_name(alloc: Global, cursor: &mut Cursor<'_>) -> Result<Name, Refusa
 }
 
 /// The parameters with their parentheses: at most 64 names of type bigint, each another one.
-fn parameters(alloc: Global, cursor: &mut Cursor<'_>) -> Result<Items<(Name, Ty)>, Refusal> {
+fn parameters(alloc: Global, cursor: &mut Cursor<'_>) -> Result<Items<(Name, Ty)>, FormError> {
     let mut params = Items::new(alloc);
     cursor.expect_symbol("(")?;
     if cursor.eat_symbol(")") {
@@ -103,7 +92,7 @@ fn parameters(alloc: Global, cursor: &mut Cursor<'_>) -> Result<Items<(Name, Ty)
     for _ in 0..MAX_PARAMETERS {
         let name = cursor.expect_name(alloc)?;
         if is_parameter(params.as_slice(), &name) || name.text().starts_with("away_") {
-            return Err(Refusal::NoTree);
+            return Err(FormError::NoTree);
         }
         cursor.expect_words(&["bigint"])?;
         params.push((name, Ty::Bigint))?;
@@ -112,7 +101,7 @@ fn parameters(alloc: Global, cursor: &mut Cursor<'_>) -> Result<Items<(Name, Ty)
         }
         cursor.expect_symbol(",")?;
     }
-    Err(Refusal::NoTree)
+    Err(FormError::NoTree)
 }
 
 fn is_parameter(params: &[(Name, Ty)], name: &Name) -> bool {
@@ -120,7 +109,7 @@ fn is_parameter(params: &[(Name, Ty)], name: &Name) -> bool {
 }
 
 /// `BEGIN RETURN e; END [;]`
-fn body(alloc: Global, inner: &[Token<'_>]) -> Result<Expr, Refusal> {
+fn body(alloc: Global, inner: &[Token<'_>]) -> Result<Expr, FormError> {
     let mut cursor = Cursor::new(inner);
     cursor.expect_words(&["begin", "return"])?;
     let value = sum(alloc, &mut cursor, MAX_NESTING)?;
@@ -130,13 +119,13 @@ fn body(alloc: Global, inner: &[Token<'_>]) -> Result<Expr, Refusal> {
     if cursor.is_at_end() {
         Ok(value)
     } else {
-        Err(Refusal::NoTree)
+        Err(FormError::NoTree)
     }
 }
 
 /// Products that `+` and `-` join, with so many parentheses left to stand in one another.
 #[cycle(reader)]
-fn sum(alloc: Global, cursor: &mut Cursor<'_>, nesting: u32) -> Result<Expr, Refusal>
+fn sum(alloc: Global, cursor: &mut Cursor<'_>, nesting: u32) -> Result<Expr, FormError>
     ensures { length cursor.new.rest.now ≤ length cursor.old.rest.now }
 {
     let first = product(alloc, cursor, nesting)?;
@@ -149,7 +138,7 @@ fn sum(alloc: Global, cursor: &mut Cursor<'_>, nesting: u32) -> Result<Expr, Ref
 
 /// Operands that `*` joins.
 #[cycle(reader)]
-fn product(alloc: Global, cursor: &mut Cursor<'_>, nesting: u32) -> Result<Expr, Refusal>
+fn product(alloc: Global, cursor: &mut Cursor<'_>, nesting: u32) -> Result<Expr, FormError>
     ensures { length cursor.new.rest.now ≤ length cursor.old.rest.now }
 {
     let first = primary(alloc, cursor, nesting)?;
@@ -165,12 +154,12 @@ fn product(alloc: Global, cursor: &mut Cursor<'_>, nesting: u32) -> Result<Expr,
 
 /// An integer, a name, or a sum in parentheses.
 #[cycle(reader)]
-fn primary(alloc: Global, cursor: &mut Cursor<'_>, nesting: u32) -> Result<Expr, Refusal>
+fn primary(alloc: Global, cursor: &mut Cursor<'_>, nesting: u32) -> Result<Expr, FormError>
     ensures { length cursor.new.rest.now ≤ length cursor.old.rest.now }
 {
     if cursor.eat_symbol("(") {
         if nesting == 0 {
-            return Err(Refusal::NoTree);
+            return Err(FormError::NoTree);
         }
         let inside = sum(alloc, cursor, nesting - 1)?;
         cursor.expect_symbol(")")?;
@@ -178,7 +167,7 @@ fn primary(alloc: Global, cursor: &mut Cursor<'_>, nesting: u32) -> Result<Expr,
     }
     match cursor.take() {
         Some(token) => operand(alloc, &token),
-        None => Err(Refusal::NoTree),
+        None => Err(FormError::NoTree),
     }
 }
 
@@ -200,7 +189,7 @@ fn chain(
     alloc: Global,
     first: Expr,
     links: Items<(ChainOp, Expr)>,
-) -> Result<Expr, Refusal> {
+) -> Result<Expr, FormError> {
     if links.is_empty() {
         Ok(first)
     } else {
@@ -209,13 +198,13 @@ fn chain(
 }
 
 /// An integer of at most 9223372036854775807, or a name.
-fn operand(alloc: Global, token: &Token<'_>) -> Result<Expr, Refusal> {
+fn operand(alloc: Global, token: &Token<'_>) -> Result<Expr, FormError> {
     match token.kind {
         TokenKind::Integer => match token.text.parse::<i64>() {
             Ok(number) => Ok(Expr::Int(number)),
-            Err(_) => Err(Refusal::NoTree),
+            Err(_) => Err(FormError::NoTree),
         },
         TokenKind::Word => Ok(Expr::Named(name_of(alloc, token)?)),
-        _ => Err(Refusal::NoTree),
+        _ => Err(FormError::NoTree),
     }
 }

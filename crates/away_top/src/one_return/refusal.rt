@@ -1,15 +1,12 @@
 //! Why a function isn't compiled.
 
+use crate::one_return::source::SourceError;
 use away_core::NoMemory;
-use std::alloc::{AllocError, AllocFailed};
+use std::alloc::AllocError;
 
-/// A refusal of a file's text, or want of memory.
+/// The tokens aren't those of a function that is compiled, or memory is wanting.
 #[derive(Clone, Copy, Debug, PartialEq, Eq)]
-pub enum Refusal {
-    /// The bytes aren't UTF-8, or contain U+0000.
-    NotText,
-    /// No token begins at this byte.
-    Token { offset: u64 },
+pub enum FormError {
     /// The tokens aren't of the form that is read.
     NoTree,
     /// The expression has a name that is no parameter.
@@ -17,24 +14,21 @@ pub enum Refusal {
     NoMemory,
 }
 
-impl From<AllocError> for Refusal {
-    ghost use Rattle.std.specs.Prelude.{◌≡◌};
-    ghost use Rattle.away_top.specs.declared.one_return.refusal.Refusal.TheVariants.{NoMemory};
-
-    ghost from_gives = { λ _ e. e ≡ NoMemory };
-
-    fn from(_error: AllocError) -> Refusal {
-        Refusal::NoMemory
+impl From<AllocError> for FormError {
+    fn from(_error: AllocError) -> FormError {
+        FormError::NoMemory
     }
 }
 
-impl From<NoMemory> for Refusal {
-    ghost use Rattle.std.specs.Prelude.{◌≡◌};
-    ghost use Rattle.away_top.specs.declared.one_return.refusal.Refusal.TheVariants.{NoMemory};
-
-    ghost from_gives = { λ _ e. e ≡ NoMemory };
-
-    fn from(_error: NoMemory) -> Refusal {
-        Refusal::NoMemory
+impl From<NoMemory> for FormError {
+    fn from(_error: NoMemory) -> FormError {
+        FormError::NoMemory
     }
+}
+
+/// Why a function's file is refused.
+#[derive(Clone, Copy, Debug, PartialEq, Eq)]
+pub enum Refusal {
+    Source(SourceError),
+    Form(FormError),
 }

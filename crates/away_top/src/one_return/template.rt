@@ -1,11 +1,8 @@
 //! The query of a function that is one RETURN: a recursive table with one row for each visit of the function's one label.
 //! (Duta, Hirn and Grust, "Compiling PL/SQL Away", CIDR 2020: a call flag, the arguments and the result.)
 
-ghost use Rattle.std.specs.Prelude.{IfErr};
-ghost use Rattle.away_top.specs.Refusals.{IsOfTree};
-
 use crate::one_return::names::{Known, column_name, columns, results};
-use crate::one_return::refusal::Refusal;
+use crate::one_return::refusal::FormError;
 use crate::one_return::trees::{
     List, alone, column, equal, from_table, goes_on, is_over, lateral, null, number, truth,
 };
@@ -16,16 +13,14 @@ use sqlite_items::{Boxed, Items};
 use std::alloc::Global;
 
 /// The query that has the function's answer: its row is a value and the class of a fault.
-pub fn query_of(alloc: Global, function: &Function) -> Result<Query, Refusal>
-    ensures { IfErr result IsOfTree }
-{
+pub fn query_of(alloc: Global, function: &Function) -> Result<Query, FormError> {
     let params = function.params.as_slice();
     match &function.body {
         Stmt::Block { body, .. } => {
             let value = returned(alloc, params, body.as_slice())?;
             Ok(query_with(alloc, params, value)?)
         }
-        _ => Err(Refusal::NoTree),
+        _ => Err(FormError::NoTree),
     }
 }
 
@@ -34,20 +29,16 @@ fn returned(
     alloc: Global,
     params: &[(Name, Ty)],
     statements: &[Stmt],
-) -> Result<Expr, Refusal>
-    ensures { IfErr result IsOfTree }
-{
+) -> Result<Expr, FormError> {
     match statements {
         [Stmt::Return(value)] => placed(alloc, params, value),
-        _ => Err(Refusal::NoTree),
+        _ => Err(FormError::NoTree),
     }
 }
 
 /// The expression with a column of the working table for each parameter, and each literal under a cast to its type.
 #[cycle(placed)]
-fn placed(alloc: Global, params: &[(Name, Ty)], value: &Expr) -> Result<Expr, Refusal>
-    ensures { IfErr result IsOfTree }
-{
+fn placed(alloc: Global, params: &[(Name, Ty)], value: &Expr) -> Result<Expr, FormError> {
     match value {
         Expr::Int(literal) => Ok(number(alloc, *literal)?),
         Expr::Named(name) => reference(alloc, params, name),
@@ -57,7 +48,7 @@ fn placed(alloc: Global, params: &[(Name, Ty)], value: &Expr) -> Result<Expr, Re
             let links = placed_links(alloc, params, links.as_slice())?;
             Ok(Expr::Chain(first, links))
         }
-        _ => Err(Refusal::NoTree),
+        _ => Err(FormError::NoTree),
     }
 }
 
@@ -66,9 +57,7 @@ fn placed_links(
     alloc: Global,
     params: &[(Name, Ty)],
     links: &[(ChainOp, Expr)],
-) -> Result<Items<(ChainOp, Expr)>, Refusal>
-    ensures { IfErr result IsOfTree }
-{
+) -> Result<Items<(ChainOp, Expr)>, FormError> {
     let mut all = Items::new(alloc);
     for i in 0..links.len() {
         all.push((links[i].0, placed(alloc, params, &links[i].1)?))?;
@@ -77,9 +66,7 @@ fn placed_links(
 }
 
 /// The working table's column of a parameter.
-fn reference(alloc: Global, params: &[(Name, Ty)], name: &Name) -> Result<Expr, Refusal>
-    ensures { IfErr result IsOfTree }
-{
+fn reference(alloc: Global, params: &[(Name, Ty)], name: &Name) -> Result<Expr, FormError> {
     match params
         .iter()
         .position(|param| param.0.text() == name.text())
@@ -88,7 +75,7 @@ fn reference(alloc: Global, params: &[(Name, Ty)], name: &Name) -> Result<Expr, 
             let table = Known::Table.name(alloc)?;
             Ok(Expr::Dotted(table, column_name(alloc, place)?))
         }
-        None => Err(Refusal::UnknownName),
+        None => Err(FormError::UnknownName),
     }
 }
 
