@@ -9,7 +9,8 @@ use crate::Status;
 use itoa::Buffer;
 use std::alloc::{AllocError, Global};
 
-const HELP: &[u8] = b"away compile SCHEMA FUNC   write the query that the function in FUNC becomes, over the tables of SCHEMA\naway --help                write these lines\naway --version             write the program's name and version\n";
+const HELP: &[u8] =
+    b"away compile SCHEMA FUNC   write the query that the function in FUNC becomes, over the tables of SCHEMA\naway --help                write these lines\naway --version             write the program's name and version\n";
 
 /// A status with the whole output of the run.
 #[derive(Drop)]

@@ -92,4 +92,3 @@ fn find<'a>(held: &'a [(String, Vec<u8>)], name: &str) -> Option<&'a [u8]>
     }
     None
 }
-

@@ -32,11 +32,7 @@ impl Model for MemorySink {
 impl MemorySink {
     /// Room for so many bytes, all taken at once. The writes with these numbers, counted from 1, fail, and take the
     /// number of bytes beside it. The first of two entries with one number counts.
-    pub fn new(
-        alloc: Global,
-        room: usize,
-        fails: Vec<(u64, usize)>,
-    ) -> Result<MemorySink, NoMemory>
+    pub fn new(alloc: Global, room: usize, fails: Vec<(u64, usize)>) -> Result<MemorySink, NoMemory>
         ensures bytes { IfOk result (λ sink. sink.bytes ≡ []) }
         ensures room { IfOk result (λ sink. sink.room ≡ room) }
         ensures fails { IfOk result (λ sink. sink.fails ≡ fails.items) }

@@ -1,6 +1,6 @@
 //! The names of the query's tables and columns.
 
-ghost use Rattle.std.specs.Prelude.{◌≡◌, IfOk};
+ghost use Rattle.std.specs.Prelude.{◌≡◌, ◌+◌, length, IfOk};
 ghost use Rattle.away_core.specs.Words.{IsName};
 
 use away_core::{Name, NoMemory, name};
@@ -51,7 +51,9 @@ impl Known {
     }
 
     /// A list of this name alone.
-    pub fn alone(self, alloc: Global) -> Result<Items<Name>, NoMemory> {
+    pub fn alone(self, alloc: Global) -> Result<Items<Name>, NoMemory>
+        ensures { IfOk result (λ list. length list ≡ 1) }
+    {
         let mut list = Items::new(alloc);
         list.push(self.name(alloc)?)?;
         Ok(list)
@@ -59,7 +61,9 @@ impl Known {
 }
 
 /// The columns of the working table, for so many parameters.
-pub fn columns(alloc: Global, params: usize) -> Result<Items<Name>, NoMemory> {
+pub fn columns(alloc: Global, params: usize) -> Result<Items<Name>, NoMemory>
+    ensures { IfOk result (λ all. length all ≡ params + 4) }
+{
     let mut all = Known::Go.alone(alloc)?;
     all.push(Known::Label.name(alloc)?)?;
     for place in 0..params {
@@ -70,7 +74,9 @@ pub fn columns(alloc: Global, params: usize) -> Result<Items<Name>, NoMemory> {
 }
 
 /// The columns of the result and of the fault.
-pub fn results(alloc: Global) -> Result<Items<Name>, NoMemory> {
+pub fn results(alloc: Global) -> Result<Items<Name>, NoMemory>
+    ensures { IfOk result (λ all. length all ≡ 2) }
+{
     let mut all = Known::Result.alone(alloc)?;
     all.push(Known::Fault.name(alloc)?)?;
     Ok(all)

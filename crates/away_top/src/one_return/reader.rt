@@ -45,10 +45,7 @@ fn block(alloc: Global, value: Expr) -> Result<Stmt, FormError> {
 }
 
 /// `CREATE FUNCTION [public.]name(parameters) RETURNS bigint LANGUAGE plpgsql AS $$..$$ [;]`
-fn header(
-    alloc: Global,
-    outer: &[Token<'_>],
-) -> Result<(Name, Items<(Name, Ty)>), FormError> {
+fn header(alloc: Global, outer: &[Token<'_>]) -> Result<(Name, Items<(Name, Ty)>), FormError> {
     let mut cursor = Cursor::new(outer);
     cursor.expect_words(&["create", "function"])?;
     let name = qualified_name(alloc, &mut cursor)?;
@@ -144,10 +141,7 @@ fn product(alloc: Global, cursor: &mut Cursor<'_>, nesting: u32) -> Result<Expr,
     let first = primary(alloc, cursor, nesting)?;
     let mut links = Items::new(alloc);
     while cursor.eat_symbol("*") {
-        links.push((
-            ChainOp::Int(IntOp::Mul),
-            primary(alloc, cursor, nesting)?,
-        ))?;
+        links.push((ChainOp::Int(IntOp::Mul), primary(alloc, cursor, nesting)?))?;
     }
     chain(alloc, first, links)
 }
@@ -185,11 +179,7 @@ fn sum_operator(cursor: &mut Cursor<'_>) -> Option<ChainOp>
 }
 
 /// The one flat chain of an operator level; a lone operand is itself.
-fn chain(
-    alloc: Global,
-    first: Expr,
-    links: Items<(ChainOp, Expr)>,
-) -> Result<Expr, FormError> {
+fn chain(alloc: Global, first: Expr, links: Items<(ChainOp, Expr)>) -> Result<Expr, FormError> {
     if links.is_empty() {
         Ok(first)
     } else {

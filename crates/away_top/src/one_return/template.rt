@@ -25,11 +25,7 @@ pub fn query_of(alloc: Global, function: &Function) -> Result<Query, FormError> 
 }
 
 /// The expression of a body that is one RETURN, as the query has it.
-fn returned(
-    alloc: Global,
-    params: &[(Name, Ty)],
-    statements: &[Stmt],
-) -> Result<Expr, FormError> {
+fn returned(alloc: Global, params: &[(Name, Ty)], statements: &[Stmt]) -> Result<Expr, FormError> {
     match statements {
         [Stmt::Return(value)] => placed(alloc, params, value),
         _ => Err(FormError::NoTree),
@@ -88,11 +84,7 @@ fn query_with(alloc: Global, params: &[(Name, Ty)], value: Expr) -> Result<Query
     })
 }
 
-fn working_table(
-    alloc: Global,
-    params: &[(Name, Ty)],
-    value: Expr,
-) -> Result<Recursive, NoMemory> {
+fn working_table(alloc: Global, params: &[(Name, Ty)], value: Expr) -> Result<Recursive, NoMemory> {
     let name = Known::Table.name(alloc)?;
     let columns = columns(alloc, params.len())?;
     let first = first_term(alloc, params)?;

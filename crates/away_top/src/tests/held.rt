@@ -50,7 +50,9 @@ pub fn execute(
 
 /// A function of this body over the parameters a and b.
 pub fn function(alloc: Global, value: &str) -> Result<Vec<u8>, AllocError> {
-    let text = format!(in alloc; "CREATE FUNCTION f(a bigint, b bigint) RETURNS bigint LANGUAGE plpgsql AS $$ BEGIN RETURN {value}; END; $$;")?;
+    let text = format!(in alloc;
+        "CREATE FUNCTION f(a bigint, b bigint) RETURNS bigint LANGUAGE plpgsql AS $$ BEGIN RETURN {value}; END; $$;"
+    )?;
     Ok(text.into_bytes())
 }
 

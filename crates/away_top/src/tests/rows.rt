@@ -5,9 +5,11 @@ use crate::{Files, MemoryFiles, ReadError, Status, code};
 use std::alloc::{AllocError, Global};
 use std::test::Fail;
 
-const TOTAL: &str = "WITH RECURSIVE away_r(away_go, away_fn, away_c0, away_c1, away_res, away_err) AS (SELECT CAST(TRUE AS boolean), CAST(1 AS bigint), CAST($1 AS bigint), CAST($2 AS bigint), CAST(NULL AS bigint), CAST(NULL AS text) UNION ALL SELECT away_s.away_go, away_s.away_fn, away_s.away_c0, away_s.away_c1, away_s.away_res, away_s.away_err FROM away_r, LATERAL (SELECT CAST(FALSE AS boolean), CAST(0 AS bigint), CAST(NULL AS bigint), CAST(NULL AS bigint), away_k2.away_v, CAST(NULL AS text) FROM LATERAL (SELECT CAST(TRUE AS boolean) WHERE away_r.away_fn = CAST(1 AS bigint)) AS away_k1(away_v), LATERAL (SELECT away_r.away_c0 + away_r.away_c1 * CAST(2 AS bigint)) AS away_k2(away_v)) AS away_s(away_go, away_fn, away_c0, away_c1, away_res, away_err) WHERE away_r.away_go) SELECT away_r.away_res, away_r.away_err FROM away_r WHERE NOT away_r.away_go\n";
+const TOTAL: &str =
+    "WITH RECURSIVE away_r(away_go, away_fn, away_c0, away_c1, away_res, away_err) AS (SELECT CAST(TRUE AS boolean), CAST(1 AS bigint), CAST($1 AS bigint), CAST($2 AS bigint), CAST(NULL AS bigint), CAST(NULL AS text) UNION ALL SELECT away_s.away_go, away_s.away_fn, away_s.away_c0, away_s.away_c1, away_s.away_res, away_s.away_err FROM away_r, LATERAL (SELECT CAST(FALSE AS boolean), CAST(0 AS bigint), CAST(NULL AS bigint), CAST(NULL AS bigint), away_k2.away_v, CAST(NULL AS text) FROM LATERAL (SELECT CAST(TRUE AS boolean) WHERE away_r.away_fn = CAST(1 AS bigint)) AS away_k1(away_v), LATERAL (SELECT away_r.away_c0 + away_r.away_c1 * CAST(2 AS bigint)) AS away_k2(away_v)) AS away_s(away_go, away_fn, away_c0, away_c1, away_res, away_err) WHERE away_r.away_go) SELECT away_r.away_res, away_r.away_err FROM away_r WHERE NOT away_r.away_go\n";
 
-const HELP: &str = "away compile SCHEMA FUNC   write the query that the function in FUNC becomes, over the tables of SCHEMA\naway --help                write these lines\naway --version             write the program's name and version\n";
+const HELP: &str =
+    "away compile SCHEMA FUNC   write the query that the function in FUNC becomes, over the tables of SCHEMA\naway --help                write these lines\naway --version             write the program's name and version\n";
 
 fn show(rt: &impl std::process::Abort, run: &Run, status: u8, output: &str) {
     assert_eq!(rt; code(&run.status), status);
@@ -17,7 +19,12 @@ fn show(rt: &impl std::process::Abort, run: &Run, status: u8, output: &str) {
 #[test]
 fn the_worked_function_compiles(rt: HostRuntime) -> Result<(), Fail> {
     let alloc = rt.alloc();
-    show(&rt, &compile(alloc, &function(alloc, "a + b * 2")?)?, 0, TOTAL);
+    show(
+        &rt,
+        &compile(alloc, &function(alloc, "a + b * 2")?)?,
+        0,
+        TOTAL,
+    );
     Ok(())
 }
 
@@ -39,12 +46,30 @@ fn expressions_have_the_fewest_parentheses(rt: HostRuntime) -> Result<(), Fail> 
     for (value, expected) in [
         ("a", "away_r.away_c0"),
         ("((B))", "away_r.away_c1"),
-        ("a - (b - 1)", "away_r.away_c0 - (away_r.away_c1 - CAST(1 AS bigint))"),
-        ("(a - b) - 1", "(away_r.away_c0 - away_r.away_c1) - CAST(1 AS bigint)"),
-        ("a - b - 1", "away_r.away_c0 - away_r.away_c1 - CAST(1 AS bigint)"),
-        ("(a * b) + 1", "away_r.away_c0 * away_r.away_c1 + CAST(1 AS bigint)"),
-        ("a * (b + 1)", "away_r.away_c0 * (away_r.away_c1 + CAST(1 AS bigint))"),
-        ("a * (b * 1)", "away_r.away_c0 * (away_r.away_c1 * CAST(1 AS bigint))"),
+        (
+            "a - (b - 1)",
+            "away_r.away_c0 - (away_r.away_c1 - CAST(1 AS bigint))",
+        ),
+        (
+            "(a - b) - 1",
+            "(away_r.away_c0 - away_r.away_c1) - CAST(1 AS bigint)",
+        ),
+        (
+            "a - b - 1",
+            "away_r.away_c0 - away_r.away_c1 - CAST(1 AS bigint)",
+        ),
+        (
+            "(a * b) + 1",
+            "away_r.away_c0 * away_r.away_c1 + CAST(1 AS bigint)",
+        ),
+        (
+            "a * (b + 1)",
+            "away_r.away_c0 * (away_r.away_c1 + CAST(1 AS bigint))",
+        ),
+        (
+            "a * (b * 1)",
+            "away_r.away_c0 * (away_r.away_c1 * CAST(1 AS bigint))",
+        ),
         ("9223372036854775807", "CAST(9223372036854775807 AS bigint)"),
         ("007", "CAST(7 AS bigint)"),
     ] {
@@ -58,20 +83,62 @@ fn functions_are_refused_by_the_first_rule(rt: HostRuntime) -> Result<(), Fail> 
     let alloc = rt.alloc();
     for (text, output) in [
         ("", "refused f.sql X3\n"),
-        ("CREATE FUNCTION f() RETURNS bigint LANGUAGE plpgsql AS $$ BEGIN", "refused f.sql X2 55\n"),
-        ("CREATE FUNCTION f(a bigint, b bigint) RETURNS bigint LANGUAGE plpgsql AS $$ BEGIN RETURN a + c; END; $$;", "refused f.sql X7\n"),
-        ("CREATE FUNCTION f(a bigint, b bigint) RETURNS bigint LANGUAGE plpgsql AS $$ BEGIN RETURN a / b; END; $$;", "refused f.sql X3\n"),
-        ("CREATE FUNCTION f(a bigint, b bigint) RETURNS bigint LANGUAGE plpgsql AS $$ BEGIN RETURN a ? b; END; $$;", "refused f.sql X2 91\n"),
-        ("CREATE FUNCTION f(a bigint) RETURNS bigint LANGUAGE plpgsql AS $$ BEGIN RETURN a ? 1; END; $$ ?", "refused f.sql X2 94\n"),
-        ("CREATE FUNCTION f(a bigint) RETURNS bigint LANGUAGE plpgsql AS $$ BEGIN RETURN $x$ $x$; END; $$", "refused f.sql X2 79\n"),
-        ("CREATE FUNCTION f() RETURNS bigint LANGUAGE plpgsql AS $$ BEGIN RETURN 9223372036854775808; END; $$", "refused f.sql X3\n"),
-        ("CREATE FUNCTION f() RETURNS bigint LANGUAGE plpgsql AS $$ BEGIN RETURN 9223372036854775809; END; $$", "refused f.sql X2 71\n"),
-        ("CREATE FUNCTION f() RETURNS bigint LANGUAGE plpgsql AS $$ BEGIN RETURN -1; END; $$", "refused f.sql X3\n"),
-        ("CREATE FUNCTION f(a bigint, A bigint) RETURNS bigint LANGUAGE plpgsql AS $$ BEGIN RETURN a; END; $$", "refused f.sql X3\n"),
-        ("CREATE FUNCTION f(away_a bigint) RETURNS bigint LANGUAGE plpgsql AS $$ BEGIN RETURN 1; END; $$", "refused f.sql X3\n"),
-        ("CREATE FUNCTION f(limit bigint) RETURNS bigint LANGUAGE plpgsql AS $$ BEGIN RETURN 1; END; $$", "refused f.sql X3\n"),
-        ("CREATE FUNCTION f(a text) RETURNS bigint LANGUAGE plpgsql AS $$ BEGIN RETURN 1; END; $$", "refused f.sql X3\n"),
-        ("CREATE FUNCTION f() RETURNS bigint LANGUAGE plpgsql AS $$ BEGIN RETURN 1; END; $$; x", "refused f.sql X3\n"),
+        (
+            "CREATE FUNCTION f() RETURNS bigint LANGUAGE plpgsql AS $$ BEGIN",
+            "refused f.sql X2 55\n",
+        ),
+        (
+            "CREATE FUNCTION f(a bigint, b bigint) RETURNS bigint LANGUAGE plpgsql AS $$ BEGIN RETURN a + c; END; $$;",
+            "refused f.sql X7\n",
+        ),
+        (
+            "CREATE FUNCTION f(a bigint, b bigint) RETURNS bigint LANGUAGE plpgsql AS $$ BEGIN RETURN a / b; END; $$;",
+            "refused f.sql X3\n",
+        ),
+        (
+            "CREATE FUNCTION f(a bigint, b bigint) RETURNS bigint LANGUAGE plpgsql AS $$ BEGIN RETURN a ? b; END; $$;",
+            "refused f.sql X2 91\n",
+        ),
+        (
+            "CREATE FUNCTION f(a bigint) RETURNS bigint LANGUAGE plpgsql AS $$ BEGIN RETURN a ? 1; END; $$ ?",
+            "refused f.sql X2 94\n",
+        ),
+        (
+            "CREATE FUNCTION f(a bigint) RETURNS bigint LANGUAGE plpgsql AS $$ BEGIN RETURN $x$ $x$; END; $$",
+            "refused f.sql X2 79\n",
+        ),
+        (
+            "CREATE FUNCTION f() RETURNS bigint LANGUAGE plpgsql AS $$ BEGIN RETURN 9223372036854775808; END; $$",
+            "refused f.sql X3\n",
+        ),
+        (
+            "CREATE FUNCTION f() RETURNS bigint LANGUAGE plpgsql AS $$ BEGIN RETURN 9223372036854775809; END; $$",
+            "refused f.sql X2 71\n",
+        ),
+        (
+            "CREATE FUNCTION f() RETURNS bigint LANGUAGE plpgsql AS $$ BEGIN RETURN -1; END; $$",
+            "refused f.sql X3\n",
+        ),
+        (
+            "CREATE FUNCTION f(a bigint, A bigint) RETURNS bigint LANGUAGE plpgsql AS $$ BEGIN RETURN a; END; $$",
+            "refused f.sql X3\n",
+        ),
+        (
+            "CREATE FUNCTION f(away_a bigint) RETURNS bigint LANGUAGE plpgsql AS $$ BEGIN RETURN 1; END; $$",
+            "refused f.sql X3\n",
+        ),
+        (
+            "CREATE FUNCTION f(limit bigint) RETURNS bigint LANGUAGE plpgsql AS $$ BEGIN RETURN 1; END; $$",
+            "refused f.sql X3\n",
+        ),
+        (
+            "CREATE FUNCTION f(a text) RETURNS bigint LANGUAGE plpgsql AS $$ BEGIN RETURN 1; END; $$",
+            "refused f.sql X3\n",
+        ),
+        (
+            "CREATE FUNCTION f() RETURNS bigint LANGUAGE plpgsql AS $$ BEGIN RETURN 1; END; $$; x",
+            "refused f.sql X3\n",
+        ),
         ("\u{0}", "refused f.sql X1\n"),
         ("\u{e9}", "refused f.sql X2 0\n"),
     ] {
@@ -100,7 +167,12 @@ fn parentheses_nest_64_deep(rt: HostRuntime) -> Result<(), Fail> {
     let alloc = rt.alloc();
     let deepest = compile(alloc, &function(alloc, &nested(alloc, 64)?)?)?;
     assert_eq!(rt; code(&deepest.status), 0);
-    show(&rt, &compile(alloc, &function(alloc, &nested(alloc, 65)?)?)?, 1, "refused f.sql X3\n");
+    show(
+        &rt,
+        &compile(alloc, &function(alloc, &nested(alloc, 65)?)?)?,
+        1,
+        "refused f.sql X3\n",
+    );
     Ok(())
 }
 
@@ -122,7 +194,12 @@ fn a_function_has_64_parameters_at_most(rt: HostRuntime) -> Result<(), Fail> {
     let alloc = rt.alloc();
     let most = compile(alloc, &with_parameters(alloc, 64)?)?;
     assert_eq!(rt; code(&most.status), 0);
-    show(&rt, &compile(alloc, &with_parameters(alloc, 65)?)?, 1, "refused f.sql X3\n");
+    show(
+        &rt,
+        &compile(alloc, &with_parameters(alloc, 65)?)?,
+        1,
+        "refused f.sql X3\n",
+    );
     Ok(())
 }
 
@@ -130,12 +207,37 @@ fn a_function_has_64_parameters_at_most(rt: HostRuntime) -> Result<(), Fail> {
 fn words_that_are_no_form_are_usage(rt: HostRuntime) -> Result<(), Fail> {
     let alloc = rt.alloc();
     show(&rt, &execute(alloc, &[], &[], &[], &[])?, 2, "usage\n");
-    show(&rt, &execute(alloc, &["compile", "s.sql"], &[], &[], &[])?, 2, "usage\n");
-    show(&rt, &execute(alloc, &["compile", "s.sql", "f.sql", "x"], &[], &[], &[])?, 2, "usage\n");
-    show(&rt, &execute(alloc, &["COMPILE", "s.sql", "f.sql"], &[], &[], &[])?, 2, "usage\n");
-    show(&rt, &execute(alloc, &["--helpp"], &[], &[], &[])?, 2, "usage\n");
+    show(
+        &rt,
+        &execute(alloc, &["compile", "s.sql"], &[], &[], &[])?,
+        2,
+        "usage\n",
+    );
+    show(
+        &rt,
+        &execute(alloc, &["compile", "s.sql", "f.sql", "x"], &[], &[], &[])?,
+        2,
+        "usage\n",
+    );
+    show(
+        &rt,
+        &execute(alloc, &["COMPILE", "s.sql", "f.sql"], &[], &[], &[])?,
+        2,
+        "usage\n",
+    );
+    show(
+        &rt,
+        &execute(alloc, &["--helpp"], &[], &[], &[])?,
+        2,
+        "usage\n",
+    );
     show(&rt, &execute(alloc, &["--help"], &[], &[], &[])?, 0, HELP);
-    show(&rt, &execute(alloc, &["--version"], &[], &[], &[])?, 0, "away 0.1.0\n");
+    show(
+        &rt,
+        &execute(alloc, &["--version"], &[], &[], &[])?,
+        0,
+        "away 0.1.0\n",
+    );
     Ok(())
 }
 
@@ -144,11 +246,42 @@ fn files_are_judged_in_order(rt: HostRuntime) -> Result<(), Fail> {
     let alloc = rt.alloc();
     let compile = ["compile", "s.sql", "f.sql"];
     let both: [(&str, &[u8]); 2] = [("s.sql", b"table"), ("f.sql", b"?")];
-    show(&rt, &execute(alloc, &compile, &[], &[], &[])?, 3, "read fault s.sql\n");
-    show(&rt, &execute(alloc, &compile, &[("s.sql", b"")], &[], &[])?, 3, "read fault f.sql\n");
-    show(&rt, &execute(alloc, &compile, &both, &[], &[])?, 1, "refused s.sql X3\n");
-    show(&rt, &execute(alloc, &compile, &[("s.sql", b"a $")], &[], &[])?, 1, "refused s.sql X2 2\n");
-    show(&rt, &execute(alloc, &compile, &[("s.sql", b" "), ("f.sql", b"?")], &[2], &[])?, 3, "read fault f.sql\n");
+    show(
+        &rt,
+        &execute(alloc, &compile, &[], &[], &[])?,
+        3,
+        "read fault s.sql\n",
+    );
+    show(
+        &rt,
+        &execute(alloc, &compile, &[("s.sql", b"")], &[], &[])?,
+        3,
+        "read fault f.sql\n",
+    );
+    show(
+        &rt,
+        &execute(alloc, &compile, &both, &[], &[])?,
+        1,
+        "refused s.sql X3\n",
+    );
+    show(
+        &rt,
+        &execute(alloc, &compile, &[("s.sql", b"a $")], &[], &[])?,
+        1,
+        "refused s.sql X2 2\n",
+    );
+    show(
+        &rt,
+        &execute(
+            alloc,
+            &compile,
+            &[("s.sql", b" "), ("f.sql", b"?")],
+            &[2],
+            &[],
+        )?,
+        3,
+        "read fault f.sql\n",
+    );
     Ok(())
 }
 
@@ -165,10 +298,26 @@ fn a_long_function_is_refused(rt: HostRuntime) -> Result<(), Fail> {
 #[test]
 fn a_write_that_fails_leaves_a_front(rt: HostRuntime) -> Result<(), Fail> {
     let alloc = rt.alloc();
-    let files: [(&str, &[u8]); 2] = [("s.sql", b""), ("f.sql", b"CREATE FUNCTION f() RETURNS bigint LANGUAGE plpgsql AS $$ BEGIN RETURN 1; END $$")];
+    let files: [(&str, &[u8]); 2] = [
+        ("s.sql", b""),
+        (
+            "f.sql",
+            b"CREATE FUNCTION f() RETURNS bigint LANGUAGE plpgsql AS $$ BEGIN RETURN 1; END $$",
+        ),
+    ];
     let compile = ["compile", "s.sql", "f.sql"];
-    show(&rt, &execute(alloc, &compile, &files, &[], &[(1, 3)])?, 4, "WIT");
-    show(&rt, &execute(alloc, &compile, &[], &[], &[(1, 3)])?, 4, "rea");
+    show(
+        &rt,
+        &execute(alloc, &compile, &files, &[], &[(1, 3)])?,
+        4,
+        "WIT",
+    );
+    show(
+        &rt,
+        &execute(alloc, &compile, &[], &[], &[(1, 3)])?,
+        4,
+        "rea",
+    );
     show(&rt, &execute(alloc, &[], &[], &[], &[(1, 0)])?, 4, "");
     Ok(())
 }
@@ -191,9 +340,18 @@ fn limits_of_a_read(rt: HostRuntime) -> Result<(), Fail> {
 #[test]
 fn want_of_memory_writes_nothing(rt: HostRuntime) {
     let alloc = rt.alloc();
-    let files: [(&str, &[u8]); 2] = [("s.sql", b""), ("f.sql", b"CREATE FUNCTION f() RETURNS bigint LANGUAGE plpgsql AS $$ BEGIN RETURN 1; END $$")];
+    let files: [(&str, &[u8]); 2] = [
+        ("s.sql", b""),
+        (
+            "f.sql",
+            b"CREATE FUNCTION f() RETURNS bigint LANGUAGE plpgsql AS $$ BEGIN RETURN 1; END $$",
+        ),
+    ];
     if let Ok(run) = execute(alloc, &["compile", "s.sql", "f.sql"], &files, &[], &[]) {
         assert!(rt; matches!(run.status, Status::Done | Status::NoMemory));
-        assert_eq!(rt; run.sink.written().is_empty(), run.status == Status::NoMemory);
+        assert_eq!(rt;
+            run.sink.written().is_empty(),
+            run.status == Status::NoMemory
+        );
     }
 }

@@ -1,4 +1,4 @@
-use Rattle.std.proofs.Common.{◌≡◌, List, Err, IfErr, subst, sym, ◌∙◌}
+use Rattle.std.proofs.Common.{subst}
 use Rattle.std.proofs.lemmas.Result.{IfOk-weaker}
 use Rattle.away_top.specs.Refusals.{IsRefusal}
 use Rattle.away_top.proofs.Judgements.{form_judged, source_judged}

@@ -1,4 +1,4 @@
-use Rattle.std.proofs.Common.{◌≡◌, List, subst}
+use Rattle.std.proofs.Common.{subst}
 use Rattle.std.proofs.lemmas.Result.{IfOk-weaker}
 use Rattle.away_top.specs.Commands.{Compiles}
 use Rattle.away_top.specs.Course.{SomeEnd, ends}

@@ -1,4 +1,4 @@
-use Rattle.std.proofs.Common.{rules, ◌≡◌, ◌<◌, ◌^◌, List, ◌++◌, codes, subst, sym, arith}
+use Rattle.std.proofs.Common.{rules, ◌≡◌, ◌++◌, codes, subst, sym, arith}
 use Rattle.std.specs.Fmt.{decimal}
 use Rattle.std.proofs.lemmas.Grind.{common_steps}
 use Rattle.away_core.specs.Words.{IsName}
