@@ -1,7 +1,8 @@
 //! Files in memory, which fail at the calls that they are told.
 
-ghost use Rattle.std.specs.Prelude.{◌≡◌, ◌↔◌, None, Some, map, IsTrue, MatchOption, string_bytes, Contains};
-ghost use Rattle.away_top.specs.MemoryFiles.{held_at, IsSafeName};
+ghost use Rattle.std.specs.Prelude.{◌≡◌, ◌↔◌, ◌+◌, ◌<◌, ◌≤◌, ℕ, List, length, map, IfErr, IfOk, IfSome, IsErrOf, IsTrue, MatchOption, MatchResult, string_bytes, Contains};
+ghost use Rattle.away_top.specs.Outside.{IsTooLong, Keeps, Rose, Stays};
+ghost use Rattle.away_top.specs.MemoryFiles.{counted, held_at, IsCountedFailure, IsSafeName};
 
 use crate::{Files, ReadError};
 use std::alloc::Global;
@@ -52,7 +53,26 @@ impl Files for MemoryFiles {
 
     ghost safe_is_told = { λ m name safe. safe.held };
 
-    fn read(&mut self, alloc: Global, name: &str, limit: u64) -> Result<Vec<u8>, ReadError> {
+    fn read(&mut self, alloc: Global, name: &str, limit: u64) -> Result<Vec<u8>, ReadError>
+        // As of every implementation:
+        ensures kept { Keeps (held_at self.old.held) (held_at self.new.held) }
+        ensures safe { Stays (IsSafeName self.old) (IsSafeName self.new) }
+        ensures later { self.old.faults ≤ self.new.faults }
+        ensures bytes { IfOk result (λ v. IfSome (held_at self.old.held name.now) (λ bytes. v.items ≡ bytes)) }
+        ensures limit { IfOk result (λ v. length v.items ≤ limit) }
+        ensures long { IfErr result (IsTooLong limit (held_at self.old.held name.now)) }
+        ensures failed { IsErrOf result ReadError.Failed → Rose self.old.faults self.new.faults }
+        ensures unsafe_name { IsErrOf result ReadError.Failed → IsSafeName self.old name.now → ⊥ }
+
+        // And exactly:
+        ensures listed { Contains self.old.fails (counted self.old.calls) → IsCountedFailure self.old.faults result self.new.faults }
+        ensures missing { ¬ (Contains self.old.fails (counted self.old.calls)) → held_at self.old.held name.now ≡ None → IsCountedFailure self.old.faults result self.new.faults }
+        ensures too_long { (bytes : List ℕ) → ¬ (Contains self.old.fails (counted self.old.calls)) → held_at self.old.held name.now ≡ Some bytes → limit < length bytes
+            → (result ≡ Err (ReadError.Long (limit + 1))) × (self.new.faults ≡ self.old.faults) }
+        ensures whole { (bytes : List ℕ) → ¬ (Contains self.old.fails (counted self.old.calls)) → held_at self.old.held name.now ≡ Some bytes → length bytes ≤ limit
+            → MatchResult result (λ v. v.items ≡ bytes) (λ error. error ≡ ReadError.NoMemory) × (self.new.faults ≡ self.old.faults) }
+        ensures stays { (self.new.held ≡ self.old.held) × (self.new.fails ≡ self.old.fails) × (self.new.calls ≡ counted self.old.calls) }
+    {
         self.calls = self.calls.saturating_add(1);
         if is_listed(&self.fails, self.calls) {
             self.faults = self.faults.saturating_add(1);

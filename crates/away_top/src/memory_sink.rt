@@ -1,7 +1,10 @@
 //! A sink in memory, which fails at the calls that it is told.
 
-ghost use Rattle.std.specs.Prelude.{◌≡◌, ◌+◌, ◌≤◌, ◌++◌, [], Some, length, IfOk, vec_len, vec_capacity};
-ghost use Rattle.away_top.specs.MemorySink.{taken_at, safe_room};
+ghost use Rattle.std.specs.Prelude.{◌≡◌, ◌+◌, ◌≤◌, ◌++◌, [], Some, length, take, IfOk, IsErr, IsOk, OnErr, OnOk, ◌<◌, vec_len, vec_capacity};
+ghost use Rattle.std.specs.Io.KnownBytes.{Appends};
+ghost use Rattle.away_top.specs.Outside.{AppendsPrefix, Fills, Rose};
+ghost use Rattle.away_top.specs.MemoryFiles.{counted};
+ghost use Rattle.away_top.specs.MemorySink.{IsWhole, front, taken_at, safe_room};
 
 use crate::{Sink, WriteFailed};
 use away_core::NoMemory;
@@ -64,7 +67,20 @@ impl Sink for MemorySink {
 
     ghost faults = { λ m. m.faults };
 
-    fn write(&mut self, piece: &[u8]) -> Result<(), WriteFailed> {
+    fn write(&mut self, piece: &[u8]) -> Result<(), WriteFailed>
+        // As of every implementation:
+        ensures whole { OnOk result (Appends (Some self.old.bytes) (Some self.new.bytes) piece.now) }
+        ensures part { OnErr result (AppendsPrefix (Some self.old.bytes) (Some self.new.bytes) piece.now) }
+        ensures later { self.old.faults ≤ self.new.faults }
+        ensures failed { OnErr result (Rose self.old.faults self.new.faults) }
+        ensures room { 0 < length piece.now → length piece.now ≤ safe_room self.old → Fills result (safe_room self.old) (safe_room self.new) (length piece.now) }
+
+        // And exactly:
+        ensures taken { IsWhole self.old (length piece.now) → IsOk result × (self.new.bytes ≡ self.old.bytes ++ piece.now) × (self.new.room + length piece.now ≡ self.old.room) × (self.new.faults ≡ self.old.faults) }
+        ensures cut { ¬ (IsWhole self.old (length piece.now)) → IsErr result × (self.new.bytes ≡ self.old.bytes ++ take (front self.old (length piece.now)) piece.now)
+            × (self.new.room + front self.old (length piece.now) ≡ self.old.room) × (self.new.faults ≡ counted self.old.faults) }
+        ensures stays { (self.new.fails ≡ self.old.fails) × (self.new.calls ≡ counted self.old.calls) }
+    {
         self.calls = self.calls.saturating_add(1);
         let failure = failure_at(&self.fails, self.calls);
         if failure.is_none() && piece.len() <= self.room {
