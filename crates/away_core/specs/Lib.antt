@@ -9,6 +9,8 @@ pub mod Nesting
 pub mod Reserved
 pub mod Spacing
 pub mod FunctionFile
+pub mod Signs
+pub mod Grammar
 pub mod AlgebraEquations
 pub mod StatementAlgebra
 pub mod Count

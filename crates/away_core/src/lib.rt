@@ -11,6 +11,7 @@ mod copy_values;
 mod count;
 mod errors;
 mod from_text;
+mod grammar;
 mod operator_laws;
 mod operators;
 mod queries;
@@ -28,6 +29,7 @@ pub use comparison::compare;
 pub use count::{nodes, weight};
 pub use errors::{NoMemory, OpError};
 pub use from_text::{name, word};
+pub use grammar::{Level, Mark};
 pub use operator_laws::{
     arithmetic_is_exact, comparison_is_a_total_order, comparison_is_by_value,
     division_leaves_the_remainder, parts_of_a_text_join, results_have_their_types,

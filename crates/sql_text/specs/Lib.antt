@@ -1,0 +1,4 @@
+pub mod Plans
+pub mod Next
+pub mod Descent
+pub mod Said

@@ -1,0 +1,38 @@
+-- What the code's signs and cursors say.
+use Rattle.std.specs.Prelude.{◌≡◌, ℕ, List, ◌∷◌, Option, Some, None, map, chars, Result, Ok, Err}
+use Rattle.away_core.specs.Signs.{Sign, mark, name, integer, string, parameter, quote, undoubled, between_quotes}
+use Rattle.away_core.specs.Reserved.{folded}
+use Rattle.away_core.specs.declared.grammar.Mark as code_mark
+use Rattle.sql_text.specs.Plans.{Begins, tail}
+use Rattle.sql_text.specs.declared.signs.Sign as code
+use Rattle.sql_text.specs.declared.signs.Sign.TheVariants.{Mark, Name, Integer, Text, Parameter, Quote}
+use Rattle.sql_text.specs.declared.refusal.Refusal.{Refusal}
+use Rattle.sql_text.specs.declared.refusal.Refusal.TheVariants.{NoTree, NoMemory}
+
+abbrev pub said : code.Sign → Sign
+said (Mark m) = mark m
+said (Name text) = name (folded text.now)
+said (Integer n) = integer n
+said (Text z) = string (chars (undoubled (between_quotes z.now)))
+said (Parameter i) = parameter i
+said (Quote z) = quote z.now
+
+abbrev pub said_next : Option code.Sign → Option Sign
+said_next None = None
+said_next (Some s) = Some (said s)
+
+-- what was sought was found, or it doesn't stand there
+abbrev pub Found : {A : Type 0} → Option A → Result A Refusal → Type 0
+Found o (Ok x) = o ≡ Some x
+Found o (Err NoTree) = o ≡ None
+Found o (Err NoMemory) = Unit {0}
+
+-- the mark stood next and was taken, or it doesn't stand there
+abbrev pub Expected : code_mark.Mark → List Sign → Result (Unit {0}) Refusal → List Sign → Type 0
+Expected m old (Ok x) new = old ≡ mark m ∷ new
+Expected m old (Err e) new = (e ≡ NoTree) × ¬ (Begins old m)
+
+-- what was found was taken
+abbrev pub Taken : {A : Type 0} → Option A → List Sign → List Sign → Type 0
+Taken None old new = new ≡ old
+Taken (Some x) old new = new ≡ tail old

@@ -1,0 +1,197 @@
+//! A place in a list of tokens.
+
+ghost use Rattle.std.specs.Prelude.{◌≡◌, ◌≤◌, ◌<◌, ◌∷◌, length, map, drop, List, Some, None, IfOk, IfSome, IfNone};
+ghost use Rattle.std.specs.Bool.{OnTrue, OnFalse};
+ghost use Rattle.away_core.specs.Tokens.{AreSpelled};
+ghost use Rattle.away_core.specs.Signs.{mark, all_say};
+ghost use Rattle.away_lex.specs.Lexed.{seen};
+ghost use Rattle.sql_text.specs.Plans.{first, tail, Begins};
+ghost use Rattle.sql_text.specs.Next.{operator_in, comparison_in, test_in, name_in, type_in};
+ghost use Rattle.sql_text.specs.Said.{said_next, Found, Expected, Taken};
+
+use crate::refusal::Refusal;
+use crate::signs::{Sign, comparison_of, operator_of, sign_of, type_named};
+use away_core::{ChainOp, CmpOp, IsTest, Level, Mark, Name, NoMemory, Ty};
+use away_lex::{Token, folded};
+use std::alloc::Global;
+use std::marker::Model;
+
+/// A place in a list of tokens. Contracts see what the tokens from there on say.
+#[derive(Drop)]
+pub struct Cursor<'a> {
+    list: &'a [Token<'a>],
+    at: usize,
+}
+
+impl<'a> Model for Cursor<'a> {
+    ghost use Rattle.std.specs.Prelude.{List, drop, length, map, ◌≤◌};
+    ghost use Rattle.away_core.specs.Signs.{Sign, all_say};
+    ghost use Rattle.away_core.specs.Tokens.{AreSpelled};
+    ghost use Rattle.away_lex.specs.Lexed.{seen};
+
+    ghost Value = { List Sign };
+
+    ghost view = { λ c. all_say (map seen (drop c.at c.list.now)) };
+
+    ghost invariant = { λ c. (c.at ≤ length c.list.now) × AreSpelled (map seen c.list.now) };
+}
+
+impl<'a> Cursor<'a> {
+    /// The place of this number in the list, from 0.
+    pub fn new(list: &'a [Token<'a>], at: usize) -> Cursor<'a>
+        requires within { at ≤ length list.now }
+        requires spelled { AreSpelled (map seen list.now) }
+        ensures { result ≡ all_say (map seen (drop at list.now)) }
+    {
+        Cursor { list, at }
+    }
+
+    /// How many tokens are left.
+    pub fn left(&self) -> usize
+        ensures { result ≡ length self.now }
+    {
+        self.list.len() - self.at
+    }
+
+    /// What stands next.
+    pub fn peek(&self) -> Option<Sign<'a>>
+        ensures { said_next result ≡ first self.now }
+    {
+        if self.at < self.list.len() {
+            Some(sign_of(&self.list[self.at]))
+        } else {
+            None
+        }
+    }
+
+    /// Takes what stands next.
+    pub fn take(&mut self) -> Option<Sign<'a>>
+        ensures next { said_next result ≡ first self.old }
+        ensures rest { self.new ≡ tail self.old }
+    {
+        let next = self.peek();
+        self.step();
+        next
+    }
+
+    /// Goes on by one token, if one is left.
+    fn step(&mut self)
+        ensures { self.new ≡ tail self.old }
+    {
+        if self.at < self.list.len() {
+            self.at += 1;
+        }
+    }
+
+    /// Whether the mark stands next.
+    pub fn sees(&self, sought: Mark) -> bool
+        ensures yes { OnTrue result (Begins self.now sought) }
+        ensures no { OnFalse result (¬ (Begins self.now sought)) }
+    {
+        match self.peek() {
+            Some(Sign::Mark(next)) => next == sought,
+            _ => false,
+        }
+    }
+
+    /// Takes the mark, if it stands next.
+    pub fn eat(&mut self, sought: Mark) -> bool
+        ensures yes { OnTrue result (self.old ≡ mark sought ∷ self.new) }
+        ensures no { OnFalse result ((self.new ≡ self.old) × ¬ (Begins self.old sought)) }
+    {
+        let found = self.sees(sought);
+        if found {
+            self.step();
+        }
+        found
+    }
+
+    /// Takes the mark, which has to stand next.
+    pub fn expect(&mut self, sought: Mark) -> Result<(), Refusal>
+        ensures { Expected sought self.old result self.new }
+    {
+        if self.eat(sought) {
+            Ok(())
+        } else {
+            Err(Refusal::NoTree)
+        }
+    }
+
+    /// Takes the operator of the level that stands next, if one does.
+    pub fn operator(&mut self, level: Level) -> Option<ChainOp>
+        ensures found { result ≡ operator_in level (first self.old) }
+        ensures rest { Taken result self.old self.new }
+    {
+        let found = match self.peek() {
+            Some(Sign::Mark(next)) => operator_of(level, next),
+            _ => None,
+        };
+        if found.is_some() {
+            self.step();
+        }
+        found
+    }
+
+    /// Takes the comparison that stands next, if one does.
+    pub fn comparison(&mut self) -> Option<CmpOp>
+        ensures found { result ≡ comparison_in (first self.old) }
+        ensures rest { Taken result self.old self.new }
+    {
+        let found = match self.peek() {
+            Some(Sign::Mark(next)) => comparison_of(next),
+            _ => None,
+        };
+        if found.is_some() {
+            self.step();
+        }
+        found
+    }
+
+    /// Takes what stands next, which has to be a test of IS.
+    pub fn test(&mut self) -> Result<IsTest, Refusal>
+        ensures found { Found (test_in (first self.old)) result }
+        ensures rest { self.new ≡ tail self.old }
+    {
+        match self.take() {
+            Some(Sign::Mark(Mark::Null)) => Ok(IsTest::Null),
+            Some(Sign::Mark(Mark::True)) => Ok(IsTest::True),
+            Some(Sign::Mark(Mark::False)) => Ok(IsTest::False),
+            _ => Err(Refusal::NoTree),
+        }
+    }
+
+    /// Takes what stands next, which has to be a name.
+    pub fn name(&mut self, alloc: Global) -> Result<Name, Refusal>
+        ensures found { Found (name_in (first self.old)) result }
+        ensures rest { self.new ≡ tail self.old }
+    {
+        match self.take() {
+            Some(Sign::Name(text)) => Ok(folded(alloc, text)?),
+            _ => Err(Refusal::NoTree),
+        }
+    }
+
+    /// Takes the name that stands next, if one does.
+    pub fn perhaps_name(&mut self, alloc: Global) -> Result<Option<Name>, NoMemory>
+        ensures { IfOk result (λ found. (found ≡ name_in (first self.old)) × Taken found self.old self.new) }
+    {
+        match self.peek() {
+            Some(Sign::Name(text)) => {
+                self.step();
+                Ok(Some(folded(alloc, text)?))
+            }
+            _ => Ok(None),
+        }
+    }
+
+    /// Takes what stands next, which has to be the name of a type.
+    pub fn type_name(&mut self) -> Result<Ty, Refusal>
+        ensures found { Found (type_in (first self.old)) result }
+        ensures rest { self.new ≡ tail self.old }
+    {
+        match self.take() {
+            Some(Sign::Name(text)) => type_named(text).ok_or(Refusal::NoTree),
+            _ => Err(Refusal::NoTree),
+        }
+    }
+}
