@@ -78,12 +78,16 @@ sign_plan =
 abbrev pub cast_plan : Plan Tree (at l.Cast)
 cast_plan = read (at l.Primary) (λ x. eat m.Colons (a_type (λ t. eat m.Colons (a_type (λ u. done (e.Cast (e.Cast x t) u))) (done (e.Cast x t)))) (done x))
 
+-- behind a name, `(` and `*`
+abbrev pub rows_plan : List ℕ → Plan Tree (at l.Primary)
+rows_plan n = if bytes_eq n (codes "count") then expect m.Close (done e.CountRows) else fail
+
 -- behind a name
 abbrev pub named_plan : List ℕ → Plan Tree (at l.Primary)
 named_plan n =
     eat m.Dot (a_name (λ c. done (e.Dotted n c)))
       (eat m.Open
-        (eat m.Star (if bytes_eq n (codes "count") then expect m.Close (done e.CountRows) else fail)
+        (eat m.Star (rows_plan n)
           (eat m.Close (done (e.Call n [])) (read list (λ xs. expect m.Close (done (e.Call n xs))))))
         (done (e.Named n)))
 
@@ -96,11 +100,15 @@ abbrev pub inside_plan : Plan Tree (at l.Primary)
 inside_plan =
     look is_select (read query (λ q. expect m.Close (done (e.Scalar q)))) (read (at l.Or) (λ x. expect m.Close (done x)))
 
+-- a parameter, AS, a type and `)`
+abbrev pub typed_parameter_plan : Plan Tree (at l.Primary)
+typed_parameter_plan = want parameter_in (λ i. expect m.As (a_type (λ t. expect m.Close (done (e.Param i t)))))
+
 -- behind CAST
 abbrev pub cast_call_plan : Plan Tree (at l.Primary)
 cast_call_plan =
     expect m.Open
-      (look is_typed_parameter (want parameter_in (λ i. expect m.As (a_type (λ t. expect m.Close (done (e.Param i t))))))
+      (look is_typed_parameter typed_parameter_plan
         (read (at l.Or) (λ x. expect m.As (a_type (λ t. expect m.Close (done (e.Cast x t)))))))
 
 abbrev pub exists_plan : Plan Tree (at l.Primary)
@@ -122,17 +130,25 @@ abbrev pub primary_with : Option Expr → Option (List ℕ) → Plan Tree (at l.
 primary_with (Some x) n = done x
 primary_with None n = with arguments_plan n
 
+-- behind a reserved word that is a literal or is called
+abbrev pub word_plan : Mark → Plan Tree (at l.Primary)
+word_plan sign = primary_with (literal_of sign) (called sign)
+
+-- behind a mark
+abbrev pub marked_plan : Mark → Plan Tree (at l.Primary)
+marked_plan m.Open = inside_plan
+marked_plan m.Cast = cast_call_plan
+marked_plan m.Exists = exists_plan
+marked_plan m.Case = case_plan
+marked_plan sign = word_plan sign
+
 abbrev pub primary_by : Option Sign → Plan Tree (at l.Primary)
 primary_by None = fail
 primary_by (Some (integer n)) = if nat_lt n (2 ^ 63) then done (e.Int (pos n)) else fail
 primary_by (Some (string t)) = done (e.Str t)
 primary_by (Some (name n)) = named_plan n
 primary_by (Some (parameter i)) = parameter_plan i
-primary_by (Some (mark m.Open)) = inside_plan
-primary_by (Some (mark m.Cast)) = cast_call_plan
-primary_by (Some (mark m.Exists)) = exists_plan
-primary_by (Some (mark m.Case)) = case_plan
-primary_by (Some (mark sign)) = primary_with (literal_of sign) (called sign)
+primary_by (Some (mark sign)) = marked_plan sign
 primary_by _ = fail
 
 abbrev pub primary_plan : Plan Tree (at l.Primary)

@@ -1,8 +1,11 @@
 -- What the code's signs and cursors say.
-use Rattle.std.specs.Prelude.{◌≡◌, ℕ, List, ◌∷◌, Option, Some, None, map, chars, Result, Ok, Err}
+use Rattle.std.specs.Prelude.{◌≡◌, ℕ, ◌<◌, ◌≤◌, ◌^◌, pos, List, ◌∷◌, Option, Some, None, map, chars, Result, Ok, Err}
 use Rattle.away_core.specs.Signs.{Sign, mark, name, integer, string, parameter, quote, undoubled, between_quotes}
 use Rattle.away_core.specs.Reserved.{folded}
+use Rattle.away_core.specs.Spellings.{IsNameText, IsString}
 use Rattle.away_core.specs.declared.grammar.Mark as code_mark
+use Rattle.away_core.specs.declared.queries.Expr.{Expr}
+use Rattle.away_core.specs.declared.queries.Expr.TheVariants.{Int}
 use Rattle.sql_text.specs.Plans.{Begins, tail}
 use Rattle.sql_text.specs.declared.signs.Sign as code
 use Rattle.sql_text.specs.declared.signs.Sign.TheVariants.{Mark, Name, Integer, Text, Parameter, Quote}
@@ -36,3 +39,17 @@ Expected m old (Err e) new = (e ≡ NoTree) × ¬ (Begins old m)
 abbrev pub Taken : {A : Type 0} → Option A → List Sign → List Sign → Type 0
 Taken None old new = new ≡ old
 Taken (Some x) old new = new ≡ tail old
+
+-- the number below 2^63 as a literal
+abbrev pub Numbered : ℕ → Result Expr Refusal → Type 0
+Numbered n (Ok x) = (n < 2 ^ 63) × (x ≡ Int (pos n))
+Numbered n (Err e) = (2 ^ 63 ≤ n) × (e ≡ NoTree)
+
+-- what a sign of the code holds is spelled so
+abbrev pub IsSaid : code.Sign → Type 0
+IsSaid (Mark m) = Unit {0}
+IsSaid (Name text) = IsNameText text.now
+IsSaid (Integer n) = n ≤ 2 ^ 63
+IsSaid (Text z) = IsString z.now
+IsSaid (Parameter i) = (1 ≤ i) × (i ≤ 64)
+IsSaid (Quote z) = Unit {0}

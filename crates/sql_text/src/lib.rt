@@ -2,9 +2,12 @@
 #![tactic(auto)]
 
 mod cursor;
+mod expressions;
+mod leaves;
 mod refusal;
 mod signs;
 
 pub use cursor::Cursor;
+pub use expressions::expression;
 pub use refusal::Refusal;
 pub use signs::Sign;

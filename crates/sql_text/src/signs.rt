@@ -1,14 +1,16 @@
 //! What tokens say.
 
-ghost use Rattle.std.specs.Prelude.{◌≡◌, map};
+ghost use Rattle.std.specs.Prelude.{◌≡◌, map, IfOk, chars, codes, bytes_eq};
+ghost use Rattle.away_core.specs.Signs.{undoubled, between_quotes};
 ghost use Rattle.away_core.specs.Signs as spec;
 ghost use Rattle.away_core.specs.Grammar as grammar;
 ghost use Rattle.away_core.specs.Reserved.{folded};
-ghost use Rattle.away_core.specs.Spellings.{Spells};
+ghost use Rattle.away_core.specs.Spellings.{Spells, IsString};
 ghost use Rattle.away_lex.specs.Lexed.{seen};
 ghost use Rattle.sql_text.specs.Said.{said};
 
-use away_core::{ChainOp, CmpOp, Level, Mark, Ty};
+use away_core::{ChainOp, CmpOp, Level, Mark, Name, NoMemory, Ty, Word};
+use std::alloc::Global;
 use away_lex::{Token, TokenKind};
 
 /// What a token says.
@@ -50,4 +52,24 @@ pub fn type_named(text: &str) -> Option<Ty>
     ensures { result ≡ grammar.type_named (folded text.now) }
 {
     None
+}
+
+/// The text that a string spells.
+pub fn text_of(alloc: Global, string: &str) -> Result<Word, NoMemory>
+    requires { IsString string.now }
+    ensures { IfOk result (λ w. w ≡ chars (undoubled (between_quotes string.now))) }
+{
+    Err(NoMemory)
+}
+
+pub fn is_count(name: &Name) -> bool
+    ensures { result ≡ bytes_eq name.now (codes "count") }
+{
+    name.text() == "count"
+}
+
+pub fn is_public(name: &Name) -> bool
+    ensures { result ≡ bytes_eq name.now (codes "public") }
+{
+    name.text() == "public"
 }

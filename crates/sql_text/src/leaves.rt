@@ -1,0 +1,79 @@
+//! The parts of trees that hold no tree of their own sort.
+
+ghost use Rattle.std.specs.Prelude.{◌≡◌, IfOk, ◌^◌, ◌<◌, pos, true, false};
+ghost use Rattle.away_core.specs.Grammar.{IsChain, Tree, at, operands, chained, literal_of, called};
+ghost use Rattle.sql_text.specs.Said.{Found, Numbered};
+
+use crate::refusal::Refusal;
+use away_core::{ChainOp, Expr, Level, Mark, Name, name};
+use sqlite_items::{Boxed, Items};
+use std::alloc::Global;
+
+/// The level of the operands of a level.
+pub fn inner(level: Level) -> Level
+    ensures { result ≡ operands level }
+{
+    match level {
+        Level::Or => Level::And,
+        Level::And => Level::Not,
+        Level::Not => Level::Is,
+        Level::Is => Level::Compare,
+        Level::Compare => Level::Range,
+        Level::Range => Level::Concat,
+        Level::Concat => Level::Sum,
+        Level::Sum => Level::Product,
+        Level::Product => Level::Sign,
+        Level::Sign => Level::Cast,
+        Level::Cast => Level::Primary,
+        Level::Primary => Level::Primary,
+    }
+}
+
+/// The operand alone, or the chain that it begins.
+pub fn chain_of(first: Boxed<Expr>, more: Items<(ChainOp, Expr)>) -> Expr
+    ensures { result ≡ chained first more }
+{
+    if more.is_empty() {
+        first.into_inner()
+    } else {
+        Expr::Chain(first, more)
+    }
+}
+
+/// The integer of this value, which is below 9223372036854775808.
+pub fn number(value: u64) -> Result<Expr, Refusal>
+    ensures { Numbered value result }
+{
+    match i64::try_from(value) {
+        Ok(value) => Ok(Expr::Int(value)),
+        Err(_) => Err(Refusal::NoTree),
+    }
+}
+
+/// The literal that a reserved word is.
+pub fn literal(mark: Mark) -> Option<Expr>
+    ensures { result ≡ literal_of mark }
+{
+    match mark {
+        Mark::True => Some(Expr::Bool(true)),
+        Mark::False => Some(Expr::Bool(false)),
+        Mark::Null => Some(Expr::Null),
+        _ => None,
+    }
+}
+
+/// The name of the function that a reserved word calls.
+pub fn called_name(alloc: Global, mark: Mark) -> Result<Name, Refusal>
+    ensures { Found (called mark) result }
+{
+    let text = match mark {
+        Mark::Coalesce => "coalesce",
+        Mark::Greatest => "greatest",
+        Mark::Least => "least",
+        _ => return Err(Refusal::NoTree),
+    };
+    match name(alloc, text)? {
+        Some(name) => Ok(name),
+        None => Err(Refusal::NoMemory),
+    }
+}
