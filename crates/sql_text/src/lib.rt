@@ -2,9 +2,11 @@
 #![tactic(auto)]
 
 mod cursor;
+mod laws;
 mod refusal;
 mod signs;
 
 pub use cursor::Cursor;
+pub use laws::what_a_plan_gives_is_read;
 pub use refusal::Refusal;
 pub use signs::Sign;
