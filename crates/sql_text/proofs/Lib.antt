@@ -1,4 +1,5 @@
 pub mod Plans
 pub mod Steps
 pub mod Holds
+pub mod SoundExpressions
 pub mod Sound
