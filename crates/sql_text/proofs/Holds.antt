@@ -27,7 +27,7 @@ Nothing ts = Unit {0}
 abbrev pub here : (ts : List Sign) → Nothing ts → List Sign
 here ts k = ts
 
-some_same : {A : Type 0} {a b : A} → Some a ≡ Some b → a ≡ b
+pub some_same : {A : Type 0} {a b : A} → Some a ≡ Some b → a ≡ b
 some_same {a = a} e = ap (λ o. elim o [ None ↦ a | Some v ↦ v ]) e
 
 pub plan_gives : {S : Type 0} {T : S → Type 0} {plan : (n : S) → Plan T n} (D : (n : S) → List Sign → T n → List Sign → Type 0)

@@ -2,4 +2,5 @@ pub mod Plans
 pub mod Steps
 pub mod Holds
 pub mod SoundExpressions
+pub mod SoundQueries
 pub mod Sound

@@ -6,6 +6,7 @@ use Rattle.away_core.specs.Grammar.{Sort, at, links, list, arms, item, items, fr
 use Rattle.sql_text.specs.Plans.{Plan, Runs}
 use Rattle.sql_text.specs.Descent.{plan, not_plan, is_plan}
 use Rattle.sql_text.proofs.SoundExpressions.{chain_holds, links_hold, not_holds, is_holds, compare_holds, range_holds, sign_holds, cast_holds, primary_holds, list_holds, arms_hold}
+use Rattle.sql_text.proofs.SoundQueries.{item_holds, items_hold, from_item_holds, from_items_hold, from_clause_holds, where_holds, key_holds, keys_hold, order_holds, limit_holds, select_holds, selects_hold, query_holds, names_hold, recursive_holds, file_holds, column_holds, columns_of_table_hold, tables_hold}
 use Rattle.sql_text.proofs.Holds.{Holds, Nothing, here, plan_gives}
 
 all_hold : (n : Sort) → Holds Reads n (plan n) Nothing here
@@ -24,25 +25,25 @@ all_hold (at l.Primary) = primary_holds
 all_hold (links level) = links_hold level
 all_hold list = list_holds
 all_hold arms = arms_hold
-all_hold item = ?
-all_hold items = ?
-all_hold from_item = ?
-all_hold from_items = ?
-all_hold from_clause = ?
-all_hold where_clause = ?
-all_hold key = ?
-all_hold keys = ?
-all_hold order_clause = ?
-all_hold limit_clause = ?
-all_hold select = ?
-all_hold selects = ?
-all_hold query = ?
-all_hold names = ?
-all_hold recursive = ?
-all_hold file = ?
-all_hold column = ?
-all_hold columns = ?
-all_hold tables = ?
+all_hold item = item_holds
+all_hold items = items_hold
+all_hold from_item = from_item_holds
+all_hold from_items = from_items_hold
+all_hold from_clause = from_clause_holds
+all_hold where_clause = where_holds
+all_hold key = key_holds
+all_hold keys = keys_hold
+all_hold order_clause = order_holds
+all_hold limit_clause = limit_holds
+all_hold select = select_holds
+all_hold selects = selects_hold
+all_hold query = query_holds
+all_hold names = names_hold
+all_hold recursive = recursive_holds
+all_hold file = file_holds
+all_hold column = column_holds
+all_hold columns = columns_of_table_hold
+all_hold tables = tables_hold
 
 pub sound : {n : Sort} {ts : List Sign} {x : Tree n} {rest : List Sign} → Runs Tree plan n (plan n) ts (Some (x, rest)) → Reads n ts x rest
 sound {n = n} {x = x} {rest = rest} d = plan_gives Reads all_hold n x rest d refl Nothing here (all_hold n) tt
