@@ -1,7 +1,7 @@
 -- What has to hold so that a relation has what a plan gives. `plan_gives` shows that it is enough.
-use Rattle.std.proofs.Common.{◌≡◌, ℕ, Bool, true, false, if◌then◌else◌, List, [], ◌∷◌, Option, Some, None, refl, sym, ap, subst}
+use Rattle.std.proofs.Common.{◌≡◌, ℕ, Bool, true, false, if◌then◌else◌, List, [], ◌∷◌, Option, Some, None, refl, ap, subst}
 use Rattle.away_core.specs.declared.grammar.Mark.{Mark}
-use Rattle.away_core.specs.Signs.{Sign, mark, name, integer, string, parameter, quote}
+use Rattle.away_core.specs.Signs.{Sign, mark, name, parameter}
 use Rattle.away_core.specs.declared.types.Ty.{Ty}
 use Rattle.away_core.specs.declared.grammar.Level.{Level}
 use Rattle.away_core.specs.declared.operators.ChainOp.{ChainOp}
@@ -9,7 +9,7 @@ use Rattle.away_core.specs.declared.operators.CmpOp.{CmpOp}
 use Rattle.away_core.specs.declared.operators.IsTest.{IsTest}
 use Rattle.away_core.specs.Grammar.{type_named, operator_of, comparison_of, test_of}
 use Rattle.sql_text.specs.Next.{name_in, type_in, parameter_in, operator_in, comparison_in, test_in}
-use Rattle.sql_text.specs.Plans.{Plan, done, fail, take, eat, look, read, first, tail, with, want, Runs, ends, fails, takes, eats, leaves, sees, misses, reads, breaks}
+use Rattle.sql_text.specs.Plans.{Plan, done, fail, take, eat, look, read, first, with, Runs, ends, fails, takes, eats, leaves, sees, misses, reads, breaks}
 
 -- At the signs ts, of which `Known ts` is known, a plan goes on that began at the signs `begun ts`. Whatever it gives from there is in the relation.
 abbrev pub Holds : {S : Type 0} {T : S → Type 0} (D : (n : S) → List Sign → T n → List Sign → Type 0) (n : S) → Plan T n → (Known : List Sign → Type 0) → ((ts : List Sign) → Known ts → List Sign) → Type 0

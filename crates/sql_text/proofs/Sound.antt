@@ -1,10 +1,10 @@
 -- What the plan of a sort gives, the grammar reads.
-use Rattle.std.proofs.Common.{◌≡◌, ℕ, Bool, true, false, List, [], ◌∷◌, Option, Some, None, refl}
-use Rattle.away_core.specs.Signs.{Sign, mark, name, integer, string, parameter, quote}
+use Rattle.std.proofs.Common.{List, Some, refl}
+use Rattle.away_core.specs.Signs.{Sign}
 use Rattle.away_core.specs.declared.grammar.Level.TheVariants as l
-use Rattle.away_core.specs.Grammar.{Sort, at, links, list, arms, item, items, from_item, from_items, from_clause, where_clause, key, keys, order_clause, limit_clause, select, selects, query, names, recursive, file, column, columns, tables, Tree, Reads, negated, affirmed, untested, tested}
-use Rattle.sql_text.specs.Plans.{Plan, Runs}
-use Rattle.sql_text.specs.Descent.{plan, not_plan, is_plan}
+use Rattle.away_core.specs.Grammar.{Sort, at, links, list, arms, item, items, from_item, from_items, from_clause, where_clause, key, keys, order_clause, limit_clause, select, selects, query, names, recursive, file, column, columns, tables, Tree, Reads}
+use Rattle.sql_text.specs.Plans.{Runs}
+use Rattle.sql_text.specs.Descent.{plan}
 use Rattle.sql_text.proofs.SoundExpressions.{chain_holds, links_hold, not_holds, is_holds, compare_holds, range_holds, sign_holds, cast_holds, primary_holds, list_holds, arms_hold}
 use Rattle.sql_text.proofs.SoundQueries.{item_holds, items_hold, from_item_holds, from_items_hold, from_clause_holds, where_holds, key_holds, keys_hold, order_holds, limit_holds, select_holds, selects_hold, query_holds, names_hold, recursive_holds, file_holds, column_holds, columns_of_table_hold, tables_hold}
 use Rattle.sql_text.proofs.Holds.{Holds, Nothing, here, plan_gives}

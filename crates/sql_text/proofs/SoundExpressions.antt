@@ -1,5 +1,5 @@
 -- What the plans of expressions give, the grammar reads.
-use Rattle.std.proofs.Common.{◌≡◌, ℕ, ◌<◌, ◌^◌, ◌-◌, ◌==◌, pos, negsuc, nat_lt, Bool, true, false, if◌then◌else◌, List, [], ◌∷◌, Option, Some, None, refl, sym, ap, subst, codes, bytes_eq, arith}
+use Rattle.std.proofs.Common.{◌≡◌, ℕ, ◌<◌, ◌^◌, ◌-◌, pos, negsuc, nat_lt, Bool, true, false, if◌then◌else◌, List, [], ◌∷◌, Option, Some, None, refl, sym, ap, subst, codes, bytes_eq, arith}
 use Rattle.std.proofs.lemmas.Bool.{eqb-true}
 use Rattle.std.proofs.lemmas.Bool.Decides.{nat_tests}
 use Rattle.std.proofs.lemmas.Slice.Eq.{bytes_eq-Decides}
@@ -7,16 +7,14 @@ use Rattle.away_core.specs.declared.grammar.Mark.{Mark}
 use Rattle.away_core.specs.declared.grammar.Mark.TheVariants as m
 use Rattle.away_core.specs.declared.grammar.Level.{Level}
 use Rattle.away_core.specs.declared.grammar.Level.TheVariants as l
-use Rattle.away_core.specs.declared.types.Ty.{Ty}
-use Rattle.away_core.specs.declared.operators.ChainOp.{ChainOp}
 use Rattle.away_core.specs.declared.queries.Expr.{Expr}
 use Rattle.away_core.specs.declared.queries.Expr.TheVariants as e
 use Rattle.away_core.specs.Signs.{Sign, mark, name, integer, string, parameter, quote}
-use Rattle.away_core.specs.Grammar.{Sort, at, links, list, arms, Tree, IsChain, literal_of, called, operands, perhaps, Reads, chain, no_link, link, affirmed, negated, untested, tested, uncompared, compared, unranged, between, one_of, unsigned, signed, least, uncast, cast_once, cast_twice, number, text, literal, named, dotted, typed_parameter, short_parameter, parentheses, scalar, cast, exists, cases, cases_else, call_word, count_rows, call_empty, call, last, another, no_arm, arm}
+use Rattle.away_core.specs.Grammar.{at, links, list, arms, IsChain, literal_of, called, perhaps, Reads, chain, no_link, link, affirmed, negated, untested, tested, uncompared, compared, unranged, between, one_of, unsigned, signed, least, uncast, cast_once, cast_twice, number, text, literal, named, dotted, typed_parameter, short_parameter, parentheses, scalar, cast, exists, cases, cases_else, call_word, count_rows, call_empty, call, last, another, no_arm, arm}
 use Rattle.sql_text.specs.Plans.{done, fail}
 use Rattle.sql_text.specs.Next.{is_least}
-use Rattle.sql_text.specs.Descent.{unranged_plan, chain_plan, links_plan, not_plan, test_plan, is_plan, compare_plan, within_plan, range_plan, sign_plan, cast_plan, named_plan, inside_plan, cast_call_plan, exists_plan, cases_with, case_plan, parameter_plan, primary_with, primary_by, primary_plan, list_plan, arms_plan}
-use Rattle.sql_text.proofs.Holds.{Holds, Nothing, here, if_holds, with_holds, name_taken, parameter_taken, type_taken, operator_taken, comparison_taken, test_taken}
+use Rattle.sql_text.specs.Descent.{unranged_plan, chain_plan, links_plan, not_plan, is_plan, compare_plan, within_plan, range_plan, sign_plan, cast_plan, named_plan, inside_plan, cast_call_plan, exists_plan, case_plan, parameter_plan, primary_with, primary_by, primary_plan, list_plan, arms_plan}
+use Rattle.sql_text.proofs.Holds.{Holds, Nothing, here, if_holds, name_taken, parameter_taken, type_taken, operator_taken, comparison_taken, test_taken}
 
 pub chain_holds : (level : Level) → IsChain level → Holds Reads (at level) (chain_plan level) Nothing here
 chain_holds level is x xs ts k = chain is k.1.2 k.2
@@ -28,9 +26,10 @@ pub not_holds : Holds Reads (at l.Not) not_plan Nothing here
 not_holds = (λ x ts k. negated k.2, λ x ts k. affirmed k.2)
 
 pub is_holds : Holds Reads (at l.Is) is_plan Nothing here
-is_holds x =
-    ( ((tt, test_taken Reads _ _ _ (λ m t is ts k. tested {n = true} m is k.2)), (tt, test_taken Reads _ _ _ (λ m t is ts k. tested {n = false} m is k.2)))
-    , λ ts k. untested k.2)
+is_holds x = (
+  ((tt, test_taken Reads _ _ _ (λ m t is ts k. tested {n = true} m is k.2)), (tt, test_taken Reads _ _ _ (λ m t is ts k. tested {n = false} m is k.2))),
+  λ ts k. untested k.2,
+)
 
 pub compare_holds : Holds Reads (at l.Compare) compare_plan Nothing here
 compare_holds x = ((tt, comparison_taken Reads _ _ _ (λ m o is y ts k. compared m is k.1.1.2 k.2)), λ ts k. uncompared k.2)
@@ -49,9 +48,10 @@ unranged_holds x true = tt
 unranged_holds x false = λ ts k. unranged k.2
 
 within_holds : (x : Expr) (n : Bool) → Holds Reads (at l.Range) (within_plan x n) (Ranged x n) (begun_there x n)
-within_holds x n =
-    ( λ low. (λ high ts k. between {n = n} k.1.1.2 k.1.2 k.2, tt)
-    , ((λ xs. (λ ts k. one_of {n = n} k.1.2 k.2, tt), tt), unranged_holds x n))
+within_holds x n = (
+  λ low. (λ high ts k. between {n = n} k.1.1.2 k.1.2 k.2, tt),
+  ((λ xs. (λ ts k. one_of {n = n} k.1.2 k.2, tt), tt), unranged_holds x n),
+)
 
 pub range_holds : Holds Reads (at l.Range) range_plan Nothing here
 range_holds x = (within_holds x true, within_holds x false)
@@ -71,9 +71,10 @@ pub sign_holds : Holds Reads (at l.Sign) sign_plan Nothing here
 sign_holds = (((λ ts k. absurd (none_least ts k.0 k.1.0), λ s ts k. least_taken s ts k.0), λ x ts k. signed k.2), λ x ts k. unsigned k.2)
 
 pub cast_holds : Holds Reads (at l.Cast) cast_plan Nothing here
-cast_holds x =
-    ( (tt, type_taken Reads _ _ _ (λ t ty is. ((tt, type_taken Reads _ _ _ (λ u second also ts k. cast_twice t u is also k.2)), λ ts k. cast_once t is k.2)))
-    , λ ts k. uncast k.2)
+cast_holds x = (
+  (tt, type_taken Reads _ _ _ (λ t ty is. ((tt, type_taken Reads _ _ _ (λ u second also ts k. cast_twice t u is also k.2)), λ ts k. cast_once t is k.2))),
+  λ ts k. uncast k.2,
+)
 
 -- ---- what stands alone
 
@@ -87,20 +88,28 @@ rows_counted n ts h =
     subst (λ z. Reads (at l.Primary) (name z ∷ mark m.Open ∷ mark m.Star ∷ mark m.Close ∷ ts) e.CountRows ts) (sym same) count_rows
 
 named_holds : (n : List ℕ) → Holds Reads (at l.Primary) (named_plan n) Nothing (behind (name n))
-named_holds n =
-    ( (tt, name_taken Reads _ _ _ (λ c ts k. dotted))
-    , ( ( if_holds Reads _ _ (bytes_eq n (codes "count")) _ _ (λ h. (λ ts k. rows_counted n ts h, tt)) (λ h. tt)
-        , (λ ts k. call_empty, λ xs. (λ ts k. call k.2, tt)))
-      , λ ts k. named))
+named_holds n = (
+  (tt, name_taken Reads _ _ _ (λ c ts k. dotted)),
+  (
+    (
+      if_holds Reads _ _ (bytes_eq n (codes "count")) _ _ (λ h. (λ ts k. rows_counted n ts h, tt)) (λ h. tt),
+      (λ ts k. call_empty, λ xs. (λ ts k. call k.2, tt)),
+    ),
+    λ ts k. named,
+  ),
+)
 
 inside_holds : Holds Reads (at l.Primary) inside_plan Nothing (behind (mark m.Open))
 inside_holds = (λ q. (λ ts k. scalar k.2, tt), λ x. (λ ts k. parentheses k.2, tt))
 
 cast_call_holds : Holds Reads (at l.Primary) cast_call_plan Nothing (behind (mark m.Cast))
-cast_call_holds =
-    ( ( (tt, parameter_taken Reads _ _ _ (λ i. ((tt, type_taken Reads _ _ _ (λ t ty is. (λ ts k. typed_parameter t is, tt))), tt)))
-      , λ x. ((tt, type_taken Reads _ _ _ (λ t ty is. (λ ts k. cast t is k.2, tt))), tt))
-    , tt)
+cast_call_holds = (
+  (
+    (tt, parameter_taken Reads _ _ _ (λ i. ((tt, type_taken Reads _ _ _ (λ t ty is. (λ ts k. typed_parameter t is, tt))), tt))),
+    λ x. ((tt, type_taken Reads _ _ _ (λ t ty is. (λ ts k. cast t is k.2, tt))), tt),
+  ),
+  tt,
+)
 
 exists_holds : Holds Reads (at l.Primary) exists_plan Nothing (behind (mark m.Exists))
 exists_holds = (λ q. (λ ts k. exists k.2, tt), tt)

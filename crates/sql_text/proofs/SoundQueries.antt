@@ -1,17 +1,14 @@
 -- What the plans of queries and schemas give, the grammar reads.
-use Rattle.std.proofs.Common.{◌≡◌, ℕ, Bool, true, false, if◌then◌else◌, List, [], ◌∷◌, ◌++◌, Option, Some, None, refl, sym, ap, subst, codes, bytes_eq}
+use Rattle.std.proofs.Common.{◌≡◌, ℕ, Bool, true, false, List, [], ◌∷◌, ◌++◌, Option, Some, None, refl, sym, ap, subst, codes, bytes_eq}
 use Rattle.std.proofs.lemmas.Slice.Eq.{bytes_eq-Decides}
 use Rattle.away_core.specs.declared.grammar.Mark.TheVariants as m
-use Rattle.away_core.specs.declared.grammar.Level.TheVariants as l
-use Rattle.away_core.specs.declared.types.Ty.{Ty}
 use Rattle.away_core.specs.declared.queries.Source.TheVariants as source
 use Rattle.away_core.specs.declared.queries.Select.{Select}
 use Rattle.away_core.specs.declared.queries.Query.{Query}
 use Rattle.away_core.specs.Signs.{Sign, mark, name}
-use Rattle.away_core.specs.Grammar.{Sort, at, links, list, arms, item, items, from_item, from_items, from_clause, where_clause, key, keys, order_clause, limit_clause, select, selects, query, names, recursive, file, column, columns, tables, Tree, is_number, may_join, perhaps, qualified, Reads, item_alone, item_as, last_item, another_item, table_alone, table_as, sub_alone, sub_columns, last_from, another_from, last_name, another_name, key_alone, ascending, descending, last_key, another_key, no_from, from, no_where, where_of, no_order, order_by, no_limit, limit_of, select_of, last_select, another_select, query_of, recursive_of, plain_file, with_file, column_of, last_column, another_column, no_table, table}
+use Rattle.away_core.specs.Grammar.{Sort, item, items, from_item, from_items, from_clause, where_clause, key, keys, order_clause, limit_clause, select, selects, query, names, recursive, file, column, columns, tables, Tree, is_number, may_join, perhaps, qualified, Reads, item_alone, item_as, last_item, another_item, table_alone, table_as, sub_alone, sub_columns, last_from, another_from, last_name, another_name, key_alone, ascending, descending, last_key, another_key, no_from, from, no_where, where_of, no_order, order_by, no_limit, limit_of, select_of, last_select, another_select, query_of, recursive_of, plain_file, with_file, column_of, last_column, another_column, no_table, table}
 use Rattle.sql_text.specs.Plans.{Plan}
-use Rattle.sql_text.specs.Next.{is_with}
-use Rattle.sql_text.specs.Descent.{a_name, qualified_name, item_plan, items_plan, table_plan, columns_plan, sub_plan, from_item_plan, from_items_plan, from_clause_plan, where_plan, key_plan, keys_plan, order_plan, limit_plan, select_plan, selects_plan, query_plan, names_plan, put_first, parted, recursive_with, recursive_plan, file_with, file_plan, column_plan, table_columns_plan, tables_plan}
+use Rattle.sql_text.specs.Descent.{a_name, qualified_name, item_plan, items_plan, table_plan, columns_plan, sub_plan, from_item_plan, from_items_plan, from_clause_plan, where_plan, key_plan, keys_plan, order_plan, limit_plan, select_plan, selects_plan, query_plan, names_plan, put_first, parted, recursive_with, recursive_plan, file_plan, column_plan, table_columns_plan, tables_plan}
 use Rattle.sql_text.proofs.Holds.{Holds, Nothing, here, some_same, if_holds, with_holds, name_taken, type_taken}
 
 pub item_holds : Holds Reads item item_plan Nothing here
@@ -26,20 +23,23 @@ items_hold x = (λ xs ts k. another_item k.1.2 k.2, λ ts k. last_item k.2)
 qualified_holds : (n : Sort) (Known : List Sign → Type 0) (begun : (ts : List Sign) → Known ts → List Sign) (f : List ℕ → Plan Tree n)
     → ((q : Bool) (z : List ℕ) → Holds Reads n (f z) (λ ts. Known (qualified q (name z ∷ ts))) (λ ts k. begun (qualified q (name z ∷ ts)) k))
     → Holds Reads n (qualified_name f) Known begun
-qualified_holds n Known begun f found =
-    (tt, name_taken Reads (λ s ts. Known (s ∷ ts)) (λ s ts k. begun (s ∷ ts) k) _ (λ z.
+qualified_holds n Known begun f found = (
+  tt,
+  name_taken Reads (λ s ts. Known (s ∷ ts)) (λ s ts k. begun (s ∷ ts) k) _ (λ z.
       if_holds Reads _ _ (bytes_eq z (codes "public")) _ _
-        (λ h.
-          let same : z ≡ codes "public" = (bytes_eq-Decides z (codes "public")).0 h in
-          let behind : Holds Reads n (a_name f) (λ ts. Known (name (codes "public") ∷ mark m.Dot ∷ ts)) (λ ts k. begun (name (codes "public") ∷ mark m.Dot ∷ ts) k) = (tt, name_taken Reads (λ s ts. Known (name (codes "public") ∷ mark m.Dot ∷ s ∷ ts)) (λ s ts k. begun (name (codes "public") ∷ mark m.Dot ∷ s ∷ ts) k) f (found true)) in
-          (subst (λ y. Holds Reads n (a_name f) (λ ts. Known (name y ∷ mark m.Dot ∷ ts)) (λ ts k. begun (name y ∷ mark m.Dot ∷ ts) k)) (sym same) behind, found false z))
-        (λ h. found false z)))
+      (λ h.
+      let same : z ≡ codes "public" = (bytes_eq-Decides z (codes "public")).0 h in
+      let behind : Holds Reads n (a_name f) (λ ts. Known (name (codes "public") ∷ mark m.Dot ∷ ts)) (λ ts k. begun (name (codes "public") ∷ mark m.Dot ∷ ts) k) = (tt, name_taken Reads (λ s ts. Known (name (codes "public") ∷ mark m.Dot ∷ s ∷ ts)) (λ s ts k. begun (name (codes "public") ∷ mark m.Dot ∷ s ∷ ts) k) f (found true)) in
+      (subst (λ y. Holds Reads n (a_name f) (λ ts. Known (name y ∷ mark m.Dot ∷ ts)) (λ ts k. begun (name y ∷ mark m.Dot ∷ ts) k)) (sym same) behind, found false z))
+      (λ h. found false z)),
+)
 
 -- behind a table's name
 table_holds : (q : Bool) (n : List ℕ) → Holds Reads from_item (table_plan n) (λ ts. Nothing (qualified q (name n ∷ ts))) (λ ts k. qualified q (name n ∷ ts))
-table_holds q n =
-    ( (tt, name_taken Reads _ _ _ (λ a ts k. table_as q true))
-    , ((tt, name_taken Reads _ _ _ (λ a ts k. table_as q false)), λ ts k. table_alone q))
+table_holds q n = (
+  (tt, name_taken Reads _ _ _ (λ a ts k. table_as q true)),
+  ((tt, name_taken Reads _ _ _ (λ a ts k. table_as q false)), λ ts k. table_alone q),
+)
 
 -- behind a subquery and its alias
 abbrev Aliased : Bool → Query → List ℕ → List Sign → Type 0
@@ -129,20 +129,27 @@ recursive_read n ns ss p {ts = ts} {after = after} {rest = rest} is a b =
     subst (λ front. Reads recursive (mark m.With ∷ mark m.Recursive ∷ name n ∷ mark m.Open ∷ ts) (recursive_with n ns (front, p.1)) rest) (sym parts.3) (recursive_of parts.1 p.1 a all)
 
 pub recursive_holds : Holds Reads recursive recursive_plan Nothing here
-recursive_holds =
-    ( ( ( tt
-        , name_taken Reads _ _ _ (λ n.
-            ( λ ns. (((λ ss. (with_holds Reads _ _ (parted ss) _ (λ p is ts k. recursive_read n ns ss p is k.1.2 k.2), tt), tt), tt), tt)
-            , tt)))
-      , tt)
-    , tt)
+recursive_holds = (
+  (
+    (
+      tt,
+      name_taken Reads _ _ _ (λ n. (
+        λ ns. (((λ ss. (with_holds Reads _ _ (parted ss) _ (λ p is ts k. recursive_read n ns ss p is k.1.2 k.2), tt), tt), tt), tt),
+        tt,
+      )),
+    ),
+    tt,
+  ),
+  tt,
+)
 
 -- ---- files and schemas
 
 pub file_holds : Holds Reads file file_plan Nothing here
-file_holds =
-    ( λ r ss. if_holds Reads _ _ (may_join ss) _ _ (λ h. (λ ts k. with_file true h k.1.2 k.2, λ ts k. with_file false h k.1.2 k.2)) (λ h. tt)
-    , λ q. (λ ts k. plain_file true k.2, λ ts k. plain_file false k.2))
+file_holds = (
+  λ r ss. if_holds Reads _ _ (may_join ss) _ _ (λ h. (λ ts k. with_file true h k.1.2 k.2, λ ts k. with_file false h k.1.2 k.2)) (λ h. tt),
+  λ q. (λ ts k. plain_file true k.2, λ ts k. plain_file false k.2),
+)
 
 pub column_holds : Holds Reads column column_plan Nothing here
 column_holds = (tt, name_taken Reads _ _ _ (λ n. (tt, type_taken Reads _ _ _ (λ t ty is. ((λ ts k. column_of {v = true} t is, tt), λ ts k. column_of {v = false} t is)))))
@@ -151,7 +158,10 @@ pub columns_of_table_hold : Holds Reads columns table_columns_plan Nothing here
 columns_of_table_hold c = (λ cs ts k. another_column k.1.2 k.2, λ ts k. last_column k.2)
 
 pub tables_hold : Holds Reads tables tables_plan Nothing here
-tables_hold =
-    ( ( qualified_holds tables (λ ts. Nothing (mark m.Create ∷ mark m.Table ∷ ts)) (λ ts k. mark m.Create ∷ mark m.Table ∷ ts) _ (λ q n. (λ cs. ((λ more ts k. table q k.1.2 k.2, tt), tt), tt))
-      , tt)
-    , λ ts k. no_table)
+tables_hold = (
+  (
+    qualified_holds tables (λ ts. Nothing (mark m.Create ∷ mark m.Table ∷ ts)) (λ ts k. mark m.Create ∷ mark m.Table ∷ ts) _ (λ q n. (λ cs. ((λ more ts k. table q k.1.2 k.2, tt), tt), tt)),
+    tt,
+  ),
+  λ ts k. no_table,
+)
