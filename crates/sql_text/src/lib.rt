@@ -4,10 +4,12 @@
 mod cursor;
 mod expressions;
 mod leaves;
+mod laws;
 mod refusal;
 mod signs;
 
 pub use cursor::Cursor;
 pub use expressions::expression;
+pub use laws::what_a_plan_gives_is_read;
 pub use refusal::Refusal;
 pub use signs::Sign;
