@@ -1,4 +1,7 @@
 pub mod Plans
 pub mod Steps
 pub mod Starts
+pub mod CompleteStops
+pub mod CompleteSteps
+pub mod CompleteLevels
 pub mod Complete
