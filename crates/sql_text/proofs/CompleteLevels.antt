@@ -20,7 +20,7 @@ use Rattle.sql_text.specs.Next.{operator_in, comparison_in, test_in, type_in, is
 use Rattle.sql_text.specs.Descent.{plan, chain_plan, within_plan, test_plan}
 use Rattle.sql_text.proofs.Starts.{StartsAt, cannot_begin, begun, begins}
 use Rattle.sql_text.proofs.CompleteStops.{Following, following, looser, no_mark, no_operator, no_comparison, comparison_binds}
-use Rattle.sql_text.proofs.CompleteSteps.{Given, wants, finds, overlooks}
+use Rattle.sql_text.proofs.CompleteSteps.{Given, wants, finds, overlooks, other_mark}
 
 -- ---- chains
 
@@ -85,9 +85,6 @@ pub given_compared : {ts after rest : List Sign} {x y : Expr} {o : CmpOp} (sign 
 given_compared {rest = rest} sign e c d stops = reads (c (comparison_stops sign e)) (finds comparison_in _ e (reads (d (looser 25 26 rest (lit≤ tt) stops)) ends))
 
 -- ---- BETWEEN and IN
-
-other_mark : {ts : List Sign} {word other : Mark} → ¬ (word ≡ other) → ¬ (Begins (mark word ∷ ts) other)
-other_mark h b = h (cc (b.1))
 
 pub given_unranged : {ts rest : List Sign} {x : Expr} → Given (at l.Concat) ts x rest → Given (at l.Range) ts x rest
 given_unranged {rest = rest} c stops =

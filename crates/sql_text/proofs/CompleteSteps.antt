@@ -1,9 +1,10 @@
 -- Steps of a run that a finding in the signs decides.
 use Rattle.std.proofs.Common.{◌≡◌, ℕ, Bool, true, false, List, [], ◌∷◌, Option, Some, None, refl, sym, ap, subst}
 use Rattle.std.specs.Prelude.{if◌then◌else◌}
-use Rattle.away_core.specs.Signs.{Sign}
+use Rattle.away_core.specs.declared.grammar.Mark.{Mark}
+use Rattle.away_core.specs.Signs.{Sign, mark, name}
 use Rattle.away_core.specs.Grammar.{Sort, Tree, Stops}
-use Rattle.sql_text.specs.Plans.{Plan, done, fail, take, eat, look, read, first, tail, with, want, perhaps_a, is_some, Runs, takes, sees, misses}
+use Rattle.sql_text.specs.Plans.{Plan, done, fail, take, eat, look, read, first, tail, Begins, with, want, perhaps_a, is_some, Runs, takes, sees, misses}
 use Rattle.sql_text.specs.Descent.{plan}
 
 -- The plan of the sort gives the tree, where what is left can't continue the sort.
@@ -34,3 +35,11 @@ rejected {n = n} p {q = q} {ts = ts} {o = o} e d = subst (λ b. Runs Tree plan n
 -- the plan is another one
 pub planned : {n : Sort} {p q : Plan Tree n} {ts : List Sign} {o : Option (Tree n × List Sign)} → p ≡ q → Runs Tree plan n q ts o → Runs Tree plan n p ts o
 planned {n = n} {ts = ts} {o = o} e d = subst (λ p. Runs Tree plan n p ts o) (sym e) d
+
+-- ---- what stands next is no such mark
+
+pub other_mark : {ts : List Sign} {word other : Mark} → ¬ (word ≡ other) → ¬ (Begins (mark word ∷ ts) other)
+other_mark h b = h (cc (b.1))
+
+pub other_sign : {ts : List Sign} {n : List ℕ} {other : Mark} → ¬ (Begins (name n ∷ ts) other)
+other_sign b = absurd (cc (b.1))

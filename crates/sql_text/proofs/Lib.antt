@@ -4,4 +4,5 @@ pub mod Starts
 pub mod CompleteStops
 pub mod CompleteSteps
 pub mod CompleteLevels
+pub mod CompletePrimary
 pub mod Complete

@@ -147,5 +147,5 @@ cannot_begin {r = r} {m = m} (begun {s = s} h p) low b =
     let k : r ≤ mark_begins m = subst (λ s. r ≤ begins s) e h in
     omega (arith, k, low)
 
-not_typed : {r : ℕ} {ts : List Sign} → StartsAt r ts → is_typed_parameter ts ≡ false
+pub not_typed : {r : ℕ} {ts : List Sign} → StartsAt r ts → is_typed_parameter ts ≡ false
 not_typed (begun h p) = p
