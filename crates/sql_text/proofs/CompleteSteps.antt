@@ -11,10 +11,15 @@ use Rattle.sql_text.specs.Descent.{plan}
 abbrev pub Given : (n : Sort) → List Sign → Tree n → List Sign → Type 0
 Given n ts x rest = Stops n rest → Runs Tree plan n (plan n) ts (Some (x, rest))
 
+-- the plan goes on by what was found
+pub decides : {n : Sort} {A : Type 0} (f : A → Plan Tree n) (found : Option A) {ts : List Sign} {o : Option (Tree n × List Sign)} {x : A}
+    → found ≡ Some x → Runs Tree plan n (f x) ts o → Runs Tree plan n (with f found) ts o
+decides {n = n} f found {ts = ts} {o = o} e d = subst (λ found. Runs Tree plan n (with f found) ts o) (sym e) d
+
 -- what was wanted stands next
 pub wants : {n : Sort} {A : Type 0} (kind : Option Sign → Option A) (f : A → Plan Tree n) {ts : List Sign} {o : Option (Tree n × List Sign)} {x : A}
     → kind (first ts) ≡ Some x → Runs Tree plan n (f x) (tail ts) o → Runs Tree plan n (want kind f) ts o
-wants {n = n} kind f {ts = ts} {o = o} e d = takes (subst (λ found. Runs Tree plan n (with f found) (tail ts) o) (sym e) d)
+wants kind f e d = takes (decides f _ e d)
 
 pub finds : {n : Sort} {A : Type 0} (kind : Option Sign → Option A) (f : A → Plan Tree n) {q : Plan Tree n} {ts : List Sign} {o : Option (Tree n × List Sign)} {x : A}
     → kind (first ts) ≡ Some x → Runs Tree plan n (f x) (tail ts) o → Runs Tree plan n (perhaps_a kind f q) ts o

@@ -5,4 +5,6 @@ pub mod CompleteStops
 pub mod CompleteSteps
 pub mod CompleteLevels
 pub mod CompletePrimary
+pub mod CompleteFrom
+pub mod CompleteQueries
 pub mod Complete
