@@ -1,21 +1,21 @@
 -- What the grammar reads and stops, the plan gives.
-use Rattle.std.proofs.Common.{◌≡◌, List, [], ◌∷◌, Option, Some, None}
+use Rattle.std.proofs.Common.{List, Some}
 use Rattle.away_core.specs.Signs.{Sign}
 use Rattle.away_core.specs.Grammar as g
 use Rattle.away_core.specs.Grammar.{Sort, Tree, Reads, Stops}
 use Rattle.sql_text.specs.Plans.{Runs}
 use Rattle.sql_text.specs.Descent.{plan}
 use Rattle.sql_text.proofs.Starts.{starts}
-use Rattle.sql_text.proofs.CompleteStops.{following}
+use Rattle.sql_text.proofs.CompleteStops.{followed}
 use Rattle.sql_text.proofs.CompleteLevels as levels
 use Rattle.sql_text.proofs.CompletePrimary as primary
-use Rattle.sql_text.proofs.CompleteFrom as tables
+use Rattle.sql_text.proofs.CompleteFrom as from
 use Rattle.sql_text.proofs.CompleteQueries as queries
 
 pub complete : {n : Sort} {ts : List Sign} {x : Tree n} {rest : List Sign} → Reads n ts x rest → Stops n rest → Runs Tree plan n (plan n) ts (Some (x, rest))
-complete (g.chain h d e) = levels.given_chain h (following e) (complete d) (complete e)
+complete (g.chain h d e) = levels.given_chain h (followed e) (complete d) (complete e)
 complete g.no_link = levels.given_no_link
-complete (g.link sign h d e) = levels.given_link sign h (following e) (complete d) (complete e)
+complete (g.link sign h d e) = levels.given_link sign h (followed e) (complete d) (complete e)
 complete (g.affirmed d) = levels.given_affirmed (starts d) (complete d)
 complete (g.negated d) = levels.given_negated (complete d)
 complete (g.untested d) = levels.given_untested (complete d)
@@ -51,24 +51,24 @@ complete (g.call d) = primary.given_call (starts d) (complete d)
 complete (g.last d) = primary.given_last (complete d)
 complete (g.another d e) = primary.given_another (complete d) (complete e)
 complete g.no_arm = primary.given_no_arm
-complete (g.arm d e f) = primary.given_arm (following f) (complete d) (complete e) (complete f)
-complete (g.item_alone d) = tables.given_item_alone (complete d)
-complete (g.item_as d) = tables.given_item_as (complete d)
-complete (g.last_item d) = tables.given_last_item (complete d)
-complete (g.another_item d e) = tables.given_another_item (complete d) (complete e)
-complete (g.table_alone q) = tables.given_table_alone q
-complete (g.table_as q w) = tables.given_table_as q w
-complete (g.sub_alone {v = v} w d) = tables.given_sub_alone v w (complete d)
-complete (g.sub_columns {v = v} w d e) = tables.given_sub_columns v w (complete d) (complete e)
-complete (g.last_from d) = tables.given_last_from (complete d)
-complete (g.another_from d e) = tables.given_another_from (complete d) (complete e)
-complete g.last_name = tables.given_last_name
-complete (g.another_name d) = tables.given_another_name (complete d)
-complete (g.key_alone h d) = tables.given_key_alone h (complete d)
-complete (g.ascending h d) = tables.given_ascending h (complete d)
-complete (g.descending h d) = tables.given_descending h (complete d)
-complete (g.last_key d) = tables.given_last_key (complete d)
-complete (g.another_key d e) = tables.given_another_key (complete d) (complete e)
+complete (g.arm d e f) = primary.given_arm (followed f) (complete d) (complete e) (complete f)
+complete (g.item_alone d) = from.given_item_alone (complete d)
+complete (g.item_as d) = from.given_item_as (complete d)
+complete (g.last_item d) = from.given_last_item (complete d)
+complete (g.another_item d e) = from.given_another_item (complete d) (complete e)
+complete (g.table_alone q) = from.given_table_alone q
+complete (g.table_as q w) = from.given_table_as q w
+complete (g.sub_alone {v = v} w d) = from.given_sub_alone v w (complete d)
+complete (g.sub_columns {v = v} w d e) = from.given_sub_columns v w (complete d) (complete e)
+complete (g.last_from d) = from.given_last_from (complete d)
+complete (g.another_from d e) = from.given_another_from (complete d) (complete e)
+complete g.last_name = from.given_last_name
+complete (g.another_name d) = from.given_another_name (complete d)
+complete (g.key_alone h d) = from.given_key_alone h (complete d)
+complete (g.ascending h d) = from.given_ascending h (complete d)
+complete (g.descending h d) = from.given_descending h (complete d)
+complete (g.last_key d) = from.given_last_key (complete d)
+complete (g.another_key d e) = from.given_another_key (complete d) (complete e)
 complete g.no_from = queries.given_no_from
 complete (g.from d) = queries.given_from (complete d)
 complete g.no_where = queries.given_no_where
@@ -77,7 +77,7 @@ complete g.no_order = queries.given_no_order
 complete (g.order_by d) = queries.given_order_by (complete d)
 complete g.no_limit = queries.given_no_limit
 complete (g.limit_of d) = queries.given_limit_of (complete d)
-complete (g.select_of a b c d e) = queries.given_select_of (following b) (following c) (following d) (following e) (complete a) (complete b) (complete c) (complete d) (complete e)
+complete (g.select_of a b c d e) = queries.given_select_of (followed b) (followed c) (followed d) (followed e) (complete a) (complete b) (complete c) (complete d) (complete e)
 complete (g.last_select d) = queries.given_last_select (complete d)
 complete (g.another_select d e) = queries.given_another_select (complete d) (complete e)
 complete (g.query_of h d) = queries.given_query_of h (complete d)

@@ -1,18 +1,17 @@
 -- Items, what stands behind FROM, and keys: what the grammar reads, the plans give, step by step.
-use Rattle.std.proofs.Common.{◌≡◌, ℕ, ◌≤◌, ◌<◌, Bool, true, false, List, [], ◌∷◌, Option, Some, None, refl, lit≤, lit<}
+use Rattle.std.proofs.Common.{◌≡◌, ℕ, Bool, true, false, List, [], ◌∷◌, Option, Some, None, refl, lit≤, lit<}
 use Rattle.std.specs.Prelude.{if◌then◌else◌, bytes_eq, codes}
 use Rattle.away_core.specs.declared.grammar.Mark.{Mark}
 use Rattle.away_core.specs.declared.grammar.Mark.TheVariants as m
 use Rattle.away_core.specs.declared.grammar.Level.TheVariants as l
 use Rattle.away_core.specs.declared.queries.Expr.{Expr}
-use Rattle.away_core.specs.declared.queries.Source.{Source}
 use Rattle.away_core.specs.declared.queries.Source.TheVariants as source
 use Rattle.away_core.specs.declared.queries.Item.{Item}
 use Rattle.away_core.specs.declared.queries.FromItem.{FromItem}
 use Rattle.away_core.specs.declared.queries.Key.{Key}
 use Rattle.away_core.specs.declared.queries.Query.{Query}
 use Rattle.away_core.specs.Signs.{Sign, mark, name}
-use Rattle.away_core.specs.Grammar.{Sort, at, item, items, from_item, from_items, key, keys, names, query, Tree, StopsAt, perhaps, qualified, is_number}
+use Rattle.away_core.specs.Grammar.{Sort, at, item, items, from_item, from_items, key, keys, names, query, Tree, perhaps, qualified, is_number}
 use Rattle.sql_text.specs.Plans.{Plan, eat, Begins, Runs, ends, eats, leaves, reads}
 use Rattle.sql_text.specs.Next.{name_in}
 use Rattle.sql_text.specs.Descent.{plan, a_name, item_with, from_with, key_with, table_plan, sub_plan, columns_plan, qualified_name}
@@ -60,7 +59,7 @@ given_another_name c stops = wants name_in _ refl (eats (reads (c stops) ends))
 pub given_table_alone : {rest : List Sign} {n : List ℕ} (q : Bool) → Given from_item (qualified q (name n ∷ rest)) (from_with (source.Table n) n []) rest
 given_table_alone {rest = rest} {n = n} q stops =
     leaves (not_qualified _ _ q) (leaves (not_qualified _ _ q) (qualified_run q table_plan n (no_mark 15 rest m.Dot (lit≤ tt) stops)
-      (leaves (no_mark 15 rest m.As (lit≤ tt) stops) (overlooks name_in _ (no_name 15 rest (lit≤ tt) stops) ends))))
+    (leaves (no_mark 15 rest m.As (lit≤ tt) stops) (overlooks name_in _ (no_name 15 rest (lit≤ tt) stops) ends))))
 
 no_dot : (a : List ℕ) (rest : List Sign) (w : Bool) → ¬ (Begins (perhaps w (mark m.As) (name a ∷ rest)) m.Dot)
 no_dot a rest true b = other_mark (λ same. absurd (cc same)) b

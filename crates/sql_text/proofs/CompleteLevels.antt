@@ -1,5 +1,5 @@
 -- The levels of expressions: what the grammar reads, the plans give, step by step.
-use Rattle.std.proofs.Common.{◌≡◌, ℕ, ◌≤◌, ◌<◌, Bool, true, false, List, [], ◌∷◌, Option, Some, None, refl, sym, ap, subst, arith, lit≤, lit<, pos, negsuc}
+use Rattle.std.proofs.Common.{◌≡◌, ℕ, ◌≤◌, ◌<◌, Bool, true, false, List, [], ◌∷◌, Some, None, refl, ap, arith, lit≤, lit<, negsuc}
 use Rattle.std.specs.Prelude.{◌^◌, ◌-◌, ◌==◌, nat_lt, if◌then◌else◌}
 use Rattle.std.proofs.lemmas.Bool.Decides.{nat_tests}
 use Rattle.away_core.specs.declared.grammar.Mark.{Mark}
@@ -13,13 +13,12 @@ use Rattle.away_core.specs.declared.operators.IsTest.{IsTest}
 use Rattle.away_core.specs.declared.queries.Expr.{Expr}
 use Rattle.away_core.specs.declared.queries.Expr.TheVariants as e
 use Rattle.away_core.specs.Signs.{Sign, mark, name, integer, string, parameter, quote}
-use Rattle.away_core.specs.Grammar as g
-use Rattle.away_core.specs.Grammar.{Sort, at, links, list, Tree, Reads, operands, rank, operator_of, comparison_of, test_of, type_named, mark_binds, StopsAt, IsChain, chained, perhaps}
-use Rattle.sql_text.specs.Plans.{Plan, Begins, first, tail, Runs, ends, takes, eats, leaves, sees, misses, reads}
+use Rattle.away_core.specs.Grammar.{at, links, list, Tree, operands, operator_of, comparison_of, test_of, type_named, mark_binds, IsChain, chained, perhaps}
+use Rattle.sql_text.specs.Plans.{Begins, Runs, ends, takes, eats, leaves, sees, misses, reads}
 use Rattle.sql_text.specs.Next.{operator_in, comparison_in, test_in, type_in, is_least}
 use Rattle.sql_text.specs.Descent.{plan, chain_plan, within_plan, test_plan}
-use Rattle.sql_text.proofs.Starts.{StartsAt, cannot_begin, begun, begins}
-use Rattle.sql_text.proofs.CompleteStops.{Following, following, looser, no_mark, no_operator, no_comparison, comparison_binds}
+use Rattle.sql_text.proofs.Starts.{StartsAt, cannot_begin, begun}
+use Rattle.sql_text.proofs.CompleteStops.{Following, looser, no_mark, no_operator, no_comparison, comparison_binds}
 use Rattle.sql_text.proofs.CompleteSteps.{Given, wants, finds, overlooks, other_mark}
 
 -- ---- chains
@@ -89,7 +88,7 @@ given_compared {rest = rest} sign e c d stops = reads (c (comparison_stops sign 
 pub given_unranged : {ts rest : List Sign} {x : Expr} → Given (at l.Concat) ts x rest → Given (at l.Range) ts x rest
 given_unranged {rest = rest} c stops =
     reads (c (looser 26 27 rest (lit≤ tt) stops))
-      (leaves (no_mark 26 rest m.Not (lit≤ tt) stops) (leaves (no_mark 26 rest m.Between (lit≤ tt) stops) (leaves (no_mark 26 rest m.In (lit≤ tt) stops) ends)))
+    (leaves (no_mark 26 rest m.Not (lit≤ tt) stops) (leaves (no_mark 26 rest m.Between (lit≤ tt) stops) (leaves (no_mark 26 rest m.In (lit≤ tt) stops) ends)))
 
 -- NOT before BETWEEN or IN, where it is written
 negation_run : {ts after rest : List Sign} {x y : Expr} {word : Mark} (n : Bool) → ¬ (word ≡ m.Not) → mark_binds word ≡ 26 → Given (at l.Concat) ts x (perhaps n (mark m.Not) (mark word ∷ after))

@@ -1,5 +1,5 @@
 -- What stands alone, and lists: what the grammar reads, the plans give, step by step.
-use Rattle.std.proofs.Common.{◌≡◌, ℕ, ◌≤◌, ◌<◌, Bool, true, false, List, [], ◌∷◌, Option, Some, None, refl, sym, ap, subst, arith, lit≤, lit<, pos}
+use Rattle.std.proofs.Common.{◌≡◌, ℕ, ◌≤◌, ◌<◌, true, false, List, [], ◌∷◌, Some, None, refl, ap, arith, lit≤, lit<, pos}
 use Rattle.std.specs.Prelude.{◌^◌, nat_lt, codes}
 use Rattle.std.proofs.lemmas.Bool.Decides.{nat_tests}
 use Rattle.away_core.specs.declared.grammar.Mark.{Mark}
@@ -10,13 +10,13 @@ use Rattle.away_core.specs.declared.queries.Expr.{Expr}
 use Rattle.away_core.specs.declared.queries.Expr.TheVariants as e
 use Rattle.away_core.specs.declared.queries.Query.{Query}
 use Rattle.away_core.specs.Signs.{Sign, mark, name, integer, string, parameter, quote}
-use Rattle.away_core.specs.Grammar.{Tree, at, list, arms, query, literal_of, called, type_named, StopsAt}
-use Rattle.sql_text.specs.Plans.{Plan, done, Begins, Runs, ends, takes, eats, leaves, sees, misses, reads}
+use Rattle.away_core.specs.Grammar.{Tree, at, list, arms, query, literal_of, called, type_named}
+use Rattle.sql_text.specs.Plans.{Plan, done, Begins, ends, takes, eats, leaves, sees, misses, reads}
 use Rattle.sql_text.specs.Next.{name_in, type_in, parameter_in, is_select}
 use Rattle.sql_text.specs.Descent.{primary_by, arguments_plan}
 use Rattle.sql_text.proofs.Starts.{StartsAt, cannot_begin, not_typed, begun, begins}
 use Rattle.sql_text.proofs.CompleteStops.{Following, looser, no_mark}
-use Rattle.sql_text.proofs.CompleteSteps.{Given, wants, chosen, planned, other_mark, other_sign}
+use Rattle.sql_text.proofs.CompleteSteps.{Given, wants, chosen, planned, other_mark}
 
 -- ---- literals, names and parameters
 
@@ -121,7 +121,7 @@ given_call_empty stops = takes (leaves (other_mark (λ same. absurd (cc same))) 
 pub given_call : {ts rest : List Sign} {n : List ℕ} {xs : List Expr} → StartsAt 21 ts → Given list ts xs (mark m.Close ∷ rest) → Given (at l.Primary) (name n ∷ mark m.Open ∷ ts) (e.Call n xs) rest
 given_call b c stops =
     takes (leaves (other_mark (λ same. absurd (cc same)))
-      (eats (leaves (cannot_begin b (lit< tt)) (leaves (cannot_begin b (lit< tt)) (reads (c (lit< tt)) (eats ends))))))
+    (eats (leaves (cannot_begin b (lit< tt)) (leaves (cannot_begin b (lit< tt)) (reads (c (lit< tt)) (eats ends))))))
 
 pub given_last : {ts rest : List Sign} {x : Expr} → Given (at l.Or) ts x rest → Given list ts (x ∷ []) rest
 given_last {rest = rest} c stops = reads (c (looser 10 21 rest (lit≤ tt) stops)) (leaves (no_mark 10 rest m.Comma (lit≤ tt) stops) ends)

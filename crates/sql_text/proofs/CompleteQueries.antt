@@ -1,5 +1,5 @@
 -- Selects, queries, files and schemas: what the grammar reads, the plans give, step by step.
-use Rattle.std.proofs.Common.{◌≡◌, ℕ, ◌≤◌, ◌<◌, Bool, true, false, List, [], ◌∷◌, ◌++◌, Option, Some, None, refl, sym, ap, subst, lit≤, lit<}
+use Rattle.std.proofs.Common.{◌≡◌, ℕ, Bool, true, false, List, [], ◌∷◌, ◌++◌, Option, Some, None, refl, sym, ap, subst, lit≤, lit<}
 use Rattle.away_core.specs.declared.grammar.Mark.TheVariants as m
 use Rattle.away_core.specs.declared.grammar.Level.TheVariants as l
 use Rattle.away_core.specs.declared.types.Ty.{Ty}
@@ -53,8 +53,12 @@ pub given_select_of : {ts a b c d rest : List Sign} {xs : List Item} {fs : List 
     → Following from_clause a b → Following where_clause b c → Following order_clause c d → Following limit_clause d rest
     → Given items ts xs a → Given from_clause a fs b → Given where_clause b w c → Given order_clause c ks d → Given limit_clause d n rest
     → Given select (mark m.Select ∷ ts) (select_with xs fs w ks n) rest
-given_select_of from where_ order limit p q r s t stops =
-    eats (reads (p (from (where_ (order (limit stops))))) (reads (q (where_ (order (limit stops)))) (reads (r (order (limit stops))) (reads (s (limit stops)) (reads (t stops) ends)))))
+given_select_of {a = a} {b = b} {c = c} {d = d} behind_items behind_from behind_where behind_order p q r s t stops =
+    let at_d : StopsAt 7 d = behind_order stops in
+    let at_c : StopsAt 8 c = behind_where at_d in
+    let at_b : StopsAt 9 b = behind_from at_c in
+    let at_a : StopsAt 10 a = behind_items at_b in
+    eats (reads (p at_a) (reads (q at_b) (reads (r at_c) (reads (s at_d) (reads (t stops) ends)))))
 
 pub given_last_select : {ts rest : List Sign} {s : Select} → Given select ts s rest → Given selects ts (s ∷ []) rest
 given_last_select {rest = rest} c stops = reads (c (looser 5 6 rest (lit≤ tt) stops)) (leaves (no_mark 5 rest m.Union (lit≤ tt) stops) ends)

@@ -1,5 +1,5 @@
 -- What can't continue a sort.
-use Rattle.std.proofs.Common.{◌≡◌, ℕ, ◌≤◌, ◌<◌, Bool, true, false, List, [], ◌∷◌, Option, Some, None, refl, sym, ap, subst, arith, lit≤, lit<}
+use Rattle.std.proofs.Common.{◌≡◌, ℕ, ◌≤◌, ◌<◌, List, [], ◌∷◌, Option, Some, None, refl, subst, arith, lit≤, lit<}
 use Rattle.away_core.specs.declared.grammar.Mark.{Mark}
 use Rattle.away_core.specs.declared.grammar.Mark.TheVariants as m
 use Rattle.away_core.specs.declared.grammar.Level.{Level}
@@ -122,17 +122,17 @@ Following order_clause ts rest = StopsAt 7 rest → StopsAt 8 ts
 Following limit_clause ts rest = StopsAt 6 rest → StopsAt 7 ts
 Following _ ts rest = Unit {0}
 
-pub following : {n : Sort} {ts : List Sign} {x : Tree n} {rest : List Sign} → Reads n ts x rest → Following n ts rest
-following (g.no_link {level = level} {ts = ts}) = λ h. looser (rank level) (rank (operands level)) ts (rank_operands level) h
-following (g.link {level = level} sign e c d) = λ h. operator_stops level sign e
-following (g.no_arm {ts = ts}) = λ h. looser 10 21 ts (lit≤ tt) h
-following (g.arm c d e) = λ h. lit< tt
-following (g.no_from {ts = ts}) = λ h. looser 9 10 ts (lit≤ tt) h
-following (g.from d) = λ h. lit< tt
-following (g.no_where {ts = ts}) = λ h. looser 8 9 ts (lit≤ tt) h
-following (g.where_of d) = λ h. lit< tt
-following (g.no_order {ts = ts}) = λ h. looser 7 8 ts (lit≤ tt) h
-following (g.order_by d) = λ h. lit< tt
-following (g.no_limit {ts = ts}) = λ h. looser 6 7 ts (lit≤ tt) h
-following (g.limit_of d) = λ h. lit< tt
-following _ = tt
+pub followed : {n : Sort} {ts : List Sign} {x : Tree n} {rest : List Sign} → Reads n ts x rest → Following n ts rest
+followed (g.no_link {level = level} {ts = ts}) = λ h. looser (rank level) (rank (operands level)) ts (rank_operands level) h
+followed (g.link {level = level} sign e c d) = λ h. operator_stops level sign e
+followed (g.no_arm {ts = ts}) = λ h. looser 10 21 ts (lit≤ tt) h
+followed (g.arm c d e) = λ h. lit< tt
+followed (g.no_from {ts = ts}) = λ h. looser 9 10 ts (lit≤ tt) h
+followed (g.from d) = λ h. lit< tt
+followed (g.no_where {ts = ts}) = λ h. looser 8 9 ts (lit≤ tt) h
+followed (g.where_of d) = λ h. lit< tt
+followed (g.no_order {ts = ts}) = λ h. looser 7 8 ts (lit≤ tt) h
+followed (g.order_by d) = λ h. lit< tt
+followed (g.no_limit {ts = ts}) = λ h. looser 6 7 ts (lit≤ tt) h
+followed (g.limit_of d) = λ h. lit< tt
+followed _ = tt

@@ -1,5 +1,5 @@
 -- What can begin a sort.
-use Rattle.std.proofs.Common.{◌≡◌, ℕ, ◌≤◌, ◌<◌, ◌^◌, Bool, true, false, List, [], ◌∷◌, ◌++◌, Option, Some, None, refl, sym, ap, subst, arith, lit≤}
+use Rattle.std.proofs.Common.{◌≡◌, ℕ, ◌≤◌, ◌<◌, ◌^◌, true, false, List, ◌∷◌, Some, refl, sym, subst, arith, lit≤}
 use Rattle.std.specs.Prelude.{if◌then◌else◌, nat_lt}
 use Rattle.std.proofs.lemmas.Bool.Decides.{nat_tests}
 use Rattle.away_core.specs.declared.grammar.Mark.{Mark}
@@ -11,7 +11,7 @@ use Rattle.away_core.specs.Signs.{Sign, mark, name, integer, string, parameter, 
 use Rattle.away_core.specs.Grammar as g
 use Rattle.away_core.specs.Grammar.{Sort, at, list, item, items, key, keys, select, selects, query, recursive, Tree, Reads, operands, rank, literal_of, called}
 use Rattle.sql_text.specs.Plans.{Begins}
-use Rattle.sql_text.specs.Next.{is_least, is_select, is_with, is_typed_parameter}
+use Rattle.sql_text.specs.Next.{is_typed_parameter}
 
 abbrev pub mark_begins : Mark → ℕ
 mark_begins m.Open = 32
