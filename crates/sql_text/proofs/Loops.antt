@@ -1,11 +1,17 @@
 -- What a loop has read so far, and what is left of its plan.
-use Rattle.std.proofs.Common.{◌≡◌, ℕ, Bool, true, false, List, [], ◌∷◌, ◌++◌, Option, Some, None, refl, sym, ◌∙◌, ap, subst, append_assoc, append-nil}
+use Rattle.std.proofs.Common.{◌≡◌, ℕ, Bool, true, false, List, [], ◌∷◌, ◌++◌, Option, Some, None, Result, Ok, Err, refl, sym, ◌∙◌, ap, subst, append_assoc, append-nil}
 use Rattle.away_core.specs.declared.operators.ChainOp.{ChainOp}
 use Rattle.away_core.specs.declared.grammar.Level.{Level}
 use Rattle.away_core.specs.declared.queries.Expr.{Expr}
-use Rattle.away_core.specs.Signs.{Sign}
-use Rattle.away_core.specs.Grammar.{Sort, at, links, list, arms, Tree, chained, IsChain}
-use Rattle.sql_text.specs.Plans.{Plan, Runs}
+use Rattle.away_core.specs.declared.grammar.Level.TheVariants as l
+use Rattle.away_core.specs.declared.grammar.Mark.TheVariants as m
+use Rattle.away_core.specs.Signs.{Sign, mark}
+use Rattle.away_core.specs.Grammar.{Sort, at, links, list, arms, Tree, chained, operands}
+use Rattle.sql_text.specs.declared.refusal.Refusal.{Refusal}
+use Rattle.sql_text.specs.declared.refusal.Refusal.TheVariants.{NoTree, NoMemory}
+use Rattle.sql_text.specs.Next.{operator_in}
+use Rattle.sql_text.specs.Plans.{Plan, done, read, eat, expect, with, is_some, first, tail, Begins, Runs, ends, takes, eats, leaves, sees, misses, reads, breaks, Gives, tree, no_tree, no_memory}
+use Rattle.sql_text.proofs.Steps.{run_of, read_no}
 use Rattle.sql_text.specs.Descent.{plan, chain_plan}
 
 -- these, behind those that were found
@@ -26,3 +32,113 @@ chain_behind x found (Some p) = Some (chained x (found ++ p.0), p.1)
 
 abbrev pub LinksLead : Level → List Sign → Expr → List (ChainOp × Expr) → List Sign → Type 0
 LinksLead level old x found now = (o : Option (List (ChainOp × Expr) × List Sign)) → Runs Tree plan (links level) (plan (links level)) now o → Runs Tree plan (at level) (chain_plan level) old (chain_behind x found o)
+
+-- ---- lists with commas
+
+list_on : {x : Expr} {ts : List Sign} (o : Option (List Expr × List Sign)) → Runs Tree plan list (plan list) ts o → Runs Tree plan list (read list (λ xs. done (x ∷ xs))) ts (behind (x ∷ []) o)
+list_on None d = breaks d
+list_on (Some p) d = reads d ends
+
+behind_both : {A : Type 0} (found : List A) (x : A) (o : Option (List A × List Sign)) → behind found (behind (x ∷ []) o) ≡ behind (found ++ x ∷ []) o
+behind_both found x None = refl
+behind_both found x (Some p) = ap (λ xs. Some (xs, p.1)) (sym (append_assoc found (x ∷ []) p.0))
+
+pub list_begins : (old : List Sign) → ListLeads old [] old
+list_begins old None d = d
+list_begins old (Some p) d = d
+
+pub list_more : {old now middle new : List Sign} {x : Expr} (found : List Expr) → ListLeads old found now → Gives Tree plan (at l.Or) (plan (at l.Or)) now (Ok x) middle → middle ≡ mark m.Comma ∷ new → ListLeads old (found ++ x ∷ []) new
+list_more {old = old} {new = new} {x = x} found b d e o r =
+    subst (λ o. Runs Tree plan list (plan list) old o) (behind_both found x o)
+      (b (behind (x ∷ []) o) (reads (run_of d) (subst (λ ts. Runs Tree plan list (eat m.Comma (read list (λ xs. done (x ∷ xs))) (done (x ∷ []))) ts (behind (x ∷ []) o)) (sym e) (eats (list_on o r)))))
+
+pub list_ends : {old now middle new : List Sign} {x : Expr} (found : List Expr) → ListLeads old found now → Gives Tree plan (at l.Or) (plan (at l.Or)) now (Ok x) middle → (new ≡ middle) × ¬ (Begins middle m.Comma)
+    → Gives Tree plan list (plan list) old (Ok (found ++ x ∷ [])) new
+list_ends {middle = middle} {new = new} {x = x} found b d e =
+    tree (b (Some (x ∷ [], new)) (reads (run_of d) (leaves e.1 (subst (λ ts. Runs Tree plan list (done (x ∷ [])) middle (Some (x ∷ [], ts))) (sym e.0) ends))))
+
+pub list_fails : {old now new other : List Sign} {e : Refusal} (found : List Expr) → ListLeads old found now → Gives Tree plan (at l.Or) (plan (at l.Or)) now (Err e) new → Gives Tree plan list (plan list) old (Err e) other
+list_fails found b (no_tree d) = no_tree (b None (breaks d))
+list_fails found b no_memory = no_memory
+
+-- ---- arms
+
+arms_on : {x : Expr × Expr} {ts : List Sign} (o : Option (List (Expr × Expr) × List Sign)) → Runs Tree plan arms (plan arms) ts o → Runs Tree plan arms (read arms (λ xs. done (x ∷ xs))) ts (behind (x ∷ []) o)
+arms_on None d = breaks d
+arms_on (Some p) d = reads d ends
+
+pub arms_begin : (old : List Sign) → ArmsLead old [] old
+arms_begin old None d = d
+arms_begin old (Some p) d = d
+
+pub arms_more : {old now a b c new : List Sign} {test value : Expr} (found : List (Expr × Expr)) → ArmsLead old found now → now ≡ mark m.When ∷ a → Gives Tree plan (at l.Or) (plan (at l.Or)) a (Ok test) b → b ≡ mark m.Then ∷ c
+    → Gives Tree plan (at l.Or) (plan (at l.Or)) c (Ok value) new → ArmsLead old (found ++ (test, value) ∷ []) new
+arms_more {old = old} {b = b} {c = c} {new = new} {test = test} {value = value} found h w t e v o r =
+    subst (λ o. Runs Tree plan arms (plan arms) old o) (behind_both found (test, value) o)
+      (h (behind ((test, value) ∷ []) o)
+        (subst (λ ts. Runs Tree plan arms (plan arms) ts (behind ((test, value) ∷ []) o)) (sym w)
+          (eats (reads (run_of t) (subst (λ ts. Runs Tree plan arms (expect m.Then (read (at l.Or) (λ value. read arms (λ more. done ((test, value) ∷ more))))) ts (behind ((test, value) ∷ []) o)) (sym e)
+            (eats (reads (run_of v) (arms_on o r))))))))
+
+pub arms_end : {old now new : List Sign} {found : List (Expr × Expr)} → ArmsLead old found now → (new ≡ now) × ¬ (Begins now m.When) → Gives Tree plan arms (plan arms) old (Ok found) new
+arms_end {old = old} {now = now} {new = new} {found = found} h e =
+    subst (λ xs. Gives Tree plan arms (plan arms) old (Ok xs) new) (append-nil found) (tree (h (Some ([], new)) (leaves e.1 (subst (λ ts. Runs Tree plan arms (done []) now (Some ([], ts))) (sym e.0) ends))))
+
+-- what fails at an arm fails the whole
+pub arms_fail : {old now new : List Sign} {e : Refusal} (found : List (Expr × Expr)) → ArmsLead old found now → Gives Tree plan arms (plan arms) now (Err e) new → Gives Tree plan arms (plan arms) old (Err e) new
+arms_fail found b (no_tree d) = no_tree (b None d)
+arms_fail found b no_memory = no_memory
+
+-- ---- chains
+
+links_on : {level : Level} {x : ChainOp × Expr} {ts : List Sign} (o : Option (List (ChainOp × Expr) × List Sign)) → Runs Tree plan (links level) (plan (links level)) ts o
+    → Runs Tree plan (links level) (read (links level) (λ xs. done (x ∷ xs))) ts (behind (x ∷ []) o)
+links_on None d = breaks d
+links_on (Some p) d = reads d ends
+
+chain_both : (x : Expr) (found : List (ChainOp × Expr)) (link : ChainOp × Expr) (o : Option (List (ChainOp × Expr) × List Sign)) → chain_behind x found (behind (link ∷ []) o) ≡ chain_behind x (found ++ link ∷ []) o
+chain_both x found link None = refl
+chain_both x found link (Some p) = ap (λ xs. Some (chained x xs, p.1)) (sym (append_assoc found (link ∷ []) p.0))
+
+at_level : {a b : Level} {ts new : List Sign} {r : Result Expr Refusal} → a ≡ b → Gives Tree plan (at a) (plan (at a)) ts r new → Gives Tree plan (at b) (plan (at b)) ts r new
+at_level {ts = ts} {new = new} {r = r} e d = subst (λ a. Gives Tree plan (at a) (plan (at a)) ts r new) e d
+
+pub chain_fails : {level inner : Level} {ts middle new : List Sign} {e : Refusal} → inner ≡ operands level → Gives Tree plan (at inner) (plan (at inner)) ts (Err e) middle → Gives Tree plan (at level) (chain_plan level) ts (Err e) new
+chain_fails e d = read_no (at_level e d)
+
+pub links_begin : {level inner : Level} {old now : List Sign} {x : Expr} → inner ≡ operands level → Gives Tree plan (at inner) (plan (at inner)) old (Ok x) now → LinksLead level old x [] now
+links_begin e d None r = reads (run_of (at_level e d)) (breaks r)
+links_begin e d (Some p) r = reads (run_of (at_level e d)) (reads r ends)
+
+link_runs : {level inner : Level} {now after new : List Sign} {o : ChainOp} {x : Expr} → Some o ≡ operator_in level (first now) → after ≡ tail now → inner ≡ operands level → Gives Tree plan (at inner) (plan (at inner)) after (Ok x) new
+    → (given : Option (List (ChainOp × Expr) × List Sign)) → Runs Tree plan (links level) (plan (links level)) new given → Runs Tree plan (links level) (plan (links level)) now (behind ((o, x) ∷ []) given)
+link_runs {level = level} {now = now} {new = new} {o = o} {x = x} f q e d given r =
+    sees (ap is_some (sym f))
+      (takes (subst (λ found. Runs Tree plan (links level) (with (λ o. read (at (operands level)) (λ x. read (links level) (λ xs. done ((o, x) ∷ xs)))) found) (tail now) (behind ((o, x) ∷ []) given)) f
+        (reads (subst (λ ts. Runs Tree plan (at (operands level)) (plan (at (operands level))) ts (Some (x, new))) q (run_of (at_level e d))) (links_on given r))))
+
+pub links_more : {level inner : Level} {old now after new : List Sign} {x : Expr} {o : ChainOp} (first_one : Expr) (found : List (ChainOp × Expr)) → LinksLead level old first_one found now → Some o ≡ operator_in level (first now) → after ≡ tail now
+    → inner ≡ operands level → Gives Tree plan (at inner) (plan (at inner)) after (Ok x) new → LinksLead level old first_one (found ++ (o, x) ∷ []) new
+links_more {level = level} {old = old} {x = x} {o = o} first_one found b f q e d given r =
+    subst (λ o. Runs Tree plan (at level) (chain_plan level) old o) (chain_both first_one found (o, x) given) (b (behind ((o, x) ∷ []) given) (link_runs f q e d given r))
+
+pub links_fail : {level inner : Level} {old now after new other : List Sign} {o : ChainOp} {e : Refusal} (first_one : Expr) (found : List (ChainOp × Expr)) → LinksLead level old first_one found now → Some o ≡ operator_in level (first now) → after ≡ tail now
+    → inner ≡ operands level → Gives Tree plan (at inner) (plan (at inner)) after (Err e) new → Gives Tree plan (at level) (chain_plan level) old (Err e) other
+links_fail first_one found b f q e no_memory = no_memory
+links_fail {level = level} {now = now} first_one found b f q e (no_tree d) =
+    no_tree (b None (sees (ap is_some (sym f)) (takes (subst (λ found. Runs Tree plan (links level) (with (λ o. read (at (operands level)) (λ x. read (links level) (λ xs. done ((o, x) ∷ xs)))) found) (tail now) None) f
+      (breaks (subst (λ ts. Runs Tree plan (at (operands level)) (plan (at (operands level))) ts None) q (subst (λ a. Runs Tree plan (at a) (plan (at a)) _ None) e d)))))))
+
+pub links_end : {level : Level} {old now new : List Sign} (first_one : Expr) (found : List (ChainOp × Expr)) → LinksLead level old first_one found now → None ≡ operator_in level (first now) → new ≡ now
+    → Gives Tree plan (at level) (chain_plan level) old (Ok (chained first_one found)) new
+links_end {level = level} {old = old} {now = now} {new = new} first_one found b f e =
+    subst (λ xs. Gives Tree plan (at level) (chain_plan level) old (Ok (chained first_one xs)) new) (append-nil found)
+      (tree (b (Some ([], new)) (misses (ap is_some (sym f)) (subst (λ ts. Runs Tree plan (links level) (done []) now (Some ([], ts))) (sym e) ends))))
+
+-- ---- levels
+
+-- a level that gives what another gives
+pub levelled : {a b : Level} {ts new : List Sign} {r : Result Expr Refusal} → Gives Tree plan (at b) (plan (at b)) ts r new → Gives Tree plan (at a) (read (at b) (λ x. done x)) ts r new
+levelled (tree d) = tree (reads d ends)
+levelled (no_tree d) = no_tree (breaks d)
+levelled no_memory = no_memory
