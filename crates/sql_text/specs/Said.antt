@@ -1,6 +1,8 @@
 -- What the code's signs and cursors say.
-use Rattle.std.specs.Prelude.{◌≡◌, ℕ, List, ◌∷◌, Option, Some, None, map, chars, Result, Ok, Err}
-use Rattle.away_core.specs.Signs.{Sign, mark, name, integer, string, parameter, quote, undoubled, between_quotes}
+use Rattle.std.specs.Prelude.{◌≡◌, ◌≤◌, ℕ, ◌^◌, List, ◌∷◌, Option, Some, None, map, chars, Result, Ok, Err}
+use Rattle.std.specs.Borrow.{Bor}
+use Rattle.away_core.specs.Signs.{Sign, mark, name, integer, string, parameter, quote, undoubled, between_quotes, Entry}
+use Rattle.away_core.specs.Spellings.{IsNameText, IsString}
 use Rattle.away_core.specs.Reserved.{folded}
 use Rattle.away_core.specs.declared.grammar.Mark as code_mark
 use Rattle.sql_text.specs.Plans.{Begins, tail}
@@ -20,6 +22,19 @@ said (Quote z) = quote z.now
 abbrev pub said_next : Option code.Sign → Option Sign
 said_next None = None
 said_next (Some s) = Some (said s)
+
+-- how what a sign says is spelled
+abbrev pub IsSaid : code.Sign → Type 0
+IsSaid (Mark m) = Unit {0}
+IsSaid (Name text) = IsNameText text.now
+IsSaid (Integer n) = n ≤ 2 ^ 63
+IsSaid (Text z) = IsString z.now
+IsSaid (Parameter i) = (1 ≤ i) × (i ≤ 64)
+IsSaid (Quote z) = Unit {0}
+
+-- an entry of a table of the code
+abbrev pub entry : Bor (List ℕ) × code_mark.Mark → Entry
+entry e = (e.0.now, e.1)
 
 -- what was sought was found, or it doesn't stand there
 abbrev pub Found : {A : Type 0} → Option A → Result A Refusal → Type 0
