@@ -1,0 +1,7 @@
+use Rattle.std.proofs.Common.{◌≡◌, ◌∙◌, ap, sym}
+use Rattle.sql_text.specs.Plans.{tail}
+use Rattle.sql_text.proofs.Places.{said_on, said_end}
+use Rattle.sql_text.proofs.cursor.Cursor.step.Goals as goal
+
+pub returns-then-self : goal.returns-then-self
+returns-then-self c = said_on c.self.inside.list.now c.self.inside.at c.if-self.true ∙ ap tail c.self.view_is
