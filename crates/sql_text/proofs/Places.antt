@@ -1,11 +1,12 @@
 -- What the tokens from a place on say, and that each is spelled.
 use Rattle.std.proofs.Common.{◌≡◌, ℕ, zero, suc, ◌+◌, ◌-◌, ◌<◌, ◌≤◌, List, [], ◌∷◌, length, get_or, drop, map, Option, Some, None, refl, sym, ap, arith}
-use Rattle.away_core.specs.Signs.{Sign, says, all_say}
+use Rattle.away_core.specs.declared.grammar.Mark.{Mark}
+use Rattle.away_core.specs.Signs.{Sign, mark, says, all_say}
 use Rattle.away_core.specs.Spellings.{Spells}
 use Rattle.away_core.specs.Tokens.{AreSpelled}
 use Rattle.away_lex.specs.Lexed.{seen}
 use Rattle.away_lex.specs.declared.kind.Token as declared
-use Rattle.sql_text.specs.Plans.{first, tail}
+use Rattle.sql_text.specs.Plans.{first, tail, Begins}
 
 pub said_on : (l : List declared.Token) (at : ℕ) → at < length l → all_say (map seen (drop (at + 1) l)) ≡ tail (all_say (map seen (drop at l)))
 said_on [] at lt = absurd (omega arith)
@@ -37,3 +38,7 @@ tail_shrinks (s ∷ ts) = omega arith
 pub tail_shorter : (ts : List Sign) (s : Sign) → Some s ≡ first ts → length (tail ts) < length ts
 tail_shorter [] s e = absurd (cc)
 tail_shorter (t ∷ ts) s e = omega arith
+
+pub begins_first : (ts : List Sign) (m : Mark) → Some (mark m) ≡ first ts → Begins ts m
+begins_first [] m e = absurd (cc)
+begins_first (s ∷ ts) m e = (ts, cc)

@@ -1,6 +1,6 @@
 //! What tokens say.
 
-ghost use Rattle.std.specs.Prelude.{◌≡◌, ◌≤◌, ◌^◌, map, bytes_eq, codes, chars, IfOk};
+ghost use Rattle.std.specs.Prelude.{◌≡◌, ◌≤◌, ◌^◌, map, nat_le, bytes_eq, codes, chars, IfOk};
 ghost use Rattle.std.specs.Str.{str_eq_ignore_ascii_case};
 ghost use Rattle.away_core.specs.Signs as spec;
 ghost use Rattle.away_core.specs.Grammar as grammar;
@@ -210,6 +210,20 @@ pub fn comparison_of(mark: Mark) -> Option<CmpOp>
         Mark::Greater => Some(CmpOp::Gt),
         Mark::GreaterEqual => Some(CmpOp::Ge),
         _ => None,
+    }
+}
+
+/// Whether the mark continues an expression.
+pub fn continues(mark: Mark) -> bool
+    ensures { result ≡ nat_le 21 (grammar.mark_binds mark) }
+{
+    match mark {
+        Mark::Dot | Mark::Open | Mark::Colons => true,
+        Mark::Star | Mark::Slash | Mark::Percent => true,
+        Mark::Plus | Mark::Minus | Mark::Bars => true,
+        Mark::Between | Mark::In | Mark::Not | Mark::Is => true,
+        Mark::And | Mark::Or => true,
+        _ => comparison_of(mark).is_some(),
     }
 }
 
