@@ -2,3 +2,4 @@ pub mod Plans
 pub mod Steps
 pub mod Marks
 pub mod Places
+pub mod Undoubled

@@ -9,8 +9,9 @@ ghost use Rattle.away_core.specs.Spellings.{Spells, IsString, number};
 ghost use Rattle.away_lex.specs.Lexed.{seen};
 ghost use Rattle.sql_text.specs.Said.{said, IsSaid, entry};
 
-use away_core::{ChainOp, CmpOp, IntOp, Level, Mark, Name, Ty};
+use away_core::{ChainOp, CmpOp, IntOp, Level, Mark, Name, NoMemory, Ty, Word, word};
 use away_lex::{Token, TokenKind};
+use std::alloc::Global;
 
 const WORDS: [(&str, Mark); 53] = [
     ("all", Mark::All),
@@ -180,6 +181,22 @@ fn value_of(digits: &[u8]) -> u64
         value = value * 10 + u64::from(digit.saturating_sub(b'0'));
     }
     value
+}
+
+/// The text that a string spells: each quote in it stands twice.
+pub fn text_of(alloc: Global, string: &str) -> Result<Word, NoMemory>
+    requires { IsString string.now }
+    ensures { IfOk result (λ w. w ≡ chars (spec.undoubled (spec.between_quotes string.now))) }
+{
+    let inside = &string[1..string.len() - 1];
+    let text = inside.replace(alloc, "''", "'")?;
+    match word(alloc, text.as_str())? {
+        Some(word) => Ok(word),
+        None => {
+            prove!(false);
+            Err(NoMemory)
+        }
+    }
 }
 
 /// The operator of the level that the mark stands for.
