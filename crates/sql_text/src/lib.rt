@@ -8,3 +8,6 @@ mod signs;
 pub use cursor::Cursor;
 pub use refusal::Refusal;
 pub use signs::Sign;
+
+#[cfg(test)]
+mod sign_tests;
