@@ -2,6 +2,7 @@
 
 ghost use Rattle.std.specs.Prelude.{◌≡◌, ◌≤◌, ◌^◌, map, nat_le, bytes_eq, codes, chars, IfOk};
 ghost use Rattle.std.specs.Str.{str_eq_ignore_ascii_case};
+ghost use Rattle.away_core.specs.declared.grammar.Level.TheVariants as level;
 ghost use Rattle.away_core.specs.Signs as spec;
 ghost use Rattle.away_core.specs.Grammar as grammar;
 ghost use Rattle.away_core.specs.Reserved.{folded};
@@ -216,6 +217,7 @@ pub fn operator_of(level: Level, mark: Mark) -> Option<ChainOp>
     }
 }
 
+/// The comparison that the mark stands for.
 pub fn comparison_of(mark: Mark) -> Option<CmpOp>
     ensures { result ≡ grammar.comparison_of mark }
 {
@@ -232,7 +234,7 @@ pub fn comparison_of(mark: Mark) -> Option<CmpOp>
 
 /// Whether the mark continues an expression.
 pub fn continues(mark: Mark) -> bool
-    ensures { result ≡ nat_le 21 (grammar.mark_binds mark) }
+    ensures { result ≡ nat_le (grammar.rank level.Or) (grammar.mark_binds mark) }
 {
     match mark {
         Mark::Dot | Mark::Open | Mark::Colons => true,
