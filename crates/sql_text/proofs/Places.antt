@@ -1,5 +1,5 @@
 -- What the tokens from a place on say, and that each is spelled.
-use Rattle.std.proofs.Common.{◌≡◌, ℕ, zero, suc, ◌+◌, ◌-◌, ◌<◌, ◌≤◌, List, [], ◌∷◌, length, get_or, drop, map, Option, Some, None, refl, sym, ap, arith}
+use Rattle.std.proofs.Common.{◌≡◌, ℕ, zero, suc, ◌+◌, ◌<◌, ◌≤◌, List, [], ◌∷◌, length, get_or, drop, map, Some, refl, arith}
 use Rattle.away_core.specs.declared.grammar.Mark.{Mark}
 use Rattle.away_core.specs.Signs.{Sign, mark, says, all_say}
 use Rattle.away_core.specs.Spellings.{Spells}

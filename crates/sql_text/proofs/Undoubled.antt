@@ -1,10 +1,10 @@
 -- The text that a string spells, by replacing each two quotes with one.
-use Rattle.std.proofs.Common.{◌≡◌, ℕ, zero, suc, ◌+◌, ◌-◌, ◌<◌, ◌≤◌, ◌⊎◌, inl, inr, Bool, true, false, ◌&&◌, eqb, List, [], ◌∷◌, ◌++◌, length, take, drop, Option, Some, None, refl, sym, ap, ◌∙◌, subst, arith, length-append}
+use Rattle.std.proofs.Common.{◌≡◌, ℕ, zero, suc, ◌+◌, ◌-◌, ◌<◌, ◌≤◌, inl, inr, true, false, ◌&&◌, eqb, List, [], ◌∷◌, ◌++◌, length, take, drop, Option, Some, None, refl, sym, ap, ◌∙◌, subst, arith, length-append}
 use Rattle.std.proofs.Math.Seq.{take-append_seam}
 use Rattle.std.specs.List.{slice_range}
 use Rattle.std.proofs.lemmas.Bool.{cases_Bool}
 use Rattle.std.proofs.lemmas.Bool.Decides.{nat_tests}
-use Rattle.std.specs.Str.Pattern.{FindsText, LacksTextAt, HasTextAt}
+use Rattle.std.specs.Str.Pattern.{FindsText, LacksTextAt}
 use Rattle.std.specs.Str.Replace.{ReplacesMatches}
 use Rattle.away_core.specs.Signs.{undoubled, between_quotes}
 use Rattle.away_lex.proofs.Alone.{undoubled-doubled}
@@ -48,10 +48,11 @@ replaced_is finds keeps text fits same (suc n) p is s out h =
     let ends : h.1 ≡ h.0 + 2 = found.1.ends in
     let split : drop h.0 s ≡ 39 ∷ 39 ∷ drop (h.0 + 2) s = found.1.split ∙ ap (λ b. 39 ∷ 39 ∷ drop b s) ends in
     elim h.6 [
-      inl w ↦ (
-        let rest : h.3 ≡ undoubled (drop (h.0 + 2) s) = replaced_is finds keeps text fits same n h.2 (same p h.2 h.5 ∙ is) (drop h.1 s) h.3 w.1 ∙ ap (λ b. undoubled (drop b s)) ends in
-        h.7 ∙ ap (λ l. take h.0 s ++ 39 ∷ l) rest ∙ sym (undoubled_first s h.0 found.0 split))
-    | inr w ↦ absurd (let same_end : h.0 ≡ h.1 = w.0 in omega arith) ]
+      | inl w ↦ (
+          let rest : h.3 ≡ undoubled (drop (h.0 + 2) s) = replaced_is finds keeps text fits same n h.2 (same p h.2 h.5 ∙ is) (drop h.1 s) h.3 w.1 ∙ ap (λ b. undoubled (drop b s)) ends in
+          h.7 ∙ ap (λ l. take h.0 s ++ 39 ∷ l) rest ∙ sym (undoubled_first s h.0 found.0 split))
+      | inr w ↦ absurd (let same_end : h.0 ≡ h.1 = w.0 in omega arith)
+    ]
 
 pub inside_is : (z : List ℕ) → slice_range z 1 (length z - 1) ≡ between_quotes z
 inside_is z = ap (λ n. take n (drop 1 z)) (omega arith)

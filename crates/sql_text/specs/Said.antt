@@ -1,5 +1,5 @@
 -- What the code's signs and cursors say.
-use Rattle.std.specs.Prelude.{◌≡◌, ◌≤◌, ℕ, ◌^◌, List, ◌∷◌, Option, Some, None, map, chars, Result, Ok, Err}
+use Rattle.std.specs.Prelude.{◌≡◌, ◌≤◌, ℕ, ◌^◌, List, ◌∷◌, Option, Some, None, chars, Result, Ok, Err}
 use Rattle.std.specs.Borrow.{Bor}
 use Rattle.away_core.specs.Signs.{Sign, mark, name, integer, string, parameter, quote, undoubled, between_quotes, Entry}
 use Rattle.away_core.specs.Spellings.{IsNameText, IsString}

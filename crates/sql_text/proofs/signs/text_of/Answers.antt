@@ -29,6 +29,6 @@ pub prove-unreachable-requires : goal.prove-unreachable-requires
 prove-unreachable-requires c =
     let text = c.as_str.result.now in
     let whole : text ≡ c.requires.text =
-      text_is (goal.at.prove-unreachable-requires c).After-as_str ∙ ap (λ z. undoubled (between_quotes z)) c.requires.spelled ∙ undoubled_quoted c.requires.text in
+    text_is (goal.at.prove-unreachable-requires c).After-as_str ∙ ap (λ z. undoubled (between_quotes z)) c.requires.spelled ∙ undoubled_quoted c.requires.text in
     let none = MatchOption-at_none (¬ (IsWord text)) (λ w. IsWord text × (w ≡ chars text)) c.in-None.is c.in_ok-word.ensures in
     none (subst IsWord (sym whole) c.requires.value)

@@ -1,4 +1,4 @@
-use Rattle.std.proofs.Common.{rules, ◌≡◌, Some, ap, sym, subst, ◌∙◌}
+use Rattle.std.proofs.Common.{◌≡◌, Some, ap, sym, subst, ◌∙◌}
 use Rattle.std.proofs.lemmas.Bool.{OnTrue_from}
 use denote.Enum.Bare.{same_true}
 use Rattle.away_core.specs.contracts.grammar.Mark.{the_type}
@@ -12,5 +12,5 @@ pub returns-in-Some-Mark-clause-yes : goal.returns-in-Some-Mark-clause-yes
 returns-in-Some-Mark-clause-yes c =
     let next : Some (mark c.in-Some-Mark.next) ≡ first c.args.self.now = ap said_next (sym (c.in-Some-Mark.is ∙ ap Some c.in-Some-Mark.field-0-is)) ∙ c.peek.ensures.value in
     OnTrue_from c.eq.result (Begins c.args.self.now c.args.sought) (λ yes.
-      (let same : c.in-Some-Mark.next ≡ c.args.sought = same_true the_type tt c.in-Some-Mark.next c.args.sought (sym c.eq.ensures ∙ yes) in
-      subst (Begins c.args.self.now) same (begins_first c.args.self.now c.in-Some-Mark.next next)))
+    (let same : c.in-Some-Mark.next ≡ c.args.sought = same_true the_type tt c.in-Some-Mark.next c.args.sought (sym c.eq.ensures ∙ yes) in
+    subst (Begins c.args.self.now) same (begins_first c.args.self.now c.in-Some-Mark.next next)))

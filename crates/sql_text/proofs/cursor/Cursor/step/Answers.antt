@@ -1,6 +1,6 @@
-use Rattle.std.proofs.Common.{◌≡◌, ◌∙◌, ap, sym}
+use Rattle.std.proofs.Common.{◌∙◌, ap}
 use Rattle.sql_text.specs.Plans.{tail}
-use Rattle.sql_text.proofs.Places.{said_on, said_end}
+use Rattle.sql_text.proofs.Places.{said_on}
 use Rattle.sql_text.proofs.cursor.Cursor.step.Goals as goal
 
 pub returns-then-self : goal.returns-then-self
