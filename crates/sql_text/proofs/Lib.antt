@@ -13,3 +13,6 @@ pub mod CompletePrimary
 pub mod CompleteFrom
 pub mod CompleteQueries
 pub mod Complete
+pub mod Marks
+pub mod Places
+pub mod Undoubled

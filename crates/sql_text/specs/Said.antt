@@ -1,6 +1,7 @@
 -- What the code's signs and cursors say.
-use Rattle.std.specs.Prelude.{◌≡◌, ℕ, ◌<◌, ◌≤◌, ◌^◌, pos, List, ◌∷◌, Option, Some, None, map, chars, Result, Ok, Err}
-use Rattle.away_core.specs.Signs.{Sign, mark, name, integer, string, parameter, quote, undoubled, between_quotes}
+use Rattle.std.specs.Prelude.{◌≡◌, ◌<◌, ◌≤◌, ℕ, ◌^◌, pos, List, ◌∷◌, Option, Some, None, chars, Result, Ok, Err}
+use Rattle.std.specs.Borrow.{Bor}
+use Rattle.away_core.specs.Signs.{Sign, mark, name, integer, string, parameter, quote, undoubled, between_quotes, Entry}
 use Rattle.away_core.specs.Reserved.{folded}
 use Rattle.away_core.specs.Spellings.{IsNameText, IsString}
 use Rattle.away_core.specs.declared.grammar.Mark as code_mark
@@ -24,6 +25,19 @@ abbrev pub said_next : Option code.Sign → Option Sign
 said_next None = None
 said_next (Some s) = Some (said s)
 
+-- how what a sign says is spelled
+abbrev pub IsSaid : code.Sign → Type 0
+IsSaid (Mark m) = Unit {0}
+IsSaid (Name text) = IsNameText text.now
+IsSaid (Integer n) = n ≤ 2 ^ 63
+IsSaid (Text z) = IsString z.now
+IsSaid (Parameter i) = (1 ≤ i) × (i ≤ 64)
+IsSaid (Quote z) = Unit {0}
+
+-- an entry of a table of the code
+abbrev pub entry : Bor (List ℕ) × code_mark.Mark → Entry
+entry e = (e.0.now, e.1)
+
 -- what was sought was found, or it doesn't stand there
 abbrev pub Found : {A : Type 0} → Option A → Result A Refusal → Type 0
 Found o (Ok x) = o ≡ Some x
@@ -44,12 +58,3 @@ Taken (Some x) old new = new ≡ tail old
 abbrev pub Numbered : ℕ → Result Expr Refusal → Type 0
 Numbered n (Ok x) = (n < 2 ^ 63) × (x ≡ Int (pos n))
 Numbered n (Err e) = (2 ^ 63 ≤ n) × (e ≡ NoTree)
-
--- what a sign of the code holds is spelled so
-abbrev pub IsSaid : code.Sign → Type 0
-IsSaid (Mark m) = Unit {0}
-IsSaid (Name text) = IsNameText text.now
-IsSaid (Integer n) = n ≤ 2 ^ 63
-IsSaid (Text z) = IsString z.now
-IsSaid (Parameter i) = (1 ≤ i) × (i ≤ 64)
-IsSaid (Quote z) = Unit {0}

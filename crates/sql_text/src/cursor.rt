@@ -1,20 +1,25 @@
 //! A place in a list of tokens.
 
-ghost use Rattle.std.specs.Prelude.{◌≡◌, ◌≤◌, ◌<◌, ◌∷◌, length, map, drop, List, Some, None, IfOk, IfSome, IfNone, true, false};
+ghost use Rattle.std.specs.Prelude.{◌≡◌, ◌≤◌, ◌<◌, ◌∷◌, true, false, length, map, drop, List, Some, None, IfOk, IfSome, IfNone};
 ghost use Rattle.std.specs.Bool.{OnTrue, OnFalse};
+ghost use Rattle.away_core.specs.declared.grammar.Level.TheVariants as level;
+ghost use Rattle.away_core.specs.Grammar.{at as expression, Stops};
 ghost use Rattle.away_core.specs.Tokens.{AreSpelled};
 ghost use Rattle.away_core.specs.Signs.{mark, all_say};
 ghost use Rattle.away_lex.specs.Lexed.{seen};
 ghost use Rattle.sql_text.specs.Plans.{first, tail, Begins};
 ghost use Rattle.sql_text.specs.Next.{operator_in, comparison_in, test_in, name_in, type_in, parameter_in, is_least, is_select, is_with, is_typed_parameter};
-ghost use Rattle.sql_text.specs.Said.{said_next, Found, Expected, Taken, IsSaid};
+ghost use Rattle.sql_text.specs.Said.{said_next, IsSaid, Found, Expected, Taken};
 
 use crate::refusal::Refusal;
-use crate::signs::{Sign, comparison_of, operator_of, sign_of, type_named};
+use crate::signs::{Sign, comparison_of, continues, operator_of, sign_of, type_named};
 use away_core::{ChainOp, CmpOp, IsTest, Level, Mark, Name, NoMemory, Ty};
 use away_lex::{Token, folded};
 use std::alloc::Global;
 use std::marker::Model;
+
+/// The opposite of the least bigint.
+const LEAST: u64 = 1 << 63;
 
 /// A place in a list of tokens. Contracts see what the tokens from there on say.
 #[derive(Drop)]
@@ -55,7 +60,8 @@ impl<'a> Cursor<'a> {
 
     /// What stands next.
     pub fn peek(&self) -> Option<Sign<'a>>
-        ensures { said_next result ≡ first self.now }
+        ensures value { said_next result ≡ first self.now }
+        ensures spelled { IfSome result IsSaid }
     {
         if self.at < self.list.len() {
             Some(sign_of(&self.list[self.at]))
@@ -68,9 +74,9 @@ impl<'a> Cursor<'a> {
     pub fn take(&mut self) -> Option<Sign<'a>>
         ensures next { said_next result ≡ first self.old }
         ensures rest { self.new ≡ tail self.old }
+        ensures spelled { IfSome result IsSaid }
         ensures shrinks { length self.new ≤ length self.old }
         ensures shorter { IfSome result (λ _. length self.new < length self.old) }
-        ensures spelled { IfSome result IsSaid }
     {
         let next = self.peek();
         self.step();
@@ -190,6 +196,7 @@ impl<'a> Cursor<'a> {
     pub fn perhaps_name(&mut self, alloc: Global) -> Result<Option<Name>, NoMemory>
         ensures found { IfOk result (λ found. (found ≡ name_in (first self.old)) × Taken found self.old self.new) }
         ensures shrinks { length self.new ≤ length self.old }
+        ensures shorter { IfOk result (λ found. IfSome found (λ _. length self.new < length self.old)) }
     {
         match self.peek() {
             Some(Sign::Name(text)) => {
@@ -213,24 +220,43 @@ impl<'a> Cursor<'a> {
         }
     }
 
-    /// Takes 9223372036854775808, if it stands next.
+    /// Takes what stands next, which has to be a parameter.
+    pub fn parameter(&mut self) -> Result<u32, Refusal>
+        ensures found { Found (parameter_in (first self.old)) result }
+        ensures rest { self.new ≡ tail self.old }
+        ensures spelled { IfOk result (λ i. (1 ≤ i) × (i ≤ 64)) }
+        ensures shrinks { length self.new ≤ length self.old }
+        ensures shorter { IfOk result (λ _. length self.new < length self.old) }
+    {
+        match self.take() {
+            Some(Sign::Parameter(number)) => Ok(number),
+            _ => Err(Refusal::NoTree),
+        }
+    }
+
+    /// Takes the opposite of the least bigint, if it stands next.
     pub fn eat_least(&mut self) -> bool
         ensures yes { OnTrue result ((is_least self.old ≡ true) × (self.new ≡ tail self.old)) }
         ensures no { OnFalse result ((is_least self.old ≡ false) × (self.new ≡ self.old)) }
         ensures shrinks { length self.new ≤ length self.old }
         ensures shorter { OnTrue result (length self.new < length self.old) }
     {
-        false
+        let found = match self.peek() {
+            Some(Sign::Integer(number)) => number == LEAST,
+            _ => false,
+        };
+        if found {
+            self.step();
+        }
+        found
     }
 
-    /// Whether SELECT stands next.
     pub fn sees_select(&self) -> bool
         ensures { result ≡ is_select self.now }
     {
         self.sees(Mark::Select)
     }
 
-    /// Whether WITH stands next.
     pub fn sees_with(&self) -> bool
         ensures { result ≡ is_with self.now }
     {
@@ -241,19 +267,21 @@ impl<'a> Cursor<'a> {
     pub fn sees_typed_parameter(&self) -> bool
         ensures { result ≡ is_typed_parameter self.now }
     {
-        false
+        let mut ahead = Cursor::new(self.list, self.at);
+        match ahead.take() {
+            Some(Sign::Parameter(_)) => ahead.sees(Mark::As),
+            _ => false,
+        }
     }
 
-    /// Takes what stands next, which has to be a parameter.
-    pub fn parameter(&mut self) -> Result<u32, Refusal>
-        ensures found { Found (parameter_in (first self.old)) result }
-        ensures rest { self.new ≡ tail self.old }
-        ensures shrinks { length self.new ≤ length self.old }
-        ensures shorter { IfOk result (λ _. length self.new < length self.old) }
+    /// Whether what stands next continues an expression.
+    pub fn continues(&self) -> bool
+        ensures yes { OnTrue result (¬ (Stops (expression level.Or) self.now)) }
+        ensures no { OnFalse result (Stops (expression level.Or) self.now) }
     {
-        match self.take() {
-            Some(Sign::Parameter(number)) => Ok(number),
-            _ => Err(Refusal::NoTree),
+        match self.peek() {
+            Some(Sign::Mark(next)) => continues(next),
+            _ => false,
         }
     }
 }

@@ -15,3 +15,6 @@ pub use expressions::expression;
 pub use laws::what_a_plan_gives_is_read;
 pub use refusal::Refusal;
 pub use signs::Sign;
+
+#[cfg(test)]
+mod sign_tests;

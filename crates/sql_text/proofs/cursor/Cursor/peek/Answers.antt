@@ -1,13 +1,5 @@
-use Rattle.std.proofs.Common.{rules, ◌≡◌, ◌≤◌, ◌<◌, ◌∷◌, length, map, drop, List, Some, None, IfOk, IfSome, IfNone, true, false, ℕ, ◌+◌, ◌-◌, ◌*◌, ◌/◌, ◌%◌, Bool, nat_eq, nat_lt, [], ◌++◌, slice_index_or, slice_set, bit_and, bit_or, Fits, w8, w32, w64, Bor, MutBor}
-use Rattle.std.specs.Bool.{OnTrue, OnFalse}
-use Rattle.away_core.specs.Tokens.{AreSpelled}
-use Rattle.away_core.specs.Signs.{mark, all_say}
-use Rattle.away_lex.specs.Lexed.{seen}
-use Rattle.sql_text.specs.Plans.{first, tail, Begins}
-use Rattle.sql_text.specs.Next.{operator_in, comparison_in, test_in, name_in, type_in, parameter_in, is_least, is_select, is_with, is_typed_parameter}
-use Rattle.sql_text.specs.Said.{said_next, Found, Expected, Taken, IsSaid}
+use Rattle.sql_text.proofs.Places.{spelled_at}
 use Rattle.sql_text.proofs.cursor.Cursor.peek.Goals as goal
 
--- src/cursor.rt:61:18
 pub sign_of-requires : goal.sign_of-requires
-sign_of-requires c = ?
+sign_of-requires c = spelled_at c.self.inside.list.now c.self.inside.at _ c.self.invariant.1 c.if-self.true

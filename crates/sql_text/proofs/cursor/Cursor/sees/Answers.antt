@@ -1,13 +1,16 @@
-use Rattle.std.proofs.Common.{rules, ◌≡◌, ◌≤◌, ◌<◌, ◌∷◌, length, map, drop, List, Some, None, IfOk, IfSome, IfNone, true, false, ℕ, ◌+◌, ◌-◌, ◌*◌, ◌/◌, ◌%◌, Bool, nat_eq, nat_lt, [], ◌++◌, slice_index_or, slice_set, bit_and, bit_or, Fits, w8, w32, w64, Bor, MutBor}
-use Rattle.std.specs.Bool.{OnTrue, OnFalse}
-use Rattle.away_core.specs.Tokens.{AreSpelled}
-use Rattle.away_core.specs.Signs.{mark, all_say}
-use Rattle.away_lex.specs.Lexed.{seen}
-use Rattle.sql_text.specs.Plans.{first, tail, Begins}
-use Rattle.sql_text.specs.Next.{operator_in, comparison_in, test_in, name_in, type_in, parameter_in, is_least, is_select, is_with, is_typed_parameter}
-use Rattle.sql_text.specs.Said.{said_next, Found, Expected, Taken, IsSaid}
+use Rattle.std.proofs.Common.{◌≡◌, Some, ap, sym, subst, ◌∙◌}
+use Rattle.std.proofs.lemmas.Bool.{OnTrue_from}
+use denote.Enum.Bare.{same_true}
+use Rattle.away_core.specs.contracts.grammar.Mark.{the_type}
+use Rattle.away_core.specs.Signs.{mark}
+use Rattle.sql_text.specs.Plans.{first, Begins}
+use Rattle.sql_text.specs.Said.{said_next}
+use Rattle.sql_text.proofs.Places.{begins_first}
 use Rattle.sql_text.proofs.cursor.Cursor.sees.Goals as goal
 
--- src/cursor.rt:90:5
 pub returns-in-Some-Mark-clause-yes : goal.returns-in-Some-Mark-clause-yes
-returns-in-Some-Mark-clause-yes c = ?
+returns-in-Some-Mark-clause-yes c =
+    let next : Some (mark c.in-Some-Mark.next) ≡ first c.args.self.now = ap said_next (sym (c.in-Some-Mark.is ∙ ap Some c.in-Some-Mark.field-0-is)) ∙ c.peek.ensures.value in
+    OnTrue_from c.eq.result (Begins c.args.self.now c.args.sought) (λ yes.
+    (let same : c.in-Some-Mark.next ≡ c.args.sought = same_true the_type tt c.in-Some-Mark.next c.args.sought (sym c.eq.ensures ∙ yes) in
+    subst (Begins c.args.self.now) same (begins_first c.args.self.now c.in-Some-Mark.next next)))

@@ -1,13 +1,7 @@
-use Rattle.std.proofs.Common.{rules, ◌≡◌, ◌≤◌, ◌<◌, ◌∷◌, length, map, drop, List, Some, None, IfOk, IfSome, IfNone, true, false, ℕ, ◌+◌, ◌-◌, ◌*◌, ◌/◌, ◌%◌, Bool, nat_eq, nat_lt, [], ◌++◌, slice_index_or, slice_set, bit_and, bit_or, Fits, w8, w32, w64, Bor, MutBor}
-use Rattle.std.specs.Bool.{OnTrue, OnFalse}
-use Rattle.away_core.specs.Tokens.{AreSpelled}
-use Rattle.away_core.specs.Signs.{mark, all_say}
-use Rattle.away_lex.specs.Lexed.{seen}
-use Rattle.sql_text.specs.Plans.{first, tail, Begins}
-use Rattle.sql_text.specs.Next.{operator_in, comparison_in, test_in, name_in, type_in, parameter_in, is_least, is_select, is_with, is_typed_parameter}
-use Rattle.sql_text.specs.Said.{said_next, Found, Expected, Taken, IsSaid}
+use Rattle.std.proofs.Common.{◌∙◌, ap}
+use Rattle.sql_text.specs.Plans.{tail}
+use Rattle.sql_text.proofs.Places.{said_on}
 use Rattle.sql_text.proofs.cursor.Cursor.step.Goals as goal
 
--- src/cursor.rt:81:5
 pub returns-then-self : goal.returns-then-self
-returns-then-self c = ?
+returns-then-self c = said_on c.self.inside.list.now c.self.inside.at c.if-self.true ∙ ap tail c.self.view_is
