@@ -125,9 +125,9 @@ links_more {level = level} {old = old} {x = x} {o = o} first_one found b f q e d
 pub links_fail : {level inner : Level} {old now after new other : List Sign} {o : ChainOp} {e : Refusal} (first_one : Expr) (found : List (ChainOp × Expr)) → LinksLead level old first_one found now → Some o ≡ operator_in level (first now) → after ≡ tail now
     → inner ≡ operands level → Gives Tree plan (at inner) (plan (at inner)) after (Err e) new → Gives Tree plan (at level) (chain_plan level) old (Err e) other
 links_fail first_one found b f q e no_memory = no_memory
-links_fail {level = level} {now = now} first_one found b f q e (no_tree d) =
+links_fail {level = level} {now = now} {after = after} first_one found b f q e (no_tree d) =
     no_tree (b None (sees (ap is_some (sym f)) (takes (subst (λ found. Runs Tree plan (links level) (with (λ o. read (at (operands level)) (λ x. read (links level) (λ xs. done ((o, x) ∷ xs)))) found) (tail now) None) f
-      (breaks (subst (λ ts. Runs Tree plan (at (operands level)) (plan (at (operands level))) ts None) q (subst (λ a. Runs Tree plan (at a) (plan (at a)) _ None) e d)))))))
+      (breaks (subst (λ ts. Runs Tree plan (at (operands level)) (plan (at (operands level))) ts None) q (subst (λ a. Runs Tree plan (at a) (plan (at a)) after None) e d)))))))
 
 pub links_end : {level : Level} {old now new : List Sign} (first_one : Expr) (found : List (ChainOp × Expr)) → LinksLead level old first_one found now → None ≡ operator_in level (first now) → new ≡ now
     → Gives Tree plan (at level) (chain_plan level) old (Ok (chained first_one found)) new

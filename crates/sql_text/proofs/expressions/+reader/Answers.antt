@@ -32,7 +32,7 @@ arms_of-returns-in_err-push-clause-found t c =
     rw (p.1, p.2) (no_memory)
 
 pub arms_of-returns-clause-found : goal.arms_of-returns-clause-found
-arms_of-returns-clause-found t c = arms_end _ c.loop-alloc.invariant.begun c.loop-alloc-test.ensures.no
+arms_of-returns-clause-found t c = arms_end c.loop-alloc.invariant.begun c.loop-alloc-test.ensures.no
 
 pub between-returns-in_err-low-clause-found : goal.between-returns-in_err-low-clause-found
 between-returns-in_err-low-clause-found t c =
@@ -298,7 +298,7 @@ pub negation-returns-in_ok-operand-clause-found : goal.negation-returns-in_ok-op
 negation-returns-in_ok-operand-clause-found t c = eaten m.Not c.if-eat.ensures.yes (read_on c.in_ok-operand.ensures.found (finished refl))
 
 pub negation-returns-else-eat-clause-found : goal.negation-returns-else-eat-clause-found
-negation-returns-else-eat-clause-found t c = left m.Not c.if-eat.ensures.no (levelled c.expression-else-eat.ensures.found)
+negation-returns-else-eat-clause-found t c = left m.Not c.if-eat.ensures.no (levelled c.expression.ensures.found)
 
 pub operand-returns-in_err-new-clause-found : goal.operand-returns-in_err-new-clause-found
 operand-returns-in_err-new-clause-found t c =
@@ -349,7 +349,7 @@ signed-returns-then-eat_least-clause-found t c = eaten m.Minus c.if-not-eat.ensu
 
 pub signed-returns-in_err-operand-clause-found : goal.signed-returns-in_err-operand-clause-found
 signed-returns-in_err-operand-clause-found t c =
-    let p = err_from_is_err_and c.from_residual-in_err-operand.result c.from_residual-in_err-operand.ensures.1 in
+    let p = err_from_is_err_and c.from_residual.result c.from_residual.ensures.1 in
     rw (p.1, p.2) (eaten m.Minus c.if-not-eat.ensures.yes (overlooked c.if-eat_least.ensures.no.0 (read_no (moved c.if-eat_least.ensures.no.1 c.in_err-operand.ensures.found))))
 
 pub signed-returns-clause-found : goal.signed-returns-clause-found
