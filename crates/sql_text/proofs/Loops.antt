@@ -3,10 +3,14 @@ use Rattle.std.proofs.Common.{◌≡◌, ℕ, Bool, true, false, List, [], ◌�
 use Rattle.away_core.specs.declared.operators.ChainOp.{ChainOp}
 use Rattle.away_core.specs.declared.grammar.Level.{Level}
 use Rattle.away_core.specs.declared.queries.Expr.{Expr}
+use Rattle.away_core.specs.declared.queries.Item.{Item}
+use Rattle.away_core.specs.declared.queries.FromItem.{FromItem}
+use Rattle.away_core.specs.declared.queries.Key.{Key}
+use Rattle.away_core.specs.declared.queries.Select.{Select}
 use Rattle.away_core.specs.declared.grammar.Level.TheVariants as l
 use Rattle.away_core.specs.declared.grammar.Mark.TheVariants as m
 use Rattle.away_core.specs.Signs.{Sign, mark}
-use Rattle.away_core.specs.Grammar.{Sort, at, links, list, arms, Tree, chained, operands}
+use Rattle.away_core.specs.Grammar.{Sort, at, links, list, arms, item, items, from_item, from_items, key, keys, select, selects, Tree, chained, operands}
 use Rattle.sql_text.specs.declared.refusal.Refusal.{Refusal}
 use Rattle.sql_text.specs.declared.refusal.Refusal.TheVariants.{NoTree, NoMemory}
 use Rattle.sql_text.specs.Next.{operator_in}
@@ -142,3 +146,15 @@ pub levelled : {a b : Level} {ts new : List Sign} {r : Result Expr Refusal} → 
 levelled (tree d) = tree (reads d ends)
 levelled (no_tree d) = no_tree (breaks d)
 levelled no_memory = no_memory
+
+abbrev pub ItemsLead : List Sign → List Item → List Sign → Type 0
+ItemsLead old found now = (o : Option (List Item × List Sign)) → Runs Tree plan items (plan items) now o → Runs Tree plan items (plan items) old (behind found o)
+
+abbrev pub FromLead : List Sign → List FromItem → List Sign → Type 0
+FromLead old found now = (o : Option (List FromItem × List Sign)) → Runs Tree plan from_items (plan from_items) now o → Runs Tree plan from_items (plan from_items) old (behind found o)
+
+abbrev pub KeysLead : List Sign → List Key → List Sign → Type 0
+KeysLead old found now = (o : Option (List Key × List Sign)) → Runs Tree plan keys (plan keys) now o → Runs Tree plan keys (plan keys) old (behind found o)
+
+abbrev pub SelectsLead : List Sign → List Select → List Sign → Type 0
+SelectsLead old found now = (o : Option (List Select × List Sign)) → Runs Tree plan selects (plan selects) now o → Runs Tree plan selects (plan selects) old (behind found o)

@@ -184,11 +184,13 @@ table_plan n =
 abbrev pub columns_plan : Source → List ℕ → Plan Tree from_item
 columns_plan s a = eat m.Open (read names (λ ns. expect m.Close (done (from_with s a ns)))) (done (from_with s a []))
 
+-- behind a subquery
+abbrev pub alias_plan : Query → Bool → Plan Tree from_item
+alias_plan q lateral = eat m.As (a_name (λ a. columns_plan (source.Sub q lateral) a)) (a_name (λ a. columns_plan (source.Sub q lateral) a))
+
 -- behind `(`
 abbrev pub sub_plan : Bool → Plan Tree from_item
-sub_plan lateral =
-    read query (λ q. expect m.Close
-      (eat m.As (a_name (λ a. columns_plan (source.Sub q lateral) a)) (a_name (λ a. columns_plan (source.Sub q lateral) a))))
+sub_plan lateral = read query (λ q. expect m.Close (alias_plan q lateral))
 
 -- a name, perhaps behind `public.`
 abbrev pub qualified_name : {n : Sort} → (List ℕ → Plan Tree n) → Plan Tree n

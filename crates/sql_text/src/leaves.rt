@@ -1,11 +1,13 @@
 //! The parts of trees that hold no tree of their own sort.
 
-ghost use Rattle.std.specs.Prelude.{◌≡◌, IfOk, ◌^◌, ◌<◌, pos, true, false};
+ghost use Rattle.std.specs.Prelude.{◌≡◌, IfOk, ◌^◌, ◌<◌, pos, true, false, None};
 ghost use Rattle.away_core.specs.Grammar.{IsChain, Tree, at, operands, chained, literal_of, called};
+ghost use Rattle.away_core.specs.Grammar as spec;
+ghost use Rattle.sql_text.specs.Descent as descent;
 ghost use Rattle.sql_text.specs.Said.{Found, Numbered};
 
 use crate::refusal::Refusal;
-use away_core::{ChainOp, Expr, Level, Mark, Name, name};
+use away_core::{ChainOp, Expr, Item, Key, Level, Mark, Name, Query, Select, name};
 use sqlite_items::{Boxed, Items};
 use std::alloc::Global;
 
@@ -76,4 +78,68 @@ pub fn called_name(alloc: Global, mark: Mark) -> Result<Name, Refusal>
         Some(name) => Ok(name),
         None => Err(Refusal::NoMemory),
     }
+}
+
+/// Whether the expression is an integer literal.
+pub fn is_number(expr: &Expr) -> bool
+    ensures { result ≡ spec.is_number expr.now }
+{
+    matches!(expr, Expr::Int(_))
+}
+
+/// The item of a select list.
+pub fn item_with(expr: Boxed<Expr>, alias: Option<Name>) -> Item
+    ensures { result ≡ descent.item_with expr alias }
+{
+    Item {
+        expr: expr.into_inner(),
+        alias,
+    }
+}
+
+/// The key of ORDER BY.
+pub fn key_with(expr: Boxed<Expr>, descending: bool) -> Key
+    ensures { result ≡ descent.key_with expr descending }
+{
+    Key {
+        expr: expr.into_inner(),
+        descending,
+    }
+}
+
+/// The expression out of its box.
+pub fn unboxed(expr: Option<Boxed<Expr>>) -> Option<Expr>
+    ensures { result ≡ expr }
+{
+    match expr {
+        Some(expr) => Some(expr.into_inner()),
+        None => None,
+    }
+}
+
+/// The query of these selects, without WITH.
+pub fn plain_query(selects: Items<Select>) -> Query
+    ensures { result ≡ descent.query_with None selects }
+{
+    Query {
+        recursive: None,
+        selects,
+    }
+}
+
+/// Whether UNION ALL may join the selects: where there are several, none has ORDER BY or LIMIT.
+pub fn may_join(selects: &[Select]) -> bool
+    ensures { result ≡ spec.may_join selects.now }
+{
+    match selects.len() {
+        0 => false,
+        1 => true,
+        _ => selects.iter().all(|select| is_plain(select)),
+    }
+}
+
+fn is_plain(select: &Select) -> bool
+    ensures { result ≡ spec.is_plain select.now }
+{
+    select.order.is_empty() && select.limit.is_none()
 }

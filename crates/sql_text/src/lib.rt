@@ -8,6 +8,7 @@ mod leaves;
 mod laws;
 mod refusal;
 mod signs;
+mod tables;
 
 pub use complete_law::what_is_read_is_given;
 pub use cursor::Cursor;

@@ -1,6 +1,6 @@
 use Rattle.std.proofs.Common.{◌≡◌, ◌≤◌, length, ℕ, ◌+◌, ◌-◌, ◌*◌, ◌<◌, List, ◌++◌}
 use Rattle.away_core.specs.Grammar.{rank, IsChain}
-use Rattle.sql_text.proofs.Loops.{LinksLead, ListLeads, ArmsLead}
+use Rattle.sql_text.proofs.Loops.{LinksLead, ListLeads, ArmsLead, ItemsLead, FromLead, KeysLead, SelectsLead}
 use Rattle.sql_text.proofs.expressions.+reader.Given as goal
 
 abbrev pub decreases-expression : goal.decreases-expression
@@ -80,3 +80,72 @@ invariant-arms_of-loop-alloc l = record { begun : ArmsLead l.fn.tokens l.found l
 
 abbrev pub decreases-arms_of-loop-alloc : goal.decreases-arms_of-loop-alloc
 decreases-arms_of-loop-alloc l = length l.tokens
+
+abbrev pub decreases-query_of : goal.decreases-query_of
+decreases-query_of l = 256 * length l.tokens.now + 112
+
+abbrev pub decreases-selects_of : goal.decreases-selects_of
+decreases-selects_of l = 256 * length l.tokens.now + 111
+
+abbrev pub decreases-select_of : goal.decreases-select_of
+decreases-select_of l = 256 * length l.tokens.now + 3
+
+abbrev pub decreases-items_of : goal.decreases-items_of
+decreases-items_of l = 256 * length l.tokens.now + 121
+
+abbrev pub decreases-item_of : goal.decreases-item_of
+decreases-item_of l = 256 * length l.tokens.now + 120
+
+abbrev pub decreases-from_of : goal.decreases-from_of
+decreases-from_of l = 256 * length l.tokens.now + 130
+
+abbrev pub decreases-from_items_of : goal.decreases-from_items_of
+decreases-from_items_of l = 256 * length l.tokens.now + 122
+
+abbrev pub decreases-from_item_of : goal.decreases-from_item_of
+decreases-from_item_of l = 256 * length l.tokens.now + 121
+
+abbrev pub decreases-subquery : goal.decreases-subquery
+decreases-subquery l = 256 * length l.tokens.now + 113
+
+abbrev pub decreases-where_of : goal.decreases-where_of
+decreases-where_of l = 256 * length l.tokens.now + 130
+
+abbrev pub decreases-limit_of : goal.decreases-limit_of
+decreases-limit_of l = 256 * length l.tokens.now + 130
+
+abbrev pub decreases-order_of : goal.decreases-order_of
+decreases-order_of l = 256 * length l.tokens.now + 130
+
+abbrev pub decreases-keys_of : goal.decreases-keys_of
+decreases-keys_of l = 256 * length l.tokens.now + 121
+
+abbrev pub decreases-key_of : goal.decreases-key_of
+decreases-key_of l = 256 * length l.tokens.now + 120
+
+abbrev pub decreases-exists : goal.decreases-exists
+decreases-exists l = 256 * length l.tokens.now + 1
+
+abbrev pub invariant-selects_of-loop-found : goal.invariant-selects_of-loop-found
+invariant-selects_of-loop-found l = record { begun : SelectsLead l.fn.tokens l.found l.tokens; shrinks : length l.tokens ≤ length l.fn.tokens }
+
+abbrev pub decreases-selects_of-loop-found : goal.decreases-selects_of-loop-found
+decreases-selects_of-loop-found l = length l.tokens
+
+abbrev pub invariant-items_of-loop-found : goal.invariant-items_of-loop-found
+invariant-items_of-loop-found l = record { begun : ItemsLead l.fn.tokens l.found l.tokens; shrinks : length l.tokens ≤ length l.fn.tokens }
+
+abbrev pub decreases-items_of-loop-found : goal.decreases-items_of-loop-found
+decreases-items_of-loop-found l = length l.tokens
+
+abbrev pub invariant-from_items_of-loop-found : goal.invariant-from_items_of-loop-found
+invariant-from_items_of-loop-found l = record { begun : FromLead l.fn.tokens l.found l.tokens; shrinks : length l.tokens ≤ length l.fn.tokens }
+
+abbrev pub decreases-from_items_of-loop-found : goal.decreases-from_items_of-loop-found
+decreases-from_items_of-loop-found l = length l.tokens
+
+abbrev pub invariant-keys_of-loop-found : goal.invariant-keys_of-loop-found
+invariant-keys_of-loop-found l = record { begun : KeysLead l.fn.tokens l.found l.tokens; shrinks : length l.tokens ≤ length l.fn.tokens }
+
+abbrev pub decreases-keys_of-loop-found : goal.decreases-keys_of-loop-found
+decreases-keys_of-loop-found l = length l.tokens

@@ -1,0 +1,99 @@
+//! FROM items: tables, and what stands behind a subquery.
+
+ghost use Rattle.std.specs.Prelude.{◌≡◌, ◌≤◌, length};
+ghost use Rattle.away_core.specs.Grammar.{Tree, from_item, names};
+ghost use Rattle.sql_text.specs.Plans.{Gives};
+ghost use Rattle.sql_text.specs.Descent as descent;
+ghost use Rattle.sql_text.specs.Descent.{plan, names_plan, table_plan, columns_plan, alias_plan, qualified_name};
+
+use crate::cursor::Cursor;
+use crate::refusal::Refusal;
+use crate::signs::is_public;
+use away_core::{FromItem, Mark, Name, Query, Source};
+use sqlite_items::{Boxed, Items};
+use std::alloc::Global;
+
+fn from_with(source: Source, alias: Name, columns: Items<Name>) -> FromItem
+    ensures { result ≡ descent.from_with source alias columns }
+{
+    FromItem {
+        source,
+        alias,
+        columns,
+    }
+}
+
+/// A table, perhaps behind `public.`, and its alias, which is its name where none is written.
+pub fn table_item(alloc: Global, tokens: &mut Cursor<'_>) -> Result<FromItem, Refusal>
+    ensures found { Gives Tree plan from_item (qualified_name table_plan) tokens.old result tokens.new }
+    ensures shrinks { length tokens.new ≤ length tokens.old }
+{
+    let first = tokens.name(alloc)?;
+    if is_public(&first) {
+        if tokens.eat(Mark::Dot) {
+            let second = tokens.name(alloc)?;
+            return aliased_table(alloc, tokens, second);
+        }
+    }
+    aliased_table(alloc, tokens, first)
+}
+
+/// The alias behind a table's name.
+fn aliased_table(
+    alloc: Global,
+    tokens: &mut Cursor<'_>,
+    name: Name,
+) -> Result<FromItem, Refusal>
+    ensures found { Gives Tree plan from_item (table_plan name) tokens.old result tokens.new }
+    ensures shrinks { length tokens.new ≤ length tokens.old }
+{
+    if tokens.eat(Mark::As) {
+        let alias = tokens.name(alloc)?;
+        return Ok(from_with(Source::Table(name), alias, Items::new(alloc)));
+    }
+    match tokens.perhaps_name(alloc)? {
+        Some(alias) => Ok(from_with(Source::Table(name), alias, Items::new(alloc))),
+        None => {
+            let alias = name.copy(alloc)?;
+            Ok(from_with(Source::Table(name), alias, Items::new(alloc)))
+        }
+    }
+}
+
+/// The alias of a subquery, and its column names if they stand there.
+pub fn named_subquery(
+    alloc: Global,
+    tokens: &mut Cursor<'_>,
+    query: Boxed<Query>,
+    lateral: bool,
+) -> Result<FromItem, Refusal>
+    ensures found { Gives Tree plan from_item (alias_plan query lateral) tokens.old result tokens.new }
+    ensures shrinks { length tokens.new ≤ length tokens.old }
+{
+    tokens.eat(Mark::As);
+    let alias = tokens.name(alloc)?;
+    if !tokens.eat(Mark::Open) {
+        return Ok(from_with(
+            Source::Sub(query, lateral),
+            alias,
+            Items::new(alloc),
+        ));
+    }
+    let columns = names_of(alloc, tokens)?;
+    tokens.expect(Mark::Close)?;
+    Ok(from_with(Source::Sub(query, lateral), alias, columns))
+}
+
+/// One or more names with commas between them.
+pub fn names_of(alloc: Global, tokens: &mut Cursor<'_>) -> Result<Items<Name>, Refusal>
+    ensures found { Gives Tree plan names names_plan tokens.old result tokens.new }
+    ensures shrinks { length tokens.new ≤ length tokens.old }
+{
+    let mut found = Items::new(alloc);
+    loop {
+        found.push(tokens.name(alloc)?)?;
+        if !tokens.eat(Mark::Comma) {
+            return Ok(found);
+        }
+    }
+}
