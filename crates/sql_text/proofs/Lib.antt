@@ -16,3 +16,4 @@ pub mod Complete
 pub mod Marks
 pub mod Places
 pub mod Undoubled
+pub mod Cases

@@ -10,11 +10,11 @@ use Rattle.away_core.specs.declared.queries.Select.{Select}
 use Rattle.away_core.specs.declared.grammar.Level.TheVariants as l
 use Rattle.away_core.specs.declared.grammar.Mark.TheVariants as m
 use Rattle.away_core.specs.Signs.{Sign, mark}
-use Rattle.away_core.specs.Grammar.{Sort, at, links, list, arms, item, items, from_item, from_items, key, keys, select, selects, Tree, chained, operands}
+use Rattle.away_core.specs.Grammar.{Sort, at, links, list, arms, item, items, from_item, from_items, from_clause, key, keys, order_clause, select, selects, Tree, chained, operands}
 use Rattle.sql_text.specs.declared.refusal.Refusal.{Refusal}
 use Rattle.sql_text.specs.declared.refusal.Refusal.TheVariants.{NoTree, NoMemory}
 use Rattle.sql_text.specs.Next.{operator_in}
-use Rattle.sql_text.specs.Plans.{Plan, done, read, eat, expect, with, is_some, first, tail, Begins, Runs, ends, takes, eats, leaves, sees, misses, reads, breaks, Gives, tree, no_tree, no_memory}
+use Rattle.sql_text.specs.Plans.{Plan, done, read, eat, expect, with, is_some, first, tail, Begins, Runs, ends, fails, takes, eats, leaves, sees, misses, reads, breaks, Gives, tree, no_tree, no_memory}
 use Rattle.sql_text.proofs.Steps.{run_of, read_no}
 use Rattle.sql_text.specs.Descent.{plan, chain_plan}
 
@@ -158,3 +158,102 @@ KeysLead old found now = (o : Option (List Key × List Sign)) → Runs Tree plan
 
 abbrev pub SelectsLead : List Sign → List Select → List Sign → Type 0
 SelectsLead old found now = (o : Option (List Select × List Sign)) → Runs Tree plan selects (plan selects) now o → Runs Tree plan selects (plan selects) old (behind found o)
+
+items_on : {x : Item} {ts : List Sign} (o : Option (List Item × List Sign)) → Runs Tree plan items (plan items) ts o → Runs Tree plan items (read items (λ xs. done (x ∷ xs))) ts (behind (x ∷ []) o)
+items_on None d = breaks d
+items_on (Some p) d = reads d ends
+
+pub items_more : {old now middle new : List Sign} {x : Item} (found : List Item) → ItemsLead old found now → Gives Tree plan item (plan item) now (Ok x) middle → middle ≡ mark m.Comma ∷ new → ItemsLead old (found ++ x ∷ []) new
+items_more {old = old} {new = new} {x = x} found b d e o r =
+    subst (λ o. Runs Tree plan items (plan items) old o) (behind_both found x o)
+      (b (behind (x ∷ []) o) (reads (run_of d) (subst (λ ts. Runs Tree plan items (eat m.Comma (read items (λ xs. done (x ∷ xs))) (done (x ∷ []))) ts (behind (x ∷ []) o)) (sym e) (eats (items_on o r)))))
+
+pub items_end : {old now middle new : List Sign} {x : Item} (found : List Item) → ItemsLead old found now → Gives Tree plan item (plan item) now (Ok x) middle → (new ≡ middle) × ¬ (Begins middle m.Comma)
+    → Gives Tree plan items (plan items) old (Ok (found ++ x ∷ [])) new
+items_end {middle = middle} {new = new} {x = x} found b d e =
+    tree (b (Some (x ∷ [], new)) (reads (run_of d) (leaves e.1 (subst (λ ts. Runs Tree plan items (done (x ∷ [])) middle (Some (x ∷ [], ts))) (sym e.0) ends))))
+
+pub items_fail : {old now new other : List Sign} {e : Refusal} (found : List Item) → ItemsLead old found now → Gives Tree plan item (plan item) now (Err e) new → Gives Tree plan items (plan items) old (Err e) other
+items_fail found b (no_tree d) = no_tree (b None (breaks d))
+items_fail found b no_memory = no_memory
+
+from_on : {x : FromItem} {ts : List Sign} (o : Option (List FromItem × List Sign)) → Runs Tree plan from_items (plan from_items) ts o → Runs Tree plan from_items (read from_items (λ xs. done (x ∷ xs))) ts (behind (x ∷ []) o)
+from_on None d = breaks d
+from_on (Some p) d = reads d ends
+
+pub from_more : {old now middle new : List Sign} {x : FromItem} (found : List FromItem) → FromLead old found now → Gives Tree plan from_item (plan from_item) now (Ok x) middle → middle ≡ mark m.Comma ∷ new → FromLead old (found ++ x ∷ []) new
+from_more {old = old} {new = new} {x = x} found b d e o r =
+    subst (λ o. Runs Tree plan from_items (plan from_items) old o) (behind_both found x o)
+      (b (behind (x ∷ []) o) (reads (run_of d) (subst (λ ts. Runs Tree plan from_items (eat m.Comma (read from_items (λ xs. done (x ∷ xs))) (done (x ∷ []))) ts (behind (x ∷ []) o)) (sym e) (eats (from_on o r)))))
+
+pub from_end : {old now middle new : List Sign} {x : FromItem} (found : List FromItem) → FromLead old found now → Gives Tree plan from_item (plan from_item) now (Ok x) middle → (new ≡ middle) × ¬ (Begins middle m.Comma)
+    → Gives Tree plan from_items (plan from_items) old (Ok (found ++ x ∷ [])) new
+from_end {middle = middle} {new = new} {x = x} found b d e =
+    tree (b (Some (x ∷ [], new)) (reads (run_of d) (leaves e.1 (subst (λ ts. Runs Tree plan from_items (done (x ∷ [])) middle (Some (x ∷ [], ts))) (sym e.0) ends))))
+
+pub from_fail : {old now new other : List Sign} {e : Refusal} (found : List FromItem) → FromLead old found now → Gives Tree plan from_item (plan from_item) now (Err e) new → Gives Tree plan from_items (plan from_items) old (Err e) other
+from_fail found b (no_tree d) = no_tree (b None (breaks d))
+from_fail found b no_memory = no_memory
+
+keys_on : {x : Key} {ts : List Sign} (o : Option (List Key × List Sign)) → Runs Tree plan keys (plan keys) ts o → Runs Tree plan keys (read keys (λ xs. done (x ∷ xs))) ts (behind (x ∷ []) o)
+keys_on None d = breaks d
+keys_on (Some p) d = reads d ends
+
+pub keys_more : {old now middle new : List Sign} {x : Key} (found : List Key) → KeysLead old found now → Gives Tree plan key (plan key) now (Ok x) middle → middle ≡ mark m.Comma ∷ new → KeysLead old (found ++ x ∷ []) new
+keys_more {old = old} {new = new} {x = x} found b d e o r =
+    subst (λ o. Runs Tree plan keys (plan keys) old o) (behind_both found x o)
+      (b (behind (x ∷ []) o) (reads (run_of d) (subst (λ ts. Runs Tree plan keys (eat m.Comma (read keys (λ xs. done (x ∷ xs))) (done (x ∷ []))) ts (behind (x ∷ []) o)) (sym e) (eats (keys_on o r)))))
+
+pub keys_end : {old now middle new : List Sign} {x : Key} (found : List Key) → KeysLead old found now → Gives Tree plan key (plan key) now (Ok x) middle → (new ≡ middle) × ¬ (Begins middle m.Comma)
+    → Gives Tree plan keys (plan keys) old (Ok (found ++ x ∷ [])) new
+keys_end {middle = middle} {new = new} {x = x} found b d e =
+    tree (b (Some (x ∷ [], new)) (reads (run_of d) (leaves e.1 (subst (λ ts. Runs Tree plan keys (done (x ∷ [])) middle (Some (x ∷ [], ts))) (sym e.0) ends))))
+
+pub keys_fail : {old now new other : List Sign} {e : Refusal} (found : List Key) → KeysLead old found now → Gives Tree plan key (plan key) now (Err e) new → Gives Tree plan keys (plan keys) old (Err e) other
+keys_fail found b (no_tree d) = no_tree (b None (breaks d))
+keys_fail found b no_memory = no_memory
+
+-- ---- selects with UNION ALL between them
+
+selects_on : {x : Select} {ts : List Sign} (o : Option (List Select × List Sign)) → Runs Tree plan selects (plan selects) ts o → Runs Tree plan selects (read selects (λ xs. done (x ∷ xs))) ts (behind (x ∷ []) o)
+selects_on None d = breaks d
+selects_on (Some p) d = reads d ends
+
+-- behind a select
+abbrev more_selects : Select → Plan Tree selects
+more_selects x = eat m.Union (expect m.All (read selects (λ xs. done (x ∷ xs)))) (done (x ∷ []))
+
+pub selects_more : {old now middle after new : List Sign} {x : Select} (found : List Select) → SelectsLead old found now → Gives Tree plan select (plan select) now (Ok x) middle → middle ≡ mark m.Union ∷ after → after ≡ mark m.All ∷ new
+    → SelectsLead old (found ++ x ∷ []) new
+selects_more {old = old} {after = after} {new = new} {x = x} found b d e f o r =
+    subst (λ o. Runs Tree plan selects (plan selects) old o) (behind_both found x o)
+      (b (behind (x ∷ []) o) (reads (run_of d) (subst (λ ts. Runs Tree plan selects (more_selects x) ts (behind (x ∷ []) o)) (sym e)
+        (eats (subst (λ ts. Runs Tree plan selects (expect m.All (read selects (λ xs. done (x ∷ xs)))) ts (behind (x ∷ []) o)) (sym f) (eats (selects_on o r)))))))
+
+pub selects_end : {old now middle new : List Sign} {x : Select} (found : List Select) → SelectsLead old found now → Gives Tree plan select (plan select) now (Ok x) middle → (new ≡ middle) × ¬ (Begins middle m.Union)
+    → Gives Tree plan selects (plan selects) old (Ok (found ++ x ∷ [])) new
+selects_end {middle = middle} {new = new} {x = x} found b d e =
+    tree (b (Some (x ∷ [], new)) (reads (run_of d) (leaves e.1 (subst (λ ts. Runs Tree plan selects (done (x ∷ [])) middle (Some (x ∷ [], ts))) (sym e.0) ends))))
+
+pub selects_fail : {old now new other : List Sign} {e : Refusal} (found : List Select) → SelectsLead old found now → Gives Tree plan select (plan select) now (Err e) new → Gives Tree plan selects (plan selects) old (Err e) other
+selects_fail found b (no_tree d) = no_tree (b None (breaks d))
+selects_fail found b no_memory = no_memory
+
+-- UNION stands there without ALL
+pub selects_break : {old now middle after other : List Sign} {x : Select} {e : Refusal} (found : List Select) → SelectsLead old found now → Gives Tree plan select (plan select) now (Ok x) middle → middle ≡ mark m.Union ∷ after
+    → (e ≡ NoTree) × ¬ (Begins after m.All) → Gives Tree plan selects (plan selects) old (Err e) other
+selects_break {old = old} {after = after} {other = other} {x = x} found b d e f =
+    subst (λ e. Gives Tree plan selects (plan selects) old (Err e) other) (sym f.0)
+      (no_tree (b None (reads (run_of d) (subst (λ ts. Runs Tree plan selects (more_selects x) ts None) (sym e) (eats (leaves f.1 fails))))))
+
+-- ---- clauses
+
+pub passed : {ts new : List Sign} {r : Result (List FromItem) Refusal} → Gives Tree plan from_items (plan from_items) ts r new → Gives Tree plan from_clause (read from_items (λ xs. done xs)) ts r new
+passed (tree d) = tree (reads d ends)
+passed (no_tree d) = no_tree (breaks d)
+passed no_memory = no_memory
+
+pub passed_keys : {ts new : List Sign} {r : Result (List Key) Refusal} → Gives Tree plan keys (plan keys) ts r new → Gives Tree plan order_clause (read keys (λ xs. done xs)) ts r new
+passed_keys (tree d) = tree (reads d ends)
+passed_keys (no_tree d) = no_tree (breaks d)
+passed_keys no_memory = no_memory

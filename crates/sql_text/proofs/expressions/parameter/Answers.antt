@@ -1,17 +1,19 @@
-use Rattle.std.proofs.Common.{rules, ◌≡◌, ◌≤◌, ◌<◌, length, IfOk, Some, None, ℕ, ◌+◌, ◌-◌, ◌*◌, ◌/◌, ◌%◌, Bool, true, false, nat_eq, nat_lt, List, [], ◌∷◌, ◌++◌, slice_index_or, slice_set, bit_and, bit_or, Fits, w8, w32, w64, Bor, MutBor}
-use Rattle.away_core.specs.Grammar.{IsChain, Tree, at, links, list, arms, query, operands, chained}
-use Rattle.sql_text.specs.Plans.{Gives}
-use Rattle.sql_text.specs.Descent.{plan, not_plan, is_plan, compare_plan, range_plan, within_plan, between_plan, sign_plan, cast_plan, primary_plan, named_plan, inside_plan, cast_call_plan, exists_plan, case_plan, chain_plan, parameter_plan, typed_parameter_plan, marked_plan, word_plan, rows_plan, list_plan, arms_plan}
+use Rattle.std.proofs.Common.{◌≡◌, sym, refl}
+use Rattle.std.proofs.lemmas.Result.{err_from_is_err_and}
+use Rattle.away_core.specs.declared.grammar.Mark.TheVariants as m
+use Rattle.sql_text.specs.Next.{type_in}
+use Rattle.sql_text.proofs.Steps.{finished, eaten, wanted, not_wanted, refused}
 use Rattle.sql_text.proofs.expressions.parameter.Goals as goal
 
--- src/expressions.rt:221:5
 pub returns-in_err-expect-clause-found : goal.returns-in_err-expect-clause-found
-returns-in_err-expect-clause-found c = ?
+returns-in_err-expect-clause-found c =
+    let p = err_from_is_err_and c.from_residual.result c.from_residual.ensures.1 in
+    rw (p.1, p.2) (refused m.Colons c.in_err-expect.ensures.found)
 
--- src/expressions.rt:222:28
 pub returns-in_err-type_name-clause-found : goal.returns-in_err-type_name-clause-found
-returns-in_err-type_name-clause-found c = ?
+returns-in_err-type_name-clause-found c =
+    let p = err_from_is_err_and c.from_residual-in_err-type_name.result c.from_residual-in_err-type_name.ensures.1 in
+    rw (p.1, p.2) (eaten m.Colons c.in_ok-expect.ensures.found (not_wanted type_in _ c.in_err-type_name.field-0.0 c.in_err-type_name.ensures.found))
 
--- src/expressions.rt:217:1
 pub returns-clause-found : goal.returns-clause-found
-returns-clause-found c = ?
+returns-clause-found c = eaten m.Colons c.in_ok-expect.ensures.found (wanted type_in _ c.in_ok-type_name.ensures.found c.in_ok-type_name.ensures.rest (finished refl))

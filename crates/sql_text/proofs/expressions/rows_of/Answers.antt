@@ -1,17 +1,17 @@
-use Rattle.std.proofs.Common.{rules, ◌≡◌, ◌≤◌, ◌<◌, length, IfOk, Some, None, ℕ, ◌+◌, ◌-◌, ◌*◌, ◌/◌, ◌%◌, Bool, true, false, nat_eq, nat_lt, List, [], ◌∷◌, ◌++◌, slice_index_or, slice_set, bit_and, bit_or, Fits, w8, w32, w64, Bor, MutBor}
-use Rattle.away_core.specs.Grammar.{IsChain, Tree, at, links, list, arms, query, operands, chained}
-use Rattle.sql_text.specs.Plans.{Gives}
-use Rattle.sql_text.specs.Descent.{plan, not_plan, is_plan, compare_plan, range_plan, within_plan, between_plan, sign_plan, cast_plan, primary_plan, named_plan, inside_plan, cast_call_plan, exists_plan, case_plan, chain_plan, parameter_plan, typed_parameter_plan, marked_plan, word_plan, rows_plan, list_plan, arms_plan}
+use Rattle.std.proofs.Common.{◌≡◌, sym, refl}
+use Rattle.std.proofs.lemmas.Result.{err_from_is_err_and}
+use Rattle.away_core.specs.declared.grammar.Mark.TheVariants as m
+use Rattle.sql_text.proofs.Steps.{finished, eaten, refused}
+use Rattle.sql_text.proofs.Cases.{rows_counted, rows_refused}
 use Rattle.sql_text.proofs.expressions.rows_of.Goals as goal
 
--- src/expressions.rt:378:9
 pub returns-then-not-is_count-clause-found : goal.returns-then-not-is_count-clause-found
-returns-then-not-is_count-clause-found c = ?
+returns-then-not-is_count-clause-found c = rows_refused c.args.name.now _ _ (c.if-not-is_count.ensures)
 
--- src/expressions.rt:380:5
 pub returns-in_err-expect-clause-found : goal.returns-in_err-expect-clause-found
-returns-in_err-expect-clause-found c = ?
+returns-in_err-expect-clause-found c =
+    let p = err_from_is_err_and c.from_residual.result c.from_residual.ensures.1 in
+    rw (p.1, p.2) (rows_counted c.args.name.now _ _ _ c.if-not-is_count.ensures (refused m.Close c.in_err-expect.ensures.found))
 
--- src/expressions.rt:373:1
 pub returns-clause-found : goal.returns-clause-found
-returns-clause-found c = ?
+returns-clause-found c = rows_counted c.args.name.now _ _ _ c.if-not-is_count.ensures (eaten m.Close c.in_ok-expect.ensures.found (finished refl))

@@ -1,25 +1,29 @@
-use Rattle.std.proofs.Common.{rules, ◌≡◌, ◌≤◌, ◌<◌, length, IfOk, Some, None, ℕ, ◌+◌, ◌-◌, ◌*◌, ◌/◌, ◌%◌, Bool, true, false, nat_eq, nat_lt, List, [], ◌∷◌, ◌++◌, slice_index_or, slice_set, bit_and, bit_or, Fits, w8, w32, w64, Bor, MutBor}
-use Rattle.away_core.specs.Grammar.{IsChain, Tree, at, links, list, arms, query, operands, chained}
-use Rattle.sql_text.specs.Plans.{Gives}
-use Rattle.sql_text.specs.Descent.{plan, not_plan, is_plan, compare_plan, range_plan, within_plan, between_plan, sign_plan, cast_plan, primary_plan, named_plan, inside_plan, cast_call_plan, exists_plan, case_plan, chain_plan, parameter_plan, typed_parameter_plan, marked_plan, word_plan, rows_plan, list_plan, arms_plan}
+use Rattle.std.proofs.Common.{◌≡◌, sym, refl}
+use Rattle.std.proofs.lemmas.Result.{err_from_is_err_and}
+use Rattle.away_core.specs.declared.grammar.Mark.TheVariants as m
+use Rattle.sql_text.specs.Next.{type_in, parameter_in}
+use Rattle.sql_text.proofs.Steps.{finished, eaten, wanted, not_wanted, refused}
 use Rattle.sql_text.proofs.expressions.typed_parameter.Goals as goal
 
--- src/expressions.rt:306:18
 pub returns-in_err-number-clause-found : goal.returns-in_err-number-clause-found
-returns-in_err-number-clause-found c = ?
+returns-in_err-number-clause-found c =
+    let p = err_from_is_err_and c.from_residual.result c.from_residual.ensures.1 in
+    rw (p.1, p.2) (not_wanted parameter_in _ c.in_err-number.field-0.0 c.in_err-number.ensures.found)
 
--- src/expressions.rt:307:5
 pub returns-in_err-expect-clause-found : goal.returns-in_err-expect-clause-found
-returns-in_err-expect-clause-found c = ?
+returns-in_err-expect-clause-found c =
+    let p = err_from_is_err_and c.from_residual-in_err-expect.result c.from_residual-in_err-expect.ensures.1 in
+    rw (p.1, p.2) (wanted parameter_in _ c.in_ok-number.ensures.found c.in_ok-number.ensures.rest (refused m.As c.in_err-expect.ensures.found))
 
--- src/expressions.rt:308:14
 pub returns-in_err-ty-clause-found : goal.returns-in_err-ty-clause-found
-returns-in_err-ty-clause-found c = ?
+returns-in_err-ty-clause-found c =
+    let p = err_from_is_err_and c.from_residual-in_err-ty.result c.from_residual-in_err-ty.ensures.1 in
+    rw (p.1, p.2) (wanted parameter_in _ c.in_ok-number.ensures.found c.in_ok-number.ensures.rest (eaten m.As c.in_ok-expect.ensures.found (not_wanted type_in _ c.in_err-ty.field-0.0 c.in_err-ty.ensures.found)))
 
--- src/expressions.rt:309:5
 pub returns-in_err-expect-2-clause-found : goal.returns-in_err-expect-2-clause-found
-returns-in_err-expect-2-clause-found c = ?
+returns-in_err-expect-2-clause-found c =
+    let p = err_from_is_err_and c.from_residual-in_err-expect-2.result c.from_residual-in_err-expect-2.ensures.1 in
+    rw (p.1, p.2) (wanted parameter_in _ c.in_ok-number.ensures.found c.in_ok-number.ensures.rest (eaten m.As c.in_ok-expect.ensures.found (wanted type_in _ c.in_ok-ty.ensures.found c.in_ok-ty.ensures.rest (refused m.Close c.in_err-expect-2.ensures.found))))
 
--- src/expressions.rt:302:1
 pub returns-clause-found : goal.returns-clause-found
-returns-clause-found c = ?
+returns-clause-found c = wanted parameter_in _ c.in_ok-number.ensures.found c.in_ok-number.ensures.rest (eaten m.As c.in_ok-expect.ensures.found (wanted type_in _ c.in_ok-ty.ensures.found c.in_ok-ty.ensures.rest (eaten m.Close c.in_ok-expect-2.ensures.found (finished refl))))

@@ -1,0 +1,8 @@
+use Rattle.std.proofs.Common.{◌≤◌, length, ℕ}
+use Rattle.sql_text.proofs.tables.names_of.Given as goal
+
+abbrev pub invariant-loop-found : goal.invariant-loop-found
+invariant-loop-found l = length l.tokens ≤ length l.fn.tokens
+
+abbrev pub decreases-loop-found : goal.decreases-loop-found
+decreases-loop-found l = length l.tokens
