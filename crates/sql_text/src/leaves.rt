@@ -131,11 +131,10 @@ pub fn plain_query(selects: Items<Select>) -> Query
 pub fn may_join(selects: &[Select]) -> bool
     ensures { result ≡ spec.may_join selects.now }
 {
-    match selects.len() {
-        0 => false,
-        1 => true,
-        _ => selects.iter().all(|select| is_plain(select)),
+    if selects.len() < 2 {
+        return selects.len() == 1;
     }
+    selects.iter().all(|select| is_plain(select))
 }
 
 fn is_plain(select: &Select) -> bool

@@ -6,7 +6,7 @@ use Rattle.sql_text.specs.Next.{comparison_in, test_in, name_in, type_in}
 use Rattle.sql_text.specs.Plans.{no_memory}
 use Rattle.sql_text.proofs.Steps.{finished, eaten, left, read_on, read_no, taken, wanted, not_wanted, perhaps_found, perhaps_missed, looked, overlooked, refused, failed, moved}
 use Rattle.sql_text.proofs.Loops.{list_more, list_ends, list_fails, arms_more, arms_end, arms_fail, chain_fails, links_begin, links_more, links_fail, links_end, levelled, passed, passed_keys, items_more, items_end, items_fail, from_more, from_end, from_fail, keys_more, keys_end, keys_fail, selects_more, selects_end, selects_fail, selects_break}
-use Rattle.sql_text.proofs.Cases.{number_gives, word_literal, word_called, word_refused, case_on, range_on, test_on, query_refused, query_given, key_refused, key_on, direction}
+use Rattle.sql_text.proofs.Cases.{number_gives, word_literal, word_called, word_refused, case_on, case_without, range_on, test_on, query_refused, query_given, key_refused, key_on, direction}
 use Rattle.sql_text.proofs.expressions.+reader.Goals as goal
 
 pub arms_of-returns-in_err-test-clause-found : goal.arms_of-returns-in_err-test-clause-found
@@ -314,7 +314,7 @@ pub primary-returns-in-None-clause-found : goal.primary-returns-in-None-clause-f
 primary-returns-in-None-clause-found t c = taken c.in-None.ensures.next c.in-None.ensures.rest failed
 
 pub case-returns-then-is_empty-clause-found : goal.case-returns-then-is_empty-clause-found
-case-returns-then-is_empty-clause-found t c = case_without c.in_ok-arms.ensures.found (c.if-is_empty.ensures.0 tt)
+case-returns-then-is_empty-clause-found t c = case_without c.in_ok-arms.ensures.found (c.if-is_empty.ensures.0 refl)
 
 pub case-returns-in_err-expect-clause-found : goal.case-returns-in_err-expect-clause-found
 case-returns-in_err-expect-clause-found t c =
