@@ -1,6 +1,7 @@
 pub mod Plans
 pub mod Steps
 pub mod Loops
+pub mod Names
 pub mod Holds
 pub mod SoundExpressions
 pub mod SoundQueries

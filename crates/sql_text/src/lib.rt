@@ -4,9 +4,11 @@
 mod complete_law;
 mod cursor;
 mod expressions;
+mod files;
 mod leaves;
 mod laws;
 mod refusal;
+mod schemas;
 mod signs;
 mod tables;
 

@@ -1,10 +1,11 @@
 //! FROM items: tables, and what stands behind a subquery.
 
-ghost use Rattle.std.specs.Prelude.{◌≡◌, ◌≤◌, length};
+ghost use Rattle.std.specs.Prelude.{◌≡◌, ◌≤◌, ◌<◌, length, IfOk};
 ghost use Rattle.away_core.specs.Grammar.{Tree, from_item, names};
 ghost use Rattle.sql_text.specs.Plans.{Gives};
 ghost use Rattle.sql_text.specs.Descent as descent;
-ghost use Rattle.sql_text.specs.Descent.{plan, names_plan, table_plan, columns_plan, alias_plan, qualified_name};
+ghost use Rattle.sql_text.specs.Descent.{plan, names_plan, table_plan, columns_plan, alias_plan};
+ghost use Rattle.sql_text.specs.Qualified.{NameRead};
 
 use crate::cursor::Cursor;
 use crate::refusal::Refusal;
@@ -25,17 +26,26 @@ fn from_with(source: Source, alias: Name, columns: Items<Name>) -> FromItem
 
 /// A table, perhaps behind `public.`, and its alias, which is its name where none is written.
 pub fn table_item(alloc: Global, tokens: &mut Cursor<'_>) -> Result<FromItem, Refusal>
-    ensures found { Gives Tree plan from_item (qualified_name table_plan) tokens.old result tokens.new }
+    ensures found { Gives Tree plan from_item (descent.qualified_name table_plan) tokens.old result tokens.new }
     ensures shrinks { length tokens.new ≤ length tokens.old }
+{
+    let name = qualified_name(alloc, tokens)?;
+    aliased_table(alloc, tokens, name)
+}
+
+/// A name, perhaps behind `public.`.
+pub fn qualified_name(alloc: Global, tokens: &mut Cursor<'_>) -> Result<Name, Refusal>
+    ensures found { NameRead tokens.old result tokens.new }
+    ensures shrinks { length tokens.new ≤ length tokens.old }
+    ensures shorter { IfOk result (λ _. length tokens.new < length tokens.old) }
 {
     let first = tokens.name(alloc)?;
     if is_public(&first) {
         if tokens.eat(Mark::Dot) {
-            let second = tokens.name(alloc)?;
-            return aliased_table(alloc, tokens, second);
+            return tokens.name(alloc);
         }
     }
-    aliased_table(alloc, tokens, first)
+    Ok(first)
 }
 
 /// The alias behind a table's name.

@@ -1,30 +1,33 @@
-use Rattle.std.proofs.Common.{rules, ◌≡◌, ◌≤◌, length, ℕ, ◌+◌, ◌-◌, ◌*◌, ◌<◌, ◌/◌, ◌%◌, Bool, true, false, nat_eq, nat_lt, List, [], ◌∷◌, ◌++◌, slice_index_or, slice_set, bit_and, bit_or, Fits, w8, w32, w64, Bor, MutBor}
-use Rattle.away_core.specs.Grammar.{Tree, from_item, names}
-use Rattle.sql_text.specs.Plans.{Gives}
-use Rattle.sql_text.specs.Descent as descent
-use Rattle.sql_text.specs.Descent.{plan, names_plan, table_plan, columns_plan, alias_plan, qualified_name}
+use Rattle.std.proofs.Common.{refl, sym, ◌∙◌, rules, ◌≤◌, arith}
+use Rattle.std.proofs.lemmas.Grind.{common_steps}
+use Rattle.std.proofs.lemmas.Result.{err_from_is_err_and}
+use Rattle.away_core.specs.declared.grammar.Mark.TheVariants as m
+use Rattle.sql_text.specs.Next.{name_in, type_in}
+use Rattle.sql_text.specs.Plans.{no_memory}
+use Rattle.sql_text.proofs.Steps.{finished, failed, eaten, left, looked, overlooked, read_on, read_no, wanted, not_wanted, perhaps_found, perhaps_missed, refused}
+use Rattle.sql_text.proofs.Names.{none_read, other_read, public_read, behind_dot, name_read, name_missing, eaten_or_left, name_there, no_name_there, names_begin, names_more, names_end, names_fail}
 use Rattle.sql_text.proofs.tables.aliased_table.Goals as goal
 
--- src/tables.rt:51:21
 pub returns-in_err-alias-clause-found : goal.returns-in_err-alias-clause-found
-returns-in_err-alias-clause-found c = ?
+returns-in_err-alias-clause-found c = 
+    let p = err_from_is_err_and c.from_residual.result c.from_residual.ensures.1 in
+    rw (p.1, p.2) (eaten m.As c.if-eat.ensures.yes (not_wanted name_in _ c.in_err-alias.field-0.0 c.in_err-alias.ensures.found))
 
--- src/tables.rt:52:9
 pub returns-then-eat-clause-found : goal.returns-then-eat-clause-found
-returns-then-eat-clause-found c = ?
+returns-then-eat-clause-found c = rw (c.from_with.ensures, c.new.ensures) (eaten m.As c.if-eat.ensures.yes (wanted name_in _ c.in_ok-alias.ensures.found c.in_ok-alias.ensures.rest (finished refl)))
 
--- src/tables.rt:54:11
 pub returns-in_err-alias-2-clause-found : goal.returns-in_err-alias-2-clause-found
-returns-in_err-alias-2-clause-found c = ?
+returns-in_err-alias-2-clause-found c = 
+    let p = err_from_is_err_and c.from_residual-in_err-alias-2.result c.from_residual-in_err-alias-2.ensures.1 in
+    rw (p.1, p.2) (no_memory)
 
--- src/tables.rt:57:25
 pub returns-in_err-alias-in-None-clause-found : goal.returns-in_err-alias-in-None-clause-found
-returns-in_err-alias-in-None-clause-found c = ?
+returns-in_err-alias-in-None-clause-found c = 
+    let p = err_from_is_err_and c.from_residual-in_err-alias-in-None.result c.from_residual-in_err-alias-in-None.ensures.1 in
+    rw (p.1, p.2) (no_memory)
 
--- src/tables.rt:42:1
 pub returns-in-Some-clause-found : goal.returns-in-Some-clause-found
-returns-in-Some-clause-found c = ?
+returns-in-Some-clause-found c = rw (c.from_with-in-Some.ensures, c.new-in-Some.ensures) (left m.As c.if-eat.ensures.no (name_there _ _ c.in_ok-alias-2.ensures.found c.in-Some.is (finished refl)))
 
--- src/tables.rt:42:1
 pub returns-in_ok-alias-in-None-clause-found : goal.returns-in_ok-alias-in-None-clause-found
-returns-in_ok-alias-in-None-clause-found c = ?
+returns-in_ok-alias-in-None-clause-found c = rw (c.from_with-in-None.ensures, c.new-in-None.ensures, c.in_ok-alias-in-None.ensures) (left m.As c.if-eat.ensures.no (no_name_there _ _ c.in_ok-alias-2.ensures.found c.in-None.is (finished refl)))

@@ -1,26 +1,30 @@
-use Rattle.std.proofs.Common.{rules, ◌≡◌, ◌≤◌, length, ℕ, ◌+◌, ◌-◌, ◌*◌, ◌<◌, ◌/◌, ◌%◌, Bool, true, false, nat_eq, nat_lt, List, [], ◌∷◌, ◌++◌, slice_index_or, slice_set, bit_and, bit_or, Fits, w8, w32, w64, Bor, MutBor}
-use Rattle.away_core.specs.Grammar.{Tree, from_item, names}
-use Rattle.sql_text.specs.Plans.{Gives}
-use Rattle.sql_text.specs.Descent as descent
-use Rattle.sql_text.specs.Descent.{plan, names_plan, table_plan, columns_plan, alias_plan, qualified_name}
+use Rattle.std.proofs.Common.{refl, sym, ◌∙◌, rules, ◌≤◌, arith}
+use Rattle.std.proofs.lemmas.Grind.{common_steps}
+use Rattle.std.proofs.lemmas.Result.{err_from_is_err_and}
+use Rattle.away_core.specs.declared.grammar.Mark.TheVariants as m
+use Rattle.sql_text.specs.Next.{name_in, type_in}
+use Rattle.sql_text.specs.Plans.{no_memory}
+use Rattle.sql_text.proofs.Steps.{finished, failed, eaten, left, looked, overlooked, read_on, read_no, wanted, not_wanted, perhaps_found, perhaps_missed, refused}
+use Rattle.sql_text.proofs.Names.{none_read, other_read, public_read, behind_dot, name_read, name_missing, eaten_or_left, name_there, no_name_there, names_begin, names_more, names_end, names_fail}
 use Rattle.sql_text.proofs.tables.named_subquery.Goals as goal
 
--- src/tables.rt:74:17
 pub returns-in_err-alias-clause-found : goal.returns-in_err-alias-clause-found
-returns-in_err-alias-clause-found c = ?
+returns-in_err-alias-clause-found c = 
+    let p = err_from_is_err_and c.from_residual.result c.from_residual.ensures.1 in
+    rw (p.1, p.2) (eaten_or_left m.As c.eat.result c.eat.ensures.yes c.eat.ensures.no (not_wanted name_in _ c.in_err-alias.field-0.0 c.in_err-alias.ensures.found))
 
--- src/tables.rt:76:9
 pub returns-then-not-eat-clause-found : goal.returns-then-not-eat-clause-found
-returns-then-not-eat-clause-found c = ?
+returns-then-not-eat-clause-found c = rw (c.from_with.ensures, c.new.ensures) (eaten_or_left m.As c.eat.result c.eat.ensures.yes c.eat.ensures.no (wanted name_in _ c.in_ok-alias.ensures.found c.in_ok-alias.ensures.rest (left m.Open c.if-not-eat.ensures.no (finished refl))))
 
--- src/tables.rt:82:19
 pub returns-in_err-columns-clause-found : goal.returns-in_err-columns-clause-found
-returns-in_err-columns-clause-found c = ?
+returns-in_err-columns-clause-found c = 
+    let p = err_from_is_err_and c.from_residual-in_err-columns.result c.from_residual-in_err-columns.ensures.1 in
+    rw (p.1, p.2) (eaten_or_left m.As c.eat.result c.eat.ensures.yes c.eat.ensures.no (wanted name_in _ c.in_ok-alias.ensures.found c.in_ok-alias.ensures.rest (eaten m.Open c.if-not-eat.ensures.yes (read_no c.in_err-columns.ensures.found))))
 
--- src/tables.rt:83:5
 pub returns-in_err-expect-clause-found : goal.returns-in_err-expect-clause-found
-returns-in_err-expect-clause-found c = ?
+returns-in_err-expect-clause-found c = 
+    let p = err_from_is_err_and c.from_residual-in_err-expect.result c.from_residual-in_err-expect.ensures.1 in
+    rw (p.1, p.2) (eaten_or_left m.As c.eat.result c.eat.ensures.yes c.eat.ensures.no (wanted name_in _ c.in_ok-alias.ensures.found c.in_ok-alias.ensures.rest (eaten m.Open c.if-not-eat.ensures.yes (read_on c.in_ok-columns.ensures.found (refused m.Close c.in_err-expect.ensures.found)))))
 
--- src/tables.rt:64:1
 pub returns-clause-found : goal.returns-clause-found
-returns-clause-found c = ?
+returns-clause-found c = rw c.from_with-2.ensures (eaten_or_left m.As c.eat.result c.eat.ensures.yes c.eat.ensures.no (wanted name_in _ c.in_ok-alias.ensures.found c.in_ok-alias.ensures.rest (eaten m.Open c.if-not-eat.ensures.yes (read_on c.in_ok-columns.ensures.found (eaten m.Close c.in_ok-expect.ensures.found (finished refl))))))

@@ -1,18 +1,25 @@
-use Rattle.std.proofs.Common.{rules, ◌≡◌, ◌≤◌, length, ℕ, ◌+◌, ◌-◌, ◌*◌, ◌<◌, ◌/◌, ◌%◌, Bool, true, false, nat_eq, nat_lt, List, [], ◌∷◌, ◌++◌, slice_index_or, slice_set, bit_and, bit_or, Fits, w8, w32, w64, Bor, MutBor}
-use Rattle.away_core.specs.Grammar.{Tree, from_item, names}
-use Rattle.sql_text.specs.Plans.{Gives}
-use Rattle.sql_text.specs.Descent as descent
-use Rattle.sql_text.specs.Descent.{plan, names_plan, table_plan, columns_plan, alias_plan, qualified_name}
+use Rattle.std.proofs.Common.{refl, sym, ◌∙◌, rules, ◌≤◌, arith}
+use Rattle.std.proofs.lemmas.Grind.{common_steps}
+use Rattle.std.proofs.lemmas.Result.{err_from_is_err_and}
+use Rattle.away_core.specs.declared.grammar.Mark.TheVariants as m
+use Rattle.sql_text.specs.Next.{name_in}
+use Rattle.sql_text.specs.Plans.{no_memory}
+use Rattle.sql_text.proofs.Steps.{finished, eaten, left, read_on, read_no, wanted, not_wanted, perhaps_found, perhaps_missed, refused}
+use Rattle.sql_text.proofs.Names.{none_read, other_read, public_read, behind_dot, name_read, name_missing, names_begin, names_more, names_end, names_fail}
 use Rattle.sql_text.proofs.tables.names_of.Goals as goal
 
--- src/tables.rt:94:20
 pub returns-in_err-name-clause-found : goal.returns-in_err-name-clause-found
-returns-in_err-name-clause-found c = ?
+returns-in_err-name-clause-found c = 
+    let p = err_from_is_err_and c.from_residual.result c.from_residual.ensures.1 in
+    rw (p.1, p.2) (names_fail c.in_err-name.field-0.0 _ c.loop-found.invariant.begun c.in_err-name.ensures.found)
 
--- src/tables.rt:94:9
 pub returns-in_err-push-clause-found : goal.returns-in_err-push-clause-found
-returns-in_err-push-clause-found c = ?
+returns-in_err-push-clause-found c = 
+    let p = err_from_is_err_and c.from_residual-in_err-push.result c.from_residual-in_err-push.ensures.1 in
+    rw (p.1, p.2) (no_memory)
 
--- src/tables.rt:96:13
 pub returns-then-not-eat-clause-found : goal.returns-then-not-eat-clause-found
-returns-then-not-eat-clause-found c = ?
+returns-then-not-eat-clause-found c = rw c.in_ok-push.ensures.ok (names_end _ c.loop-found.invariant.begun c.in_ok-name.ensures.found c.in_ok-name.ensures.rest c.if-not-eat.ensures.no)
+
+pub loop-found-preserved : goal.loop-found-preserved
+loop-found-preserved c = record { begun = rw c.in_ok-push.ensures.ok (names_more _ c.loop-found.invariant.begun c.in_ok-name.ensures.found c.in_ok-name.ensures.rest c.if-not-eat.ensures.yes); shrinks = first_of (search rules, grind (arith, common_steps)) }
