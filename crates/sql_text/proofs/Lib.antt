@@ -5,3 +5,7 @@ pub mod Holds
 pub mod SoundExpressions
 pub mod SoundQueries
 pub mod Sound
+pub mod PrintLevels
+pub mod PrintExpressions
+pub mod PrintQueries
+pub mod PrintBack

@@ -5,11 +5,13 @@ mod cursor;
 mod expressions;
 mod leaves;
 mod laws;
+mod print_laws;
 mod refusal;
 mod signs;
 
 pub use cursor::Cursor;
 pub use expressions::expression;
 pub use laws::what_a_plan_gives_is_read;
+pub use print_laws::printed_expressions_read_back;
 pub use refusal::Refusal;
 pub use signs::Sign;
