@@ -9,3 +9,6 @@ pub mod PrintLevels
 pub mod PrintExpressions
 pub mod PrintQueries
 pub mod PrintBack
+pub mod PrintClear
+pub mod PrintClearQueries
+pub mod PrintSpoken

@@ -202,7 +202,7 @@ pub query_back : (ss : List Select) → may_join ss ≡ true → SelectsBack ss 
 query_back ss h r after = rw (eq.of_query printing ss) (query_of h (r.1 after))
 
 -- the selects of WITH RECURSIVE
-map_last : (ss : List Select) (t : Select) → map (λ s. select_of printing s) (ss ++ t ∷ []) ≡ map (λ s. select_of printing s) ss ++ select_of printing t ∷ []
+pub map_last : (ss : List Select) (t : Select) → map (λ s. select_of printing s) (ss ++ t ∷ []) ≡ map (λ s. select_of printing s) ss ++ select_of printing t ∷ []
 map_last [] t = refl
 map_last (s ∷ ss) t = ap (λ xs. select_of printing s ∷ xs) (map_last ss t)
 

@@ -2,3 +2,4 @@ pub mod Plans
 pub mod Next
 pub mod Descent
 pub mod Said
+pub mod Spoken
