@@ -12,3 +12,5 @@ pub mod PrintBack
 pub mod PrintClear
 pub mod PrintClearQueries
 pub mod PrintSpoken
+pub mod PrintTokens
+pub mod PrintTexts

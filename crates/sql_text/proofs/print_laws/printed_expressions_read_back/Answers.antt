@@ -1,6 +1,5 @@
-use Rattle.sql_text.proofs.PrintLevels.{Back, place}
+use Rattle.sql_text.proofs.PrintLevels.{place}
 use Rattle.sql_text.proofs.PrintBack.{prints_back}
-use Rattle.sql_text.proofs.PrintSpoken.{prints_clear}
 use Rattle.sql_text.proofs.print_laws.printed_expressions_read_back.Goals as goal
 
 pub returns : goal.returns
