@@ -1,12 +1,11 @@
 -- What is read from spoken signs prints as spoken signs, where behind a dot stands a name.
-use Rattle.std.proofs.Common.{◌≡◌, ℕ, ◌<◌, ◌≤◌, ◌^◌, ◌-◌, pos, negsuc, Bool, true, false, if◌then◌else◌, nat_lt, List, [], ◌∷◌, ◌++◌, map, Option, Some, None, refl, sym, ap, ◌∙◌, subst, arith, codes, bytes_eq, option_map}
+use Rattle.std.proofs.Common.{◌≡◌, ℕ, ◌<◌, ◌≤◌, ◌^◌, ◌-◌, pos, negsuc, Bool, true, false, if◌then◌else◌, nat_lt, List, [], ◌∷◌, ◌++◌, map, Some, None, refl, sym, ◌∙◌, subst, arith, codes, bytes_eq}
 use Rattle.away_core.specs.declared.grammar.Mark.{Mark}
 use Rattle.away_core.specs.declared.grammar.Mark.TheVariants as m
 use Rattle.away_core.specs.declared.grammar.Level.{Level}
 use Rattle.away_core.specs.declared.grammar.Level.TheVariants as l
 use Rattle.away_core.specs.declared.types.Ty.{Ty}
 use Rattle.away_core.specs.declared.types.Ty.TheVariants as types
-use Rattle.away_core.specs.declared.operators.IntOp.{IntOp}
 use Rattle.away_core.specs.declared.operators.IntOp.TheVariants as int
 use Rattle.away_core.specs.declared.operators.ChainOp.{ChainOp}
 use Rattle.away_core.specs.declared.operators.ChainOp.TheVariants as op

@@ -1,5 +1,5 @@
 -- What the productions of queries read prints clearly, where their parts do.
-use Rattle.std.proofs.Common.{◌≡◌, ℕ, Bool, true, false, if◌then◌else◌, List, [], ◌∷◌, ◌++◌, map, Option, Some, None, refl, sym, ap, subst, bytes_eq, option_map}
+use Rattle.std.proofs.Common.{ℕ, Bool, true, false, if◌then◌else◌, List, [], ◌∷◌, ◌++◌, map, Option, Some, None, refl, sym, subst, bytes_eq, option_map}
 use Rattle.away_core.specs.declared.grammar.Mark.TheVariants as m
 use Rattle.away_core.specs.declared.grammar.Level.TheVariants as l
 use Rattle.away_core.specs.declared.queries.Expr.{Expr}
@@ -14,10 +14,9 @@ use Rattle.away_core.specs.declared.queries.Expr.TheViews.{roll-Item, roll-FromI
 use Rattle.away_core.specs.Algebra.{item_of, from_of, key_of, select_of, recursive_of}
 use Rattle.away_core.specs.Signs.{Sign, mark, name}
 use Rattle.away_core.specs.Grammar.{perhaps}
-use Rattle.away_core.specs.Printing.{placed, printed, printing, print_from, with_commas, names_signs, from_signs, where_signs, order_signs, limit_signs, selects_signs, query_signs}
+use Rattle.away_core.specs.Printing.{printed, printing, print_from, with_commas, names_signs, from_signs, where_signs, order_signs, limit_signs, selects_signs, query_signs}
 use Rattle.away_core.proofs.Equations as eq
 use Rattle.sql_text.specs.Spoken.{Spoken}
-use Rattle.sql_text.proofs.PrintExpressions.{NonEmpty}
 use Rattle.sql_text.proofs.PrintQueries.{map_last}
 use Rattle.sql_text.proofs.PrintClear.{Clear, nothing, a_mark, a_name, both, Fine, at_place}
 

@@ -1,5 +1,5 @@
 -- What each production of expressions reads prints as signs that read back, where its parts do.
-use Rattle.std.proofs.Common.{◌≡◌, ℕ, ◌<◌, ◌^◌, ◌-◌, pos, negsuc, Bool, true, false, List, [], ◌∷◌, ◌++◌, map, Option, Some, None, refl, sym, ap, subst, append_assoc, codes, bytes_eq, if◌then◌else◌}
+use Rattle.std.proofs.Common.{◌≡◌, ℕ, ◌<◌, ◌^◌, ◌-◌, pos, negsuc, Bool, true, false, List, [], ◌∷◌, ◌++◌, map, Some, None, refl, sym, ap, subst, append_assoc, codes, bytes_eq, if◌then◌else◌}
 use Rattle.std.proofs.lemmas.Slice.Eq.{bytes_eq-Decides}
 use Rattle.away_core.specs.declared.grammar.Mark.{Mark}
 use Rattle.away_core.specs.declared.grammar.Mark.TheVariants as m
@@ -17,12 +17,12 @@ use Rattle.away_core.specs.declared.operators.IsTest.TheVariants as tests
 use Rattle.away_core.specs.declared.queries.Expr.{Expr}
 use Rattle.away_core.specs.declared.queries.Expr.TheVariants as e
 use Rattle.away_core.specs.declared.queries.Query.{Query}
-use Rattle.away_core.specs.Signs.{Sign, mark, name, integer, string, parameter}
-use Rattle.away_core.specs.Grammar.{at, links, list, arms, query, rank, operands, operator_of, comparison_of, test_of, literal_of, called, type_named, perhaps, IsChain, Reads, chain, no_link, link, negated, tested, compared, between, one_of, signed, least, number, text, literal, named, dotted, typed_parameter, scalar, cast, exists, cases, cases_else, call_word, count_rows, call_empty, call, last, another, no_arm, arm}
-use Rattle.away_core.specs.Printing.{Printed, placed, printed, printing, operator_mark, operator_level, comparison_mark, test_mark, type_name, function_sign, links_signs, list_signs, arms_signs, query_signs}
+use Rattle.away_core.specs.Signs.{Sign, mark, name}
+use Rattle.away_core.specs.Grammar.{at, links, list, arms, query, operands, operator_of, comparison_of, test_of, literal_of, type_named, perhaps, IsChain, Reads, chain, link, negated, tested, compared, between, one_of, signed, least, number, text, literal, named, dotted, typed_parameter, scalar, cast, exists, cases, cases_else, call_word, count_rows, call_empty, call, last, another, arm}
+use Rattle.away_core.specs.Printing.{placed, printed, printing, operator_mark, operator_level, comparison_mark, test_mark, type_name, function_sign, links_signs, list_signs, arms_signs, query_signs}
 use Rattle.away_core.proofs.Equations as eq
 use Rattle.sql_text.proofs.Holds.{some_same}
-use Rattle.sql_text.proofs.PrintLevels.{Whole, Back, back_by, place}
+use Rattle.sql_text.proofs.PrintLevels.{Back, back_by, place}
 
 -- ---- what the lists read
 
@@ -100,10 +100,10 @@ chain_back level sign o first x more p h f r =
     let all : LinksBack (operator_level o) ((o, x) ∷ more) = subst (λ k. LinksBack k ((o, x) ∷ more)) same r in
     let is_chain : IsChain (operator_level o) = subst IsChain same p in
     back_by (eq.of_chain printing first ((o, x) ∷ more)) (λ after.
-      let k = operator_level o in
-      let tail = links_signs k (map (λ x. eq.link_of printing x) ((o, x) ∷ more)) in
-      subst (λ ts. Reads (at k) ts (e.Chain first ((o, x) ∷ more)) after) (sym (append_assoc (placed (operands k) (printed first)) tail after))
-      (chain is_chain (place (operands k) first (tail ++ after) f) (all after)))
+    let k = operator_level o in
+    let tail = links_signs k (map (λ x. eq.link_of printing x) ((o, x) ∷ more)) in
+    subst (λ ts. Reads (at k) ts (e.Chain first ((o, x) ∷ more)) after) (sym (append_assoc (placed (operands k) (printed first)) tail after))
+    (chain is_chain (place (operands k) first (tail ++ after) f) (all after)))
 
 -- ---- NOT, IS, comparisons, BETWEEN, IN and minus
 
@@ -118,7 +118,7 @@ test_is tests.False = refl
 pub is_back : (x : Expr) (t : IsTest) (n : Bool) → Back x → Back (e.Is x t n)
 is_back x t n b =
     back_by (eq.of_is printing x t n) (λ after.
-      simp (append_assoc, perhaps_behind) (tested (test_mark t) (test_is t) (place l.Compare x (mark m.Is ∷ perhaps n (mark m.Not) (mark (test_mark t) ∷ after)) b)))
+    simp (append_assoc, perhaps_behind) (tested (test_mark t) (test_is t) (place l.Compare x (mark m.Is ∷ perhaps n (mark m.Not) (mark (test_mark t) ∷ after)) b)))
 
 comparison_is : (o : CmpOp) → comparison_of (comparison_mark o) ≡ Some o
 comparison_is cmp.Eq = refl
@@ -131,21 +131,21 @@ comparison_is cmp.Ge = refl
 pub compare_back : (o : CmpOp) (x y : Expr) → Back x → Back y → Back (e.Compare o x y)
 compare_back o x y b c =
     back_by (eq.of_compare printing o x y) (λ after.
-      simp append_assoc (compared (comparison_mark o) (comparison_is o) (place l.Range x (mark (comparison_mark o) ∷ (placed l.Range (printed y) ++ after)) b) (place l.Range y after c)))
+    simp append_assoc (compared (comparison_mark o) (comparison_is o) (place l.Range x (mark (comparison_mark o) ∷ (placed l.Range (printed y) ++ after)) b) (place l.Range y after c)))
 
 pub between_back : (n : Bool) (x low high : Expr) → Back x → Back low → Back high → Back (e.Between n x low high)
 between_back n x low high b c d =
     back_by (eq.of_between printing n x low high) (λ after.
-      let upper = placed l.Concat (printed high) ++ after in
-      let bounds = placed l.Concat (printed low) ++ mark m.And ∷ upper in
-      simp (append_assoc, perhaps_behind)
-      (between (place l.Concat x (perhaps n (mark m.Not) (mark m.Between ∷ bounds)) b) (place l.Concat low (mark m.And ∷ upper) c) (place l.Concat high after d)))
+    let upper = placed l.Concat (printed high) ++ after in
+    let bounds = placed l.Concat (printed low) ++ mark m.And ∷ upper in
+    simp (append_assoc, perhaps_behind)
+    (between (place l.Concat x (perhaps n (mark m.Not) (mark m.Between ∷ bounds)) b) (place l.Concat low (mark m.And ∷ upper) c) (place l.Concat high after d)))
 
 pub one_of_back : (n : Bool) (x : Expr) (xs : List Expr) → Back x → ListBack xs → Back (e.OneOf n x xs)
 one_of_back n x xs b r =
     back_by (eq.of_oneof printing n x xs) (λ after.
-      let choices = list_signs (map (λ x. printed x) xs) ++ mark m.Close ∷ after in
-      simp (append_assoc, perhaps_behind) (one_of (place l.Concat x (perhaps n (mark m.Not) (mark m.In ∷ mark m.Open ∷ choices)) b) (r.1 (mark m.Close ∷ after))))
+    let choices = list_signs (map (λ x. printed x) xs) ++ mark m.Close ∷ after in
+    simp (append_assoc, perhaps_behind) (one_of (place l.Concat x (perhaps n (mark m.Not) (mark m.In ∷ mark m.Open ∷ choices)) b) (r.1 (mark m.Close ∷ after))))
 
 pub neg_back : (x : Expr) → Back x → Back (e.Neg x)
 neg_back x b = back_by (eq.of_neg printing x) (λ after. signed (place l.Cast x after b))
@@ -193,7 +193,7 @@ parameter_back i t ty h after = typed_parameter (type_name ty) (type_is t ty h)
 pub cast_back : (x : Expr) (t : List ℕ) (ty : Ty) → type_named t ≡ Some ty → Back x → Back (e.Cast x ty)
 cast_back x t ty h b =
     back_by (eq.of_cast printing x ty) (λ after.
-      simp append_assoc (cast (type_name ty) (type_is t ty h) (place l.Or x (mark m.As ∷ name (type_name ty) ∷ mark m.Close ∷ after) b)))
+    simp append_assoc (cast (type_name ty) (type_is t ty h) (place l.Or x (mark m.As ∷ name (type_name ty) ∷ mark m.Close ∷ after) b)))
 
 pub scalar_back : (q : Query) → QueryBack q → Back (e.Scalar q)
 scalar_back q b = back_by (eq.of_scalar printing q) (λ after. simp append_assoc (scalar (b (mark m.Close ∷ after))))
@@ -225,8 +225,8 @@ cases_back a more r = back_by (eq.of_cases printing (a ∷ more) None) (λ after
 pub cases_else_back : (a : Expr × Expr) (more : List (Expr × Expr)) (x : Expr) → ArmsBack (a ∷ more) → Back x → Back (e.Cases (a ∷ more) (Some x))
 cases_else_back a more x r b =
     back_by (eq.of_cases printing (a ∷ more) (Some x)) (λ after.
-      let other = placed l.Or (printed x) ++ mark m.End ∷ after in
-      simp append_assoc (cases_else (simp append_assoc at (r (mark m.Else ∷ other))) (place l.Or x (mark m.End ∷ after) b)))
+    let other = placed l.Or (printed x) ++ mark m.End ∷ after in
+    simp append_assoc (cases_else (simp append_assoc at (r (mark m.Else ∷ other))) (place l.Or x (mark m.End ∷ after) b)))
 
 function_by : (a b c : Bool) (n : List ℕ) → bytes_eq n (codes "coalesce") ≡ a → bytes_eq n (codes "greatest") ≡ b → bytes_eq n (codes "least") ≡ c
     → {ts rest : List Sign} {xs : List Expr} → Reads list ts xs (mark m.Close ∷ rest)

@@ -14,8 +14,8 @@ use Rattle.away_core.specs.declared.queries.Query.{Query}
 use Rattle.away_core.specs.declared.queries.Expr.TheViews.{roll-Item, roll-FromItem, roll-Key, roll-Select, roll-Recursive, roll-Query}
 use Rattle.away_core.specs.Algebra.{item_of, from_of, key_of, select_of, recursive_of}
 use Rattle.away_core.specs.Signs.{Sign, mark, name}
-use Rattle.away_core.specs.Grammar.{item, items, from_item, from_items, from_clause, where_clause, key, keys, order_clause, limit_clause, select, selects, query, names, recursive, file, perhaps, is_number, may_join, Reads, item_alone, item_as, last_item, another_item, table_alone, table_as, sub_alone, sub_columns, last_from, another_from, last_name, another_name, key_alone, descending, last_key, another_key, no_from, from, no_where, where_of, no_order, order_by, no_limit, limit_of, select_of as a_select, last_select, another_select, query_of, recursive_of as a_recursive, plain_file, with_file}
-use Rattle.away_core.specs.Printing.{placed, printed, printing, print_from, with_commas, names_signs, from_signs, where_signs, order_signs, limit_signs, selects_signs, query_signs}
+use Rattle.away_core.specs.Grammar.{item, items, from_item, from_items, from_clause, where_clause, key, keys, order_clause, limit_clause, select, selects, names, recursive, file, is_number, may_join, Reads, item_alone, item_as, last_item, another_item, table_alone, table_as, sub_alone, sub_columns, last_from, another_from, last_name, another_name, key_alone, descending, last_key, another_key, no_from, from, no_where, where_of, no_order, order_by, no_limit, limit_of, select_of as a_select, last_select, another_select, query_of, recursive_of as a_recursive, plain_file, with_file}
+use Rattle.away_core.specs.Printing.{printed, printing, print_from, with_commas, names_signs, from_signs, where_signs, order_signs, limit_signs, selects_signs, query_signs}
 use Rattle.away_core.proofs.Equations as eq
 use Rattle.sql_text.proofs.PrintLevels.{Back, place}
 use Rattle.sql_text.proofs.PrintExpressions.{NonEmpty, QueryBack, perhaps_behind}
@@ -85,11 +85,11 @@ last_item_back x b = (tt, λ after. last_item (b after))
 pub another_item_back : (x : Item) (xs : List Item) → ItemBack x → ItemsBack xs → ItemsBack (x ∷ xs)
 another_item_back x [] b r = absurd r.0
 another_item_back x (y ∷ ys) b r = (
-      tt,
-      λ after.
-        let more = with_commas (map (λ x. item_of printing x) (y ∷ ys)) in
-        subst (λ ts. Reads items ts (x ∷ y ∷ ys) after) (sym (behind_two (item_of printing x) (mark m.Comma ∷ []) more after)) (another_item (b (mark m.Comma ∷ (more ++ after))) (r.1 after)),
-    )
+  tt,
+  λ after.
+      let more = with_commas (map (λ x. item_of printing x) (y ∷ ys)) in
+      subst (λ ts. Reads items ts (x ∷ y ∷ ys) after) (sym (behind_two (item_of printing x) (mark m.Comma ∷ []) more after)) (another_item (b (mark m.Comma ∷ (more ++ after))) (r.1 after)),
+)
 
 -- ---- FROM
 
@@ -127,11 +127,11 @@ last_from_back x b = (tt, λ after. last_from (b after))
 pub another_from_back : (x : FromItem) (xs : List FromItem) → FromBack x → FromsBack xs → FromsBack (x ∷ xs)
 another_from_back x [] b r = absurd r.0
 another_from_back x (y ∷ ys) b r = (
-      tt,
-      λ after.
-        let more = with_commas (map (λ x. from_of printing x) (y ∷ ys)) in
-        subst (λ ts. Reads from_items ts (x ∷ y ∷ ys) after) (sym (behind_two (from_of printing x) (mark m.Comma ∷ []) more after)) (another_from (b (mark m.Comma ∷ (more ++ after))) (r.1 after)),
-    )
+  tt,
+  λ after.
+      let more = with_commas (map (λ x. from_of printing x) (y ∷ ys)) in
+      subst (λ ts. Reads from_items ts (x ∷ y ∷ ys) after) (sym (behind_two (from_of printing x) (mark m.Comma ∷ []) more after)) (another_from (b (mark m.Comma ∷ (more ++ after))) (r.1 after)),
+)
 
 pub no_from_back : FromClauseBack []
 no_from_back after = no_from
@@ -160,11 +160,11 @@ last_key_back x b = (tt, λ after. last_key (b after))
 pub another_key_back : (x : Key) (xs : List Key) → KeyBack x → KeysBack xs → KeysBack (x ∷ xs)
 another_key_back x [] b r = absurd r.0
 another_key_back x (y ∷ ys) b r = (
-      tt,
-      λ after.
-        let more = with_commas (map (λ x. key_of printing x) (y ∷ ys)) in
-        subst (λ ts. Reads keys ts (x ∷ y ∷ ys) after) (sym (behind_two (key_of printing x) (mark m.Comma ∷ []) more after)) (another_key (b (mark m.Comma ∷ (more ++ after))) (r.1 after)),
-    )
+  tt,
+  λ after.
+      let more = with_commas (map (λ x. key_of printing x) (y ∷ ys)) in
+      subst (λ ts. Reads keys ts (x ∷ y ∷ ys) after) (sym (behind_two (key_of printing x) (mark m.Comma ∷ []) more after)) (another_key (b (mark m.Comma ∷ (more ++ after))) (r.1 after)),
+)
 
 pub no_order_back : OrderBack []
 no_order_back after = no_order
@@ -210,7 +210,7 @@ recursive_reads : (n : List ℕ) (ns : List (List ℕ)) (s : Select) (ss : List 
     → Reads names (columns ++ mark m.Close ∷ mark m.As ∷ mark m.Open ∷ (all ++ mark m.Close ∷ after)) ns (mark m.Close ∷ mark m.As ∷ mark m.Open ∷ (all ++ mark m.Close ∷ after))
     → Reads selects (all ++ mark m.Close ∷ after) (s ∷ (ss ++ second ∷ [])) (mark m.Close ∷ after)
     → Reads recursive ((mark m.With ∷ mark m.Recursive ∷ name n ∷ mark m.Open ∷ (columns ++ mark m.Close ∷ mark m.As ∷ mark m.Open ∷ (all ++ mark m.Close ∷ []))) ++ after)
-      (roll-Recursive (record { name = n; columns = ns; first = s ∷ ss; second = second })) after
+    (roll-Recursive (record { name = n; columns = ns; first = s ∷ ss; second = second })) after
 recursive_reads n ns s ss second columns all after a b = simp append_assoc (a_recursive ss second a b)
 
 pub recursive_back : (n : List ℕ) (ns : List (List ℕ)) (s : Select) (ss : List Select) (second : Select) → NamesBack ns → SelectsBack (s ∷ (ss ++ second ∷ []))

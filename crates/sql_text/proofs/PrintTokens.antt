@@ -1,5 +1,5 @@
 -- Each spoken sign is spelled as a token that says it.
-use Rattle.std.proofs.Common.{◌≡◌, ℕ, ◌+◌, ◌*◌, ◌-◌, ◌<◌, ◌≤◌, ◌^◌, Bool, true, false, ◌&&◌, ◌||◌, List, [], ◌∷◌, ◌++◌, length, take, drop, map, chars, Option, Some, None, refl, sym, ap, ◌∙◌, subst, arith, length-append, if◌then◌else◌}
+use Rattle.std.proofs.Common.{◌≡◌, ℕ, ◌+◌, ◌*◌, ◌-◌, ◌<◌, ◌≤◌, ◌^◌, Bool, true, false, ◌&&◌, ◌||◌, List, [], ◌∷◌, ◌++◌, length, take, map, chars, Some, None, refl, ap, ◌∙◌, arith, length-append, if◌then◌else◌}
 use Rattle.std.proofs.Math.Seq.{take-append_seam}
 use Rattle.std.proofs.lemmas.Bool.Decides.{nat_tests}
 use Rattle.std.proofs.lemmas.Fmt.{decimal_is_IsNumeral}
@@ -13,9 +13,8 @@ use Rattle.std.specs.Str.{all_scalars, str_eq_ignore_ascii_case}
 use Rattle.std.specs.Str.Parse.{AllDigits, digits_value_after}
 use Rattle.away_core.specs.declared.grammar.Mark.{Mark}
 use Rattle.away_core.specs.declared.grammar.Mark.TheVariants as m
-use Rattle.away_core.specs.declared.tokens.TokenKind.TheVariants.{Word, Integer, Str, Parameter}
 use Rattle.away_core.specs.Spellings.{Spells, IsInteger, number, number_from, quoted, doubled}
-use Rattle.away_core.specs.Reserved.{is_reserved, reserved, folded}
+use Rattle.away_core.specs.Reserved.{is_reserved, folded}
 use Rattle.away_core.specs.Signs.{Sign, mark, name, integer, string, parameter, quote, Entry, reserved_words, first_mark, word_mark, symbol_mark, undoubled, between_quotes, mark_or, says_by}
 use Rattle.away_core.specs.Printing.{mark_spelled, spelled}
 use Rattle.away_lex.proofs.Alone.{undoubled-doubled}
