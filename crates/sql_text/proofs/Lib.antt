@@ -18,3 +18,12 @@ pub mod Marks
 pub mod Places
 pub mod Undoubled
 pub mod Cases
+pub mod PrintLevels
+pub mod PrintExpressions
+pub mod PrintQueries
+pub mod PrintBack
+pub mod PrintClear
+pub mod PrintClearQueries
+pub mod PrintSpoken
+pub mod PrintTokens
+pub mod PrintTexts

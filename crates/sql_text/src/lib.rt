@@ -7,6 +7,7 @@ mod expressions;
 mod files;
 mod leaves;
 mod laws;
+mod print_laws;
 mod refusal;
 mod schemas;
 mod signs;
@@ -16,6 +17,9 @@ pub use complete_law::what_is_read_is_given;
 pub use cursor::Cursor;
 pub use expressions::expression;
 pub use laws::what_a_plan_gives_is_read;
+pub use print_laws::{
+    printed_expressions_read_back, printed_queries_read_back, printing_reads_back,
+};
 pub use refusal::Refusal;
 pub use signs::Sign;
 

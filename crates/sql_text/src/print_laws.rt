@@ -1,0 +1,26 @@
+//! What holds of the printed text of a query.
+
+ghost use Rattle.std.specs.Prelude.{◌≡◌, List, [], ◌++◌, None};
+ghost use Rattle.away_core.specs.declared.grammar.Level.{Level};
+ghost use Rattle.away_core.specs.declared.queries.Expr.{Expr};
+ghost use Rattle.away_core.specs.declared.queries.Query.{Query};
+ghost use Rattle.away_core.specs.Signs.{Sign, all_say};
+ghost use Rattle.away_core.specs.Tokens.{Lexeme, Lexes};
+ghost use Rattle.away_core.specs.Grammar.{Reads, at, file};
+ghost use Rattle.away_core.specs.Printing.{placed, printed, query_signs, query_text};
+ghost use Rattle.sql_text.specs.Spoken.{AllSpoken};
+
+/// An expression that signs read as prints as signs that read as it, at each place and whatever follows.
+pub fn printed_expressions_read_back()
+    ensures { (level place : Level) (ts rest after : List Sign) (x : Expr) → Reads (at level) ts x rest → Reads (at place) (placed place (printed x) ++ after) x after }
+{}
+
+/// A query that signs read as prints as signs that read as it, whatever follows.
+pub fn printed_queries_read_back()
+    ensures { (ts rest after : List Sign) (q : Query) → Reads file ts q rest → Reads file (query_signs q ++ after) q after }
+{}
+
+/// The text of a query that spoken signs read as has tokens, and what they say reads as the query.
+pub fn printing_reads_back()
+    ensures { (ts : List Sign) (q : Query) → AllSpoken ts → Reads file ts q [] → (tokens : List Lexeme) × Lexes 0 (query_text q) tokens None × (all_say tokens ≡ query_signs q) × Reads file (all_say tokens) q [] }
+{}
