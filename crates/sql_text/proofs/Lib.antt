@@ -5,3 +5,11 @@ pub mod Holds
 pub mod SoundExpressions
 pub mod SoundQueries
 pub mod Sound
+pub mod Starts
+pub mod CompleteStops
+pub mod CompleteSteps
+pub mod CompleteLevels
+pub mod CompletePrimary
+pub mod CompleteFrom
+pub mod CompleteQueries
+pub mod Complete
