@@ -11,6 +11,7 @@ pub mod Spacing
 pub mod FunctionFile
 pub mod Signs
 pub mod Grammar
+pub mod FunctionGrammar
 pub mod AlgebraEquations
 pub mod StatementAlgebra
 pub mod Count
