@@ -1,1 +1,5 @@
-
+pub mod Lifted
+pub mod HoldsMore
+pub mod SoundBodies
+pub mod SoundHeaders
+pub mod Sound

@@ -6,6 +6,7 @@ use Rattle.away_core.specs.declared.types.Ty.{Ty}
 use Rattle.away_core.specs.declared.queries.Expr.{Expr}
 use Rattle.away_core.specs.declared.statements.Decl.{Decl}
 use Rattle.away_core.specs.declared.statements.LoopKind.TheVariants as k
+use Rattle.away_core.specs.declared.statements.Raised.{Raised}
 use Rattle.away_core.specs.declared.statements.Raised.TheVariants as r
 use Rattle.away_core.specs.declared.statements.Stmt.{Stmt}
 use Rattle.away_core.specs.declared.statements.Stmt.TheVariants as s
@@ -131,16 +132,20 @@ cases_plan =
     expect m.When (read (part branch) (λ a. read (part whens) (λ more. read (part otherwise) (λ other.
       expect m.End (expect m.Case (expect m.Semicolon (done (s.Cases (a ∷ more) other))))))))
 
+-- behind EXIT or CONTINUE, and the label where it is written
+abbrev pub left_plan : (Option Expr → Stmt) → PartPlan statement
+left_plan leave = read (part condition) (λ x. expect m.Semicolon (done (leave x)))
+
 -- behind EXIT or CONTINUE
 abbrev pub leaving_plan : (Option (List ℕ) → Option Expr → Stmt) → PartPlan statement
-leaving_plan leave = maybe_name (λ label. read (part condition) (λ x. expect m.Semicolon (done (leave label x))))
+leaving_plan leave = maybe_name (λ label. left_plan (leave label))
+
+abbrev pub text_plan : (List ℕ → Raised) → PartPlan statement
+text_plan raised = want string_in (λ z. expect m.Semicolon (done (s.Raise (raised z))))
 
 -- behind RAISE, and `exception` where it is written
 abbrev pub raised_plan : PartPlan statement
-raised_plan =
-    eat_word (codes "sqlstate")
-      (want string_in (λ z. expect m.Semicolon (done (s.Raise (r.State z)))))
-      (want string_in (λ z. expect m.Semicolon (done (s.Raise (r.Message z)))))
+raised_plan = eat_word (codes "sqlstate") (text_plan r.State) (text_plan r.Message)
 
 abbrev pub raise_plan : PartPlan statement
 raise_plan = eat_word (codes "exception") raised_plan raised_plan

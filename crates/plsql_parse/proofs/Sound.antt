@@ -1,0 +1,1 @@
+-- What the plan of a part gives, the grammar reads.

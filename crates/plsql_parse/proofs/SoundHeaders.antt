@@ -1,0 +1,1 @@
+-- What the plans of what stands around a body give, the grammar reads.
