@@ -29,13 +29,20 @@ signature_plan = expect m.Open (eat m.Close (done []) (read (part parameters) (�
 
 -- ---- attributes
 
+abbrev pub language_string_plan : PartPlan attribute_of
+language_string_plan = want string_in (λ z. if bytes_eq z (codes "plpgsql") then done attribute.Language else fail)
+
 abbrev pub language_plan : PartPlan attribute_of
-language_plan =
-    eat_word (codes "plpgsql") (done attribute.Language)
-      (want string_in (λ z. if bytes_eq z (codes "plpgsql") then done attribute.Language else fail))
+language_plan = eat_word (codes "plpgsql") (done attribute.Language) language_string_plan
 
 abbrev pub null_input_plan : Bool → PartPlan attribute_of
 null_input_plan strict = expect m.On (expect m.Null (expect_word (codes "input") (done (attribute.NullInput strict))))
+
+abbrev pub parallel_plan : PartPlan attribute_of
+parallel_plan = a_name (λ y. if may_run y then done attribute.Parallel else fail)
+
+abbrev pub cost_plan : PartPlan attribute_of
+cost_plan = want integer_in (λ n. done attribute.Cost)
 
 -- behind a word that isn't the whole attribute
 abbrev pub word_plan : List ℕ → PartPlan attribute_of
@@ -43,8 +50,8 @@ word_plan z =
     if bytes_eq z (codes "language") then language_plan
     else (if bytes_eq z (codes "returns") then expect m.Null (null_input_plan true)
     else (if bytes_eq z (codes "called") then null_input_plan false
-    else (if bytes_eq z (codes "parallel") then a_name (λ y. if may_run y then done attribute.Parallel else fail)
-    else (if bytes_eq z (codes "cost") then want integer_in (λ n. done attribute.Cost) else fail))))
+    else (if bytes_eq z (codes "parallel") then parallel_plan
+    else (if bytes_eq z (codes "cost") then cost_plan else fail))))
 
 abbrev pub word_with : List ℕ → Option Attribute → PartPlan attribute_of
 word_with z (Some a) = done a
@@ -83,11 +90,14 @@ function_with inside n xs t found = record { name = n; strict = list_any makes_s
 abbrev pub ended_plan : {inside : Stmt} → Function → PartPlan (function inside)
 ended_plan f = eat m.Semicolon (done f) (done f)
 
+-- behind RETURNS
+abbrev pub returned_plan : (inside : Stmt) → List ℕ → List (List ℕ × Ty) → PartPlan (function inside)
+returned_plan inside n xs =
+    a_type (λ t. read (part attributes) (λ found. if may_stand found then ended_plan (function_with inside n xs t found) else fail))
+
 -- behind the name
 abbrev pub named_plan : (inside : Stmt) → List ℕ → PartPlan (function inside)
-named_plan inside n =
-    read (part signature) (λ xs. expect_word (codes "returns") (a_type (λ t.
-      read (part attributes) (λ found. if may_stand found then ended_plan (function_with inside n xs t found) else fail))))
+named_plan inside n = read (part signature) (λ xs. expect_word (codes "returns") (returned_plan inside n xs))
 
 -- behind CREATE, and OR REPLACE where it is written
 abbrev pub created_plan : (inside : Stmt) → PartPlan (function inside)
