@@ -132,3 +132,22 @@ pub enum Level {
     /// What stands alone or in parentheses.
     Primary,
 }
+
+/// An attribute of a function, by the group that it is of (PostgreSQL manual, CREATE FUNCTION).
+#[derive(Clone, Copy, Debug, PartialEq, Eq)]
+pub enum Attribute {
+    /// LANGUAGE plpgsql
+    Language,
+    /// AS and the dollar quote
+    Body,
+    /// IMMUTABLE, STABLE or VOLATILE
+    Volatility,
+    /// What becomes of NULL input: whether the function is strict.
+    NullInput(bool),
+    /// LEAKPROOF or NOT LEAKPROOF
+    Leakproof,
+    /// PARALLEL and its kind
+    Parallel,
+    /// COST and a number
+    Cost,
+}

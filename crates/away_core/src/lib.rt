@@ -29,7 +29,7 @@ pub use comparison::compare;
 pub use count::{nodes, weight};
 pub use errors::{NoMemory, OpError};
 pub use from_text::{name, word};
-pub use grammar::{Level, Mark};
+pub use grammar::{Attribute, Level, Mark};
 pub use operator_laws::{
     arithmetic_is_exact, comparison_is_a_total_order, comparison_is_by_value,
     division_leaves_the_remainder, parts_of_a_text_join, results_have_their_types,

@@ -9,7 +9,7 @@ use Rattle.sql_text.proofs.SoundExpressions.{chain_holds, links_hold, not_holds,
 use Rattle.sql_text.proofs.SoundQueries.{item_holds, items_hold, from_item_holds, from_items_hold, from_clause_holds, where_holds, key_holds, keys_hold, order_holds, limit_holds, select_holds, selects_hold, query_holds, names_hold, recursive_holds, file_holds, column_holds, columns_of_table_hold, tables_hold}
 use Rattle.sql_text.proofs.Holds.{Holds, Nothing, here, plan_gives}
 
-all_hold : (n : Sort) → Holds Reads n (plan n) Nothing here
+pub all_hold : (n : Sort) → Holds Reads n (plan n) Nothing here
 all_hold (at l.Or) = chain_holds l.Or tt
 all_hold (at l.And) = chain_holds l.And tt
 all_hold (at l.Not) = not_holds

@@ -1,0 +1,11 @@
+pub mod Lifted
+pub mod HoldsMore
+pub mod SoundBodies
+pub mod SoundHeaders
+pub mod Sound
+pub mod Beginnings
+pub mod RunSteps
+pub mod CompleteBodies
+pub mod CompleteHeaders
+pub mod Complete
+pub mod OneTree

@@ -1,0 +1,5 @@
+pub mod Sorts
+pub mod Bodies
+pub mod Headers
+pub mod Plans
+pub mod Stops

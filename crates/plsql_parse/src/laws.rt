@@ -1,0 +1,29 @@
+//! What holds of the grammar of functions and of the plans of its readers.
+
+ghost use Rattle.std.specs.Prelude.{◌≡◌, List, [], Some};
+ghost use Rattle.away_core.specs.declared.statements.Stmt.{Stmt};
+ghost use Rattle.away_core.specs.declared.statements.Function.{Function};
+ghost use Rattle.away_core.specs.Signs.{Sign};
+ghost use Rattle.away_core.specs.FunctionGrammar.{Part, PartTree, ReadsPart, body, function};
+ghost use Rattle.sql_text.specs.Plans.{Runs};
+ghost use Rattle.plsql_parse.specs.Sorts.{AnyTree, part};
+ghost use Rattle.plsql_parse.specs.Plans.{any_plan, part_plan};
+ghost use Rattle.plsql_parse.specs.Stops.{StopsPart};
+
+/// What the plan of a part of a function gives, the grammar reads.
+pub fn what_a_plan_gives_is_read()
+    ensures { (p : Part) (ts : List Sign) (x : PartTree p) (rest : List Sign) → Runs AnyTree any_plan (part p) (part_plan p) ts (Some (x, rest)) → ReadsPart p ts x rest }
+{}
+
+/// Where the grammar reads a tree of a part, and what stands behind it ends the part, the part's plan gives that tree.
+pub fn what_is_read_is_given()
+    ensures { (p : Part) (ts : List Sign) (x : PartTree p) (rest : List Sign) → ReadsPart p ts x rest → StopsPart p rest → Runs AnyTree any_plan (part p) (part_plan p) ts (Some (x, rest)) }
+{}
+
+/// The signs of a part have one tree, and the part has one end that ends it.
+pub fn signs_have_one_tree()
+    ensures {
+        (p : Part) (ts : List Sign) (x y : PartTree p) (rest other : List Sign) → ReadsPart p ts x rest → StopsPart p rest → ReadsPart p ts y other → StopsPart p other
+            → (x ≡ y) × (rest ≡ other)
+    }
+{}
