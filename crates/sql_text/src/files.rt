@@ -66,7 +66,9 @@ fn recursive_of(alloc: Global, tokens: &mut Cursor<'_>) -> Result<Recursive, Ref
     tokens.expect(Mark::Open)?;
     let selects = selects_of(alloc, tokens)?;
     tokens.expect(Mark::Close)?;
-    let (first, second) = parted(selects).ok_or(Refusal::NoTree)?;
+    let Some((first, second)) = parted(selects) else {
+        return Err(Refusal::NoTree);
+    };
     Ok(Recursive {
         name,
         columns,
