@@ -1,4 +1,5 @@
-use Rattle.std.proofs.Common.{refl, sym, ◌∙◌, rules, ◌≤◌, arith}
+use Rattle.away_core.specs.Grammar.{may_join}
+use Rattle.std.proofs.Common.{refl, sym, ap, ◌∙◌, rules, ◌≤◌, arith}
 use Rattle.std.proofs.lemmas.Grind.{common_steps}
 use Rattle.std.proofs.lemmas.Result.{err_from_is_err_and}
 use Rattle.away_core.specs.declared.grammar.Mark.TheVariants as m
@@ -29,7 +30,7 @@ returns-in_err-selects-clause-found c =
     rw (p.1, p.2) (looked (sym c.if-not-sees_with.ensures) (read_on c.in_ok-recursive.ensures.found (read_no c.in_err-selects.ensures.found)))
 
 pub returns-then-not-may_join-clause-found : goal.returns-then-not-may_join-clause-found
-returns-then-not-may_join-clause-found c = looked (sym c.if-not-sees_with.ensures) (read_on c.in_ok-recursive.ensures.found (read_on c.in_ok-selects.ensures.found (not_chosen _ _ _ ? failed)))
+returns-then-not-may_join-clause-found c = looked (sym c.if-not-sees_with.ensures) (read_on c.in_ok-recursive.ensures.found (read_on c.in_ok-selects.ensures.found (not_chosen _ _ _ (sym (c.if-not-may_join.ensures ∙ ap may_join c.as_slice.ensures)) failed)))
 
 pub returns-clause-found : goal.returns-clause-found
-returns-clause-found c = looked (sym c.if-not-sees_with.ensures) (read_on c.in_ok-recursive.ensures.found (read_on c.in_ok-selects.ensures.found (chosen _ _ _ ? ?)))
+returns-clause-found c = looked (sym c.if-not-sees_with.ensures) (read_on c.in_ok-recursive.ensures.found (read_on c.in_ok-selects.ensures.found (chosen _ _ _ (sym (c.if-not-may_join.ensures ∙ ap may_join c.as_slice.ensures)) (rw c.recursive_query.ensures at c.ended-2.ensures.found))))

@@ -60,8 +60,8 @@ returns-in_err-expect-7-clause-found c =
     let p = err_from_is_err_and c.from_residual-in_err-expect-7.result c.from_residual-in_err-expect-7.ensures.1 in
     rw (p.1, p.2) (eaten m.With c.in_ok-expect.ensures.found (eaten m.Recursive c.in_ok-expect-2.ensures.found (wanted name_in _ c.in_ok-name.ensures.found c.in_ok-name.ensures.rest (eaten m.Open c.in_ok-expect-3.ensures.found (read_on c.in_ok-columns.ensures.found (eaten m.Close c.in_ok-expect-4.ensures.found (eaten m.As c.in_ok-expect-5.ensures.found (eaten m.Open c.in_ok-expect-6.ensures.found (read_on c.in_ok-selects.ensures.found (refused m.Close c.in_err-expect-7.ensures.found))))))))))
 
-pub returns-in_default-clause-found : goal.returns-in_default-clause-found
-returns-in_default-clause-found c = eaten m.With c.in_ok-expect.ensures.found (eaten m.Recursive c.in_ok-expect-2.ensures.found (wanted name_in _ c.in_ok-name.ensures.found c.in_ok-name.ensures.rest (eaten m.Open c.in_ok-expect-3.ensures.found (read_on c.in_ok-columns.ensures.found (eaten m.Close c.in_ok-expect-4.ensures.found (eaten m.As c.in_ok-expect-5.ensures.found (eaten m.Open c.in_ok-expect-6.ensures.found (read_on c.in_ok-selects.ensures.found (eaten m.Close c.in_ok-expect-7.ensures.found (without_it _ _ ?))))))))))
+pub returns-in-None-clause-found : goal.returns-in-None-clause-found
+returns-in-None-clause-found c = eaten m.With c.in_ok-expect.ensures.found (eaten m.Recursive c.in_ok-expect-2.ensures.found (wanted name_in _ c.in_ok-name.ensures.found c.in_ok-name.ensures.rest (eaten m.Open c.in_ok-expect-3.ensures.found (read_on c.in_ok-columns.ensures.found (eaten m.Close c.in_ok-expect-4.ensures.found (eaten m.As c.in_ok-expect-5.ensures.found (eaten m.Open c.in_ok-expect-6.ensures.found (read_on c.in_ok-selects.ensures.found (eaten m.Close c.in_ok-expect-7.ensures.found (without_it _ _ (sym c.parted.ensures ∙ c.in-None.is)))))))))))
 
-pub returns-clause-found : goal.returns-clause-found
-returns-clause-found c = eaten m.With c.in_ok-expect.ensures.found (eaten m.Recursive c.in_ok-expect-2.ensures.found (wanted name_in _ c.in_ok-name.ensures.found c.in_ok-name.ensures.rest (eaten m.Open c.in_ok-expect-3.ensures.found (read_on c.in_ok-columns.ensures.found (eaten m.Close c.in_ok-expect-4.ensures.found (eaten m.As c.in_ok-expect-5.ensures.found (eaten m.Open c.in_ok-expect-6.ensures.found (read_on c.in_ok-selects.ensures.found (eaten m.Close c.in_ok-expect-7.ensures.found (with_it _ _ ? (finished refl)))))))))))
+pub returns-in-Some-clause-found : goal.returns-in-Some-clause-found
+returns-in-Some-clause-found c = eaten m.With c.in_ok-expect.ensures.found (eaten m.Recursive c.in_ok-expect-2.ensures.found (wanted name_in _ c.in_ok-name.ensures.found c.in_ok-name.ensures.rest (eaten m.Open c.in_ok-expect-3.ensures.found (read_on c.in_ok-columns.ensures.found (eaten m.Close c.in_ok-expect-4.ensures.found (eaten m.As c.in_ok-expect-5.ensures.found (eaten m.Open c.in_ok-expect-6.ensures.found (read_on c.in_ok-selects.ensures.found (eaten m.Close c.in_ok-expect-7.ensures.found (with_it _ _ (sym c.parted.ensures ∙ c.in-Some.is) (finished refl)))))))))))
