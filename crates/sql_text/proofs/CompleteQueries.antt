@@ -70,7 +70,7 @@ given_another_select c d stops = reads (c (lit< tt)) (eats (eats (reads (d stops
 pub given_query_of : {ts rest : List Sign} {ss : List Select} → may_join ss ≡ true → Given selects ts ss rest → Given query ts (query_with None ss) rest
 given_query_of h c stops = reads (c stops) (chosen _ h ends)
 
-parted_is : (s : Select) (ss : List Select) (second : Select) → parted (s ∷ (ss ++ second ∷ [])) ≡ Some (s ∷ ss, second)
+pub parted_is : (s : Select) (ss : List Select) (second : Select) → parted (s ∷ (ss ++ second ∷ [])) ≡ Some (s ∷ ss, second)
 parted_is s [] second = refl
 parted_is s (t ∷ ss) second = ap (λ o. put_first s o t) (parted_is t ss second)
 

@@ -2,6 +2,8 @@ pub mod Plans
 pub mod Steps
 pub mod Loops
 pub mod Names
+pub mod Columns
+pub mod Whole
 pub mod Holds
 pub mod SoundExpressions
 pub mod SoundQueries

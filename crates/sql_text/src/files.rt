@@ -66,13 +66,15 @@ fn recursive_of(alloc: Global, tokens: &mut Cursor<'_>) -> Result<Recursive, Ref
     tokens.expect(Mark::Open)?;
     let selects = selects_of(alloc, tokens)?;
     tokens.expect(Mark::Close)?;
-    let (first, second) = parted(selects).ok_or(Refusal::NoTree)?;
-    Ok(Recursive {
-        name,
-        columns,
-        first,
-        second,
-    })
+    match parted(selects) {
+        None => Err(Refusal::NoTree),
+        Some((first, second)) => Ok(Recursive {
+            name,
+            columns,
+            first,
+            second,
+        }),
+    }
 }
 
 /// The first selects and the last one, where there are two.

@@ -1,0 +1,27 @@
+use Rattle.std.proofs.Common.{refl, sym, ◌∙◌, rules, ◌≤◌, arith}
+use Rattle.std.proofs.lemmas.Grind.{common_steps}
+use Rattle.std.proofs.lemmas.Result.{err_from_is_err_and}
+use Rattle.away_core.specs.declared.grammar.Mark.TheVariants as m
+use Rattle.sql_text.specs.Next.{name_in, type_in}
+use Rattle.sql_text.specs.Plans.{no_memory}
+use Rattle.sql_text.proofs.Steps.{finished, failed, eaten, left, looked, overlooked, read_on, read_no, wanted, not_wanted, perhaps_found, perhaps_missed, refused}
+use Rattle.sql_text.proofs.Names.{none_read, other_read, public_read, behind_dot, name_read, name_missing, eaten_or_left, name_there, no_name_there, names_begin, names_more, names_end, names_fail}
+use Rattle.sql_text.proofs.Whole.{chosen, not_chosen, with_it, without_it, parted_last}
+use Rattle.sql_text.proofs.Columns.{ColumnsLead, TablesLead, columns_begin, columns_more, columns_end, columns_fail, tables_begin, tables_more, tables_end, tables_fail}
+use Rattle.sql_text.proofs.schemas.columns_of.Goals as goal
+
+pub returns-in_err-column_of-clause-found : goal.returns-in_err-column_of-clause-found
+returns-in_err-column_of-clause-found c = 
+    let p = err_from_is_err_and c.from_residual.result c.from_residual.ensures.1 in
+    rw (p.1, p.2) (columns_fail _ c.loop-found.invariant.begun c.in_err-column_of.ensures.found)
+
+pub returns-in_err-push-clause-found : goal.returns-in_err-push-clause-found
+returns-in_err-push-clause-found c = 
+    let p = err_from_is_err_and c.from_residual-in_err-push.result c.from_residual-in_err-push.ensures.1 in
+    rw (p.1, p.2) (no_memory)
+
+pub returns-then-not-eat-clause-found : goal.returns-then-not-eat-clause-found
+returns-then-not-eat-clause-found c = rw c.in_ok-push.ensures.ok (columns_end _ c.loop-found.invariant.begun c.in_ok-column_of.ensures.found c.if-not-eat.ensures.no)
+
+pub loop-found-preserved : goal.loop-found-preserved
+loop-found-preserved c = record { begun = rw c.in_ok-push.ensures.ok (columns_more _ c.loop-found.invariant.begun c.in_ok-column_of.ensures.found c.if-not-eat.ensures.yes); shrinks = first_of (search rules, grind (arith, common_steps)) }
