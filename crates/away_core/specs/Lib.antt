@@ -12,6 +12,7 @@ pub mod FunctionFile
 pub mod Signs
 pub mod Grammar
 pub mod FunctionGrammar
+pub mod OutsideWords
 pub mod AlgebraEquations
 pub mod StatementAlgebra
 pub mod Count

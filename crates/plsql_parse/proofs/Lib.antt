@@ -9,3 +9,4 @@ pub mod CompleteBodies
 pub mod CompleteHeaders
 pub mod Complete
 pub mod OneTree
+pub mod OneFile

@@ -1,10 +1,9 @@
 //! What holds of the grammar of functions and of the plans of its readers.
 
-ghost use Rattle.std.specs.Prelude.{◌≡◌, List, [], Some};
-ghost use Rattle.away_core.specs.declared.statements.Stmt.{Stmt};
+ghost use Rattle.std.specs.Prelude.{◌≡◌, ℕ, List, Some};
 ghost use Rattle.away_core.specs.declared.statements.Function.{Function};
 ghost use Rattle.away_core.specs.Signs.{Sign};
-ghost use Rattle.away_core.specs.FunctionGrammar.{Part, PartTree, ReadsPart, body, function};
+ghost use Rattle.away_core.specs.FunctionGrammar.{Part, PartTree, ReadsPart, ReadsFunction};
 ghost use Rattle.sql_text.specs.Plans.{Runs};
 ghost use Rattle.plsql_parse.specs.Sorts.{AnyTree, part};
 ghost use Rattle.plsql_parse.specs.Plans.{any_plan, part_plan};
@@ -26,4 +25,9 @@ pub fn signs_have_one_tree()
         (p : Part) (ts : List Sign) (x y : PartTree p) (rest other : List Sign) → ReadsPart p ts x rest → StopsPart p rest → ReadsPart p ts y other → StopsPart p other
             → (x ≡ y) × (rest ≡ other)
     }
+{}
+
+/// A file reads as one function.
+pub fn a_file_is_one_function()
+    ensures { (z : List ℕ) (f g : Function) → ReadsFunction z f → ReadsFunction z g → f ≡ g }
 {}
