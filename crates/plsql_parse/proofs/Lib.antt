@@ -10,3 +10,5 @@ pub mod CompleteHeaders
 pub mod Complete
 pub mod OneTree
 pub mod OneFile
+pub mod Trying
+pub mod Examples

@@ -3,3 +3,4 @@ pub mod Bodies
 pub mod Headers
 pub mod Plans
 pub mod Stops
+pub mod WorkedSigns

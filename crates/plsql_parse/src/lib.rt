@@ -2,5 +2,12 @@
 #![tactic(auto)]
 
 mod laws;
+mod worked;
 
-pub use laws::{a_file_is_one_function, signs_have_one_tree, what_a_plan_gives_is_read, what_is_read_is_given};
+pub use laws::{
+    a_file_is_one_function, signs_have_one_tree, what_a_plan_gives_is_read, what_is_read_is_given,
+};
+pub use worked::{
+    a_function_with_for_reads, a_function_with_while_reads, end_loop_ends_no_case,
+    every_kind_of_statement_reads,
+};
