@@ -12,3 +12,4 @@ pub mod OneTree
 pub mod OneFile
 pub mod Trying
 pub mod Examples
+pub mod Passing

@@ -1,9 +1,13 @@
 //! What holds of the grammar of functions and of the plans of its readers.
 
-ghost use Rattle.std.specs.Prelude.{◌≡◌, ℕ, List, Some};
+ghost use Rattle.std.specs.Prelude.{◌≡◌, ◌↔◌, ℕ, false, List, ◌∷◌, ◌++◌, Option, Some};
 ghost use Rattle.away_core.specs.declared.statements.Function.{Function};
-ghost use Rattle.away_core.specs.Signs.{Sign};
-ghost use Rattle.away_core.specs.FunctionGrammar.{Part, PartTree, ReadsPart, ReadsFunction};
+ghost use Rattle.away_core.specs.declared.queries.Expr.{Expr};
+ghost use Rattle.away_core.specs.declared.grammar.Level.TheVariants.{Or};
+ghost use Rattle.away_core.specs.declared.grammar.Mark.TheVariants.{Dots, End, Loop};
+ghost use Rattle.away_core.specs.Signs.{Sign, mark};
+ghost use Rattle.away_core.specs.Grammar.{Reads, at};
+ghost use Rattle.away_core.specs.FunctionGrammar.{Part, PartTree, ReadsPart, ReadsFunction, opens_loop, step};
 ghost use Rattle.sql_text.specs.Plans.{Runs};
 ghost use Rattle.plsql_parse.specs.Sorts.{AnyTree, part};
 ghost use Rattle.plsql_parse.specs.Plans.{any_plan, part_plan};
@@ -30,4 +34,21 @@ pub fn signs_have_one_tree()
 /// A file reads as one function.
 pub fn a_file_is_one_function()
     ensures { (z : List ℕ) (f g : Function) → ReadsFunction z f → ReadsFunction z g → f ≡ g }
+{}
+
+/// A loop may open behind WHILE and a condition, unless the condition's last sign is an END.
+pub fn a_condition_ends_with_no_end()
+    ensures {
+        (ts : List Sign) (x : Expr) (rest : List Sign) → Reads (at Or) ts x (mark Loop ∷ rest)
+            → (opens_loop ts ≡ false) ↔ ((before : List Sign) × (ts ≡ before ++ mark End ∷ mark Loop ∷ rest))
+    }
+{}
+
+/// And behind the bounds of FOR and the step, unless the last sign there is an END.
+pub fn a_range_ends_with_no_end()
+    ensures {
+        (ts : List Sign) (first : Expr) (after : List Sign) (last : Expr) (middle : List Sign) (x : Option Expr) (rest : List Sign)
+            → Reads (at Or) ts first (mark Dots ∷ after) → Reads (at Or) after last middle → ReadsPart step middle x (mark Loop ∷ rest)
+            → (opens_loop ts ≡ false) ↔ ((before : List Sign) × (ts ≡ before ++ mark End ∷ mark Loop ∷ rest))
+    }
 {}

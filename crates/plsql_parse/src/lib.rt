@@ -5,7 +5,7 @@ mod laws;
 mod worked;
 
 pub use laws::{
-    a_file_is_one_function, signs_have_one_tree, what_a_plan_gives_is_read, what_is_read_is_given,
+    a_condition_ends_with_no_end, a_file_is_one_function, a_range_ends_with_no_end, signs_have_one_tree, what_a_plan_gives_is_read, what_is_read_is_given,
 };
 pub use worked::{
     a_function_with_for_reads, a_function_with_while_reads, end_loop_ends_no_case,
