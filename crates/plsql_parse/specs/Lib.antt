@@ -4,3 +4,4 @@ pub mod Headers
 pub mod Plans
 pub mod Stops
 pub mod WorkedSigns
+pub mod WorkedTokens

@@ -4,6 +4,7 @@ ghost use Rattle.std.specs.Prelude.{[]};
 ghost use Rattle.away_core.specs.declared.statements.Stmt.{Stmt};
 ghost use Rattle.away_core.specs.FunctionGrammar.{ReadsPart, body, function};
 ghost use Rattle.away_core.specs.WorkedFunctions.{collatz, walk};
+ghost use Rattle.plsql_parse.specs.WorkedTokens.{OutsideWordsFound};
 ghost use Rattle.plsql_parse.specs.WorkedSigns.{collatz_body, collatz_outer, many_signs, many_statements, unpaired_signs, walk_body, walk_outer};
 
 /// The two lists of signs of a function with a WHILE loop and an IF read as its tree.
@@ -24,4 +25,9 @@ pub fn every_kind_of_statement_reads()
 /// A CASE isn't ended by the END of END LOOP.
 pub fn end_loop_ends_no_case()
     ensures { (x : Stmt) → ¬ (ReadsPart body unpaired_signs x []) }
+{}
+
+/// The words outside the profile are found in any case, those of the outer list first, and EXCEPTION only before WHEN.
+pub fn words_outside_are_found()
+    ensures { OutsideWordsFound }
 {}
