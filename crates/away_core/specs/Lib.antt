@@ -13,6 +13,7 @@ pub mod Signs
 pub mod Grammar
 pub mod Printing
 pub mod FunctionGrammar
+pub mod OutsideWords
 pub mod AlgebraEquations
 pub mod StatementAlgebra
 pub mod Count

@@ -9,3 +9,7 @@ pub mod CompleteBodies
 pub mod CompleteHeaders
 pub mod Complete
 pub mod OneTree
+pub mod OneFile
+pub mod Trying
+pub mod Examples
+pub mod Passing

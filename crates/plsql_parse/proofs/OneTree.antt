@@ -1,9 +1,12 @@
 -- The signs of a part have one tree.
-use Rattle.std.proofs.Common.{◌≡◌, List, Option, Some, ap}
+use Rattle.std.proofs.Common.{◌≡◌, List, Option, Some, None, ap}
 use Rattle.away_core.specs.Signs.{Sign}
 use Rattle.away_core.specs.FunctionGrammar.{Part, PartTree, ReadsPart}
+use Rattle.sql_text.specs.Plans.{Runs}
 use Rattle.sql_text.proofs.Plans.{one}
 use Rattle.sql_text.proofs.Holds.{some_same}
+use Rattle.plsql_parse.specs.Sorts.{AnyTree, part}
+use Rattle.plsql_parse.specs.Plans.{any_plan, part_plan}
 use Rattle.plsql_parse.specs.Stops.{StopsPart}
 use Rattle.plsql_parse.proofs.Complete.{complete}
 
@@ -12,3 +15,7 @@ one_tree {x = x} {y = y} {rest = rest} {other = other} d stops e ends =
     let same : Some (x, rest) ≡ Some (y, other) = one (complete e ends) (complete d stops) in
     let pair : (x, rest) ≡ (y, other) = some_same same in
     (ap (λ p. p.0) pair, ap (λ p. p.1) pair)
+
+-- Where the plan gives none, nothing is read that ends there.
+pub nothing_read : {p : Part} {ts : List Sign} {x : PartTree p} {rest : List Sign} → Runs AnyTree any_plan (part p) (part_plan p) ts None → ReadsPart p ts x rest → StopsPart p rest → ⊥
+nothing_read d e stops = let same = one d (complete e stops) in cc same

@@ -3,3 +3,5 @@ pub mod Bodies
 pub mod Headers
 pub mod Plans
 pub mod Stops
+pub mod WorkedSigns
+pub mod WorkedTokens

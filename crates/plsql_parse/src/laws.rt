@@ -1,12 +1,16 @@
 //! What holds of the grammar of functions and of the plans of its readers.
 
-ghost use Rattle.std.specs.Prelude.{◌≡◌, List, [], Some};
-ghost use Rattle.away_core.specs.declared.statements.Stmt.{Stmt};
+ghost use Rattle.std.specs.Prelude.{◌≡◌, ◌↔◌, ℕ, false, List, ◌∷◌, ◌++◌, Option, Some, None};
 ghost use Rattle.away_core.specs.declared.statements.Function.{Function};
-ghost use Rattle.away_core.specs.Signs.{Sign};
-ghost use Rattle.away_core.specs.FunctionGrammar.{Part, PartTree, ReadsPart, body, function};
+ghost use Rattle.away_core.specs.declared.queries.Expr.{Expr};
+ghost use Rattle.away_core.specs.declared.grammar.Level.TheVariants.{Or};
+ghost use Rattle.away_core.specs.declared.grammar.Mark.TheVariants.{Dots, End, Loop};
+ghost use Rattle.away_core.specs.Signs.{Sign, mark};
+ghost use Rattle.away_core.specs.Grammar.{Reads, Sort, Tree, at};
+ghost use Rattle.away_core.specs.FunctionGrammar.{Part, PartTree, ReadsPart, ReadsFunction, opens_loop, step};
 ghost use Rattle.sql_text.specs.Plans.{Runs};
-ghost use Rattle.plsql_parse.specs.Sorts.{AnyTree, part};
+ghost use Rattle.sql_text.specs.Descent.{plan};
+ghost use Rattle.plsql_parse.specs.Sorts.{AnyTree, part, sql};
 ghost use Rattle.plsql_parse.specs.Plans.{any_plan, part_plan};
 ghost use Rattle.plsql_parse.specs.Stops.{StopsPart};
 
@@ -20,10 +24,42 @@ pub fn what_is_read_is_given()
     ensures { (p : Part) (ts : List Sign) (x : PartTree p) (rest : List Sign) → ReadsPart p ts x rest → StopsPart p rest → Runs AnyTree any_plan (part p) (part_plan p) ts (Some (x, rest)) }
 {}
 
+/// Where the part's plan gives no tree, the grammar reads none that ends where the part may end.
+pub fn what_is_not_given_is_not_read()
+    ensures { (p : Part) (ts : List Sign) (x : PartTree p) (rest : List Sign) → Runs AnyTree any_plan (part p) (part_plan p) ts None → ReadsPart p ts x rest → StopsPart p rest → ⊥ }
+{}
+
+/// Among the plans of functions the plan of a sort of SQL gives what it gives in SQL.
+pub fn plans_of_sql_give_the_same()
+    ensures { (n : Sort) (ts : List Sign) (o : Option (Tree n × List Sign)) → Runs Tree plan n (plan n) ts o ↔ Runs AnyTree any_plan (sql n) (any_plan (sql n)) ts o }
+{}
+
 /// The signs of a part have one tree, and the part has one end that ends it.
 pub fn signs_have_one_tree()
     ensures {
         (p : Part) (ts : List Sign) (x y : PartTree p) (rest other : List Sign) → ReadsPart p ts x rest → StopsPart p rest → ReadsPart p ts y other → StopsPart p other
             → (x ≡ y) × (rest ≡ other)
+    }
+{}
+
+/// A file reads as one function.
+pub fn a_file_is_one_function()
+    ensures { (z : List ℕ) (f g : Function) → ReadsFunction z f → ReadsFunction z g → f ≡ g }
+{}
+
+/// A loop may open behind WHILE and a condition, unless the condition's last sign is an END.
+pub fn a_condition_ends_with_no_end()
+    ensures {
+        (ts : List Sign) (x : Expr) (rest : List Sign) → Reads (at Or) ts x (mark Loop ∷ rest)
+            → (opens_loop ts ≡ false) ↔ ((before : List Sign) × (ts ≡ before ++ mark End ∷ mark Loop ∷ rest))
+    }
+{}
+
+/// And behind the bounds of FOR and the step, unless the last sign there is an END.
+pub fn a_range_ends_with_no_end()
+    ensures {
+        (ts : List Sign) (first : Expr) (after : List Sign) (last : Expr) (middle : List Sign) (x : Option Expr) (rest : List Sign)
+            → Reads (at Or) ts first (mark Dots ∷ after) → Reads (at Or) after last middle → ReadsPart step middle x (mark Loop ∷ rest)
+            → (opens_loop ts ≡ false) ↔ ((before : List Sign) × (ts ≡ before ++ mark End ∷ mark Loop ∷ rest))
     }
 {}
