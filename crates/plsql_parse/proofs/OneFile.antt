@@ -1,8 +1,7 @@
 -- A file reads as one function.
-use Rattle.std.proofs.Common.{◌≡◌, ℕ, ◌+◌, true, false, List, [], ◌∷◌, ◌++◌, ◌⊎◌, inl, inr, length, drop, Option, Some, None, refl, sym, ap, ◌∙◌, subst, append_assoc}
+use Rattle.std.proofs.Common.{◌≡◌, ℕ, ◌+◌, true, false, List, [], ◌∷◌, ◌++◌, inl, inr, length, drop, Option, Some, None, refl, sym, ap, ◌∙◌, subst, append_assoc}
 use Rattle.std.proofs.lemmas.List.{append_cancel_left, append_cancel_right}
 use Rattle.std.specs.List.{list_all}
-use Rattle.away_core.specs.declared.statements.Stmt.{Stmt}
 use Rattle.away_core.specs.declared.statements.Function.{Function}
 use Rattle.away_core.specs.Spellings.{goes_on, IsTag, mark_of}
 use Rattle.away_core.specs.Tokens.{Lexeme}

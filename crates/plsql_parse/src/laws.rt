@@ -36,10 +36,8 @@ pub fn plans_of_sql_give_the_same()
 
 /// The signs of a part have one tree, and the part has one end that ends it.
 pub fn signs_have_one_tree()
-    ensures {
-        (p : Part) (ts : List Sign) (x y : PartTree p) (rest other : List Sign) → ReadsPart p ts x rest → StopsPart p rest → ReadsPart p ts y other → StopsPart p other
-            → (x ≡ y) × (rest ≡ other)
-    }
+    ensures { (p : Part) (ts : List Sign) (x y : PartTree p) (rest other : List Sign) → ReadsPart p ts x rest → StopsPart p rest → ReadsPart p ts y other → StopsPart p other
+        → (x ≡ y) × (rest ≡ other) }
 {}
 
 /// A file reads as one function.
@@ -49,17 +47,13 @@ pub fn a_file_is_one_function()
 
 /// A loop may open behind WHILE and a condition, unless the condition's last sign is an END.
 pub fn a_condition_ends_with_no_end()
-    ensures {
-        (ts : List Sign) (x : Expr) (rest : List Sign) → Reads (at Or) ts x (mark Loop ∷ rest)
-            → (opens_loop ts ≡ false) ↔ ((before : List Sign) × (ts ≡ before ++ mark End ∷ mark Loop ∷ rest))
-    }
+    ensures { (ts : List Sign) (x : Expr) (rest : List Sign) → Reads (at Or) ts x (mark Loop ∷ rest)
+        → (opens_loop ts ≡ false) ↔ ((before : List Sign) × (ts ≡ before ++ mark End ∷ mark Loop ∷ rest)) }
 {}
 
 /// And behind the bounds of FOR and the step, unless the last sign there is an END.
 pub fn a_range_ends_with_no_end()
-    ensures {
-        (ts : List Sign) (first : Expr) (after : List Sign) (last : Expr) (middle : List Sign) (x : Option Expr) (rest : List Sign)
-            → Reads (at Or) ts first (mark Dots ∷ after) → Reads (at Or) after last middle → ReadsPart step middle x (mark Loop ∷ rest)
-            → (opens_loop ts ≡ false) ↔ ((before : List Sign) × (ts ≡ before ++ mark End ∷ mark Loop ∷ rest))
-    }
+    ensures { (ts : List Sign) (first : Expr) (after : List Sign) (last : Expr) (middle : List Sign) (x : Option Expr) (rest : List Sign)
+        → Reads (at Or) ts first (mark Dots ∷ after) → Reads (at Or) after last middle → ReadsPart step middle x (mark Loop ∷ rest)
+        → (opens_loop ts ≡ false) ↔ ((before : List Sign) × (ts ≡ before ++ mark End ∷ mark Loop ∷ rest)) }
 {}
