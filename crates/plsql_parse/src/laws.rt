@@ -7,11 +7,13 @@ ghost use Rattle.away_core.specs.declared.grammar.Level.TheVariants.{Or};
 ghost use Rattle.away_core.specs.declared.grammar.Mark.TheVariants.{Dots, End, Loop};
 ghost use Rattle.away_core.specs.Signs.{Sign, mark};
 ghost use Rattle.away_core.specs.Grammar.{Reads, Sort, Tree, at};
+ghost use Rattle.away_core.specs.Tokens.{Lexeme};
+ghost use Rattle.away_core.specs.FunctionFile.{LexesFile};
 ghost use Rattle.away_core.specs.FunctionGrammar.{Part, PartTree, ReadsPart, ReadsFunction, opens_loop, step};
 ghost use Rattle.sql_text.specs.Plans.{Runs};
 ghost use Rattle.sql_text.specs.Descent.{plan};
 ghost use Rattle.plsql_parse.specs.Sorts.{AnyTree, part, sql};
-ghost use Rattle.plsql_parse.specs.Plans.{any_plan, part_plan};
+ghost use Rattle.plsql_parse.specs.Plans.{FileGives, any_plan, part_plan};
 ghost use Rattle.plsql_parse.specs.Stops.{StopsPart};
 
 /// What the plan of a part of a function gives, the grammar reads.
@@ -43,6 +45,11 @@ pub fn signs_have_one_tree()
 /// A file reads as one function.
 pub fn a_file_is_one_function()
     ensures { (z : List ℕ) (f g : Function) → ReadsFunction z f → ReadsFunction z g → f ≡ g }
+{}
+
+/// A file whose tokens are there reads as the function that the plans give of its two lists, where they give one and nothing is left.
+pub fn a_file_reads_as_the_plans_give()
+    ensures { (z : List ℕ) (outer inner : List Lexeme) (f : Function) → LexesFile z outer inner None → ReadsFunction z f ↔ FileGives outer inner f }
 {}
 
 /// A loop may open behind WHILE and a condition, unless the condition's last sign is an END.
