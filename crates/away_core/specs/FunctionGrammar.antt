@@ -285,7 +285,7 @@ pub data ReadsPart : (p : Part) → List Sign → PartTree p → List Sign → T
       → type_named t ≡ Some ty → may_stand found ≡ true
       → ReadsPart signature ts xs (name (codes "returns") ∷ name t ∷ after) → ReadsPart attributes after found (perhaps w (mark m.Semicolon) rest)
       → ReadsPart (function inside) (mark m.Create ∷ or_replace o (name (codes "function") ∷ qualified q (name n ∷ ts)))
-        (record { name = n; strict = list_any makes_strict found; params = xs; result = ty; body = inside }) rest
+      (record { name = n; strict = list_any makes_strict found; params = xs; result = ty; body = inside }) rest
 
 -- What a file's bytes read as: a function, where nothing is left of either list.
 pub record ReadsFunction (z : List ℕ) (f : Function) : Type 0 where

@@ -1,8 +1,8 @@
 -- What a part of a function begins with.
-use Rattle.std.proofs.Common.{◌≡◌, ℕ, ◌<◌, Bool, true, false, List, [], ◌∷◌, Option, Some, None, refl, sym, ap, subst, lit<}
+use Rattle.std.proofs.Common.{◌≡◌, ℕ, ◌<◌, Bool, true, false, List, ◌∷◌, Option, Some, None, refl, sym, ap, subst, lit<}
 use Rattle.away_core.specs.declared.grammar.Mark.{Mark}
 use Rattle.away_core.specs.declared.grammar.Mark.TheVariants as m
-use Rattle.away_core.specs.Signs.{Sign, mark, name, integer, string, parameter, quote}
+use Rattle.away_core.specs.Signs.{Sign, mark, name}
 use Rattle.away_core.specs.Grammar.{mark_binds, StopsAt, perhaps}
 use Rattle.away_core.specs.FunctionGrammar as g
 use Rattle.away_core.specs.FunctionGrammar.{Part, PartTree, ReadsPart, decl, default, statement, elsifs, whens, otherwise, condition, block, repeated, kind, step, parameters, signature, attribute_of, gives_default}

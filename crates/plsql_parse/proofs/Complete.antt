@@ -1,5 +1,5 @@
 -- What the grammar reads and what ends it, the plan gives.
-use Rattle.std.proofs.Common.{List, Some}
+use Rattle.std.proofs.Common.{List}
 use Rattle.away_core.specs.Signs.{Sign}
 use Rattle.away_core.specs.FunctionGrammar as g
 use Rattle.away_core.specs.FunctionGrammar.{Part, PartTree, ReadsPart}

@@ -13,16 +13,15 @@ use Rattle.away_core.specs.declared.statements.LoopKind.TheVariants as k
 use Rattle.away_core.specs.declared.statements.Raised.TheVariants as r
 use Rattle.away_core.specs.declared.statements.Stmt.{Stmt}
 use Rattle.away_core.specs.declared.statements.Stmt.TheVariants as s
-use Rattle.away_core.specs.Signs.{Sign, mark, name, integer, string, parameter, quote}
-use Rattle.away_core.specs.Grammar.{at, Reads, perhaps, not_null, type_named, StopsAt}
-use Rattle.away_core.specs.FunctionGrammar as g
-use Rattle.away_core.specs.FunctionGrammar.{Part, PartTree, decl, decls, default, statement, statements, branch, elsifs, whens, otherwise, condition, block, repeated, kind, step, body, labelled, perhaps_name, either, gives_default, assigns, opens_loop}
-use Rattle.sql_text.specs.Plans.{Begins, done, eat, expect, Runs, ends, takes, eats, leaves, sees, misses, reads}
+use Rattle.away_core.specs.Signs.{Sign, mark, name, string}
+use Rattle.away_core.specs.Grammar.{at, Reads, perhaps, not_null, type_named}
+use Rattle.away_core.specs.FunctionGrammar.{decl, decls, default, statement, statements, branch, elsifs, whens, otherwise, condition, block, repeated, kind, step, body, labelled, perhaps_name, either, gives_default, assigns, opens_loop}
+use Rattle.sql_text.specs.Plans.{Begins, done, eat, expect, ends, takes, eats, leaves, sees, misses, reads}
 use Rattle.sql_text.specs.Next.{name_in, type_in}
 use Rattle.sql_text.proofs.Starts.{starts, cannot_begin}
 use Rattle.sql_text.proofs.CompleteSteps.{other_mark, other_sign}
-use Rattle.plsql_parse.specs.Sorts.{PartPlan, string_in, is_name}
-use Rattle.plsql_parse.specs.Bodies.{next, closes, opens, opens_block, default_plan, default_value, valued_plan, typed_plan, counted_plan, value_plan, elsif_plan, text_plan, raised_plan, raise_plan, left_plan, labelled_plan, outermost_plan, statement_plan}
+use Rattle.plsql_parse.specs.Sorts.{string_in, is_name}
+use Rattle.plsql_parse.specs.Bodies.{next, closes, opens, default_plan, default_value, valued_plan, typed_plan, counted_plan, value_plan, raised_plan, raise_plan, left_plan, labelled_plan, outermost_plan, statement_plan}
 use Rattle.plsql_parse.specs.Stops.{closes_arms}
 use Rattle.plsql_parse.proofs.Beginnings.{Beginning, other_begins, not_next, begins_next, stops_at}
 use Rattle.plsql_parse.proofs.RunSteps.{PartRuns, GivenPart, expression_run, wants, maybe_name_run}

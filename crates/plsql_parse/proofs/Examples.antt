@@ -1,5 +1,5 @@
 -- Worked examples, by computation.
-use Rattle.std.proofs.Common.{◌≡◌, ℕ, List, [], ◌∷◌, Option, Some, None, refl}
+use Rattle.std.proofs.Common.{◌≡◌, ℕ, List, [], Some, None, refl}
 use Rattle.away_core.specs.declared.statements.Stmt.{Stmt}
 use Rattle.away_core.specs.Signs.{Sign, word_mark, symbol_mark}
 use Rattle.away_core.specs.Spellings.{number}

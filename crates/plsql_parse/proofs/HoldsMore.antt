@@ -1,9 +1,9 @@
 -- What has to hold of the steps of the plans of functions.
-use Rattle.std.proofs.Common.{◌≡◌, ℕ, Bool, true, false, List, [], ◌∷◌, Option, Some, None, refl, sym, ap, subst}
+use Rattle.std.proofs.Common.{◌≡◌, ℕ, Bool, true, false, List, [], ◌∷◌, Option, Some, None, refl, sym, subst}
 use Rattle.std.specs.Prelude.{bytes_eq, codes}
 use Rattle.std.proofs.lemmas.Slice.Eq.{bytes_eq-Decides}
 use Rattle.away_core.specs.declared.grammar.Mark.TheVariants as m
-use Rattle.away_core.specs.Signs.{Sign, mark, name, integer, string, parameter, quote}
+use Rattle.away_core.specs.Signs.{Sign, mark, name, integer, string, quote}
 use Rattle.away_core.specs.Grammar.{qualified}
 use Rattle.away_core.specs.FunctionGrammar.{Part, perhaps_name}
 use Rattle.sql_text.specs.Plans.{Plan, done, fail, take, eat, look, read, with}

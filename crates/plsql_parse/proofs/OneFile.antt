@@ -1,8 +1,7 @@
 -- A file reads as one function.
-use Rattle.std.proofs.Common.{◌≡◌, ℕ, ◌+◌, true, false, List, [], ◌∷◌, ◌++◌, ◌⊎◌, inl, inr, length, drop, Option, Some, None, refl, sym, ap, ◌∙◌, subst, append_assoc}
+use Rattle.std.proofs.Common.{◌≡◌, ℕ, ◌+◌, true, false, List, [], ◌∷◌, ◌++◌, inl, inr, length, drop, Option, Some, None, refl, sym, ap, ◌∙◌, subst, append_assoc}
 use Rattle.std.proofs.lemmas.List.{append_cancel_left, append_cancel_right}
 use Rattle.std.specs.List.{list_all}
-use Rattle.away_core.specs.declared.statements.Stmt.{Stmt}
 use Rattle.away_core.specs.declared.statements.Function.{Function}
 use Rattle.away_core.specs.Spellings.{goes_on, IsTag, mark_of}
 use Rattle.away_core.specs.Tokens.{Lexeme}
@@ -11,6 +10,9 @@ use Rattle.away_core.specs.FunctionFile.{IsInside, LexesPart, LexesBody, LexesFi
 use Rattle.away_core.specs.FunctionGrammar.{ReadsPart, ReadsFunction, body, function}
 use Rattle.away_lex.proofs.Runs.{and_left, and_right}
 use Rattle.away_lex.proofs.Reading.{one_list}
+use Rattle.plsql_parse.specs.Plans.{FileGives}
+use Rattle.plsql_parse.proofs.Sound.{sound}
+use Rattle.plsql_parse.proofs.Complete.{complete}
 use Rattle.plsql_parse.proofs.OneTree.{one_tree}
 
 -- ---- the two marks of a dollar quote, and what stands between them
@@ -79,3 +81,16 @@ one_function {g = g} p q =
     let moved : ReadsPart (function p.inside) (all_say p.outer) g [] = subst (λ ts. ReadsPart (function p.inside) (all_say ts) g []) outer placed in
     let functions = one_tree p.reads_function refl moved refl in
     functions.0
+
+-- ---- what the plans give of a file's two lists
+
+pub file_given : {z : List ℕ} {outer inner : List Lexeme} {f : Function} → LexesFile z outer inner None → ReadsFunction z f → FileGives outer inner f
+file_given {outer = outer} {inner = inner} {f = f} l p =
+    let outer_same : p.outer ≡ outer = same_outer p.lexes l in
+    let inner_same : p.inner ≡ inner = same_inner p.lexes l in
+    let inside_read : ReadsPart body (all_say inner) p.inside [] = subst (λ ts. ReadsPart body (all_say ts) p.inside []) inner_same p.reads_body in
+    let all_read : ReadsPart (function p.inside) (all_say outer) f [] = subst (λ ts. ReadsPart (function p.inside) (all_say ts) f []) outer_same p.reads_function in
+    (p.inside, complete inside_read refl, complete all_read refl)
+
+pub file_read : {z : List ℕ} {outer inner : List Lexeme} {f : Function} → LexesFile z outer inner None → FileGives outer inner f → ReadsFunction z f
+file_read {outer = outer} {inner = inner} l p = record { outer = outer; inner = inner; inside = p.0; lexes = l; reads_body = sound p.1; reads_function = sound p.2 }

@@ -1,5 +1,5 @@
 -- The signs of a part have one tree.
-use Rattle.std.proofs.Common.{◌≡◌, List, Option, Some, None, ap}
+use Rattle.std.proofs.Common.{◌≡◌, List, Some, None, ap}
 use Rattle.away_core.specs.Signs.{Sign}
 use Rattle.away_core.specs.FunctionGrammar.{Part, PartTree, ReadsPart}
 use Rattle.sql_text.specs.Plans.{Runs}

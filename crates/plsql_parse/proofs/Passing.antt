@@ -1,5 +1,5 @@
 -- No expression has a LOOP, so the first LOOP behind WHILE is the one that the condition ends at.
-use Rattle.std.proofs.Common.{◌≡◌, ℕ, Bool, true, false, not, List, [], ◌∷◌, ◌++◌, ◌⊎◌, inl, inr, Option, Some, None, refl, sym, ap, ◌∙◌, length, arith, length-append}
+use Rattle.std.proofs.Common.{◌≡◌, ℕ, Bool, true, false, not, List, [], ◌∷◌, ◌++◌, ◌⊎◌, inl, inr, Option, Some, refl, sym, ap, ◌∙◌, length, arith, length-append}
 use Rattle.std.specs.Prelude.{◌↔◌}
 use Rattle.away_core.specs.declared.grammar.Mark.{Mark}
 use Rattle.away_core.specs.declared.grammar.Mark.TheVariants as m
@@ -9,7 +9,7 @@ use Rattle.away_core.specs.declared.operators.ChainOp.{ChainOp}
 use Rattle.away_core.specs.declared.operators.CmpOp.{CmpOp}
 use Rattle.away_core.specs.declared.operators.IsTest.{IsTest}
 use Rattle.away_core.specs.declared.queries.Expr.{Expr}
-use Rattle.away_core.specs.Signs.{Sign, mark, name, integer, string, parameter, quote}
+use Rattle.away_core.specs.Signs.{Sign, mark}
 use Rattle.away_core.specs.Grammar as g
 use Rattle.away_core.specs.Grammar.{Sort, at, Tree, Reads, operator_of, comparison_of, test_of, literal_of, called, perhaps, qualified, not_null}
 use Rattle.away_core.specs.FunctionGrammar as f
@@ -185,8 +185,9 @@ ended : {ts after : List Sign} (rest : List Sign) (behind : Bool) → Passes ts 
 ended rest behind here e h = inl (not_false behind (sym (ap (λ ts. loop_opens ts behind) e) ∙ h), e)
 ended rest behind (past {s = s} {ts = ts} g p) e h =
     elim (ended rest (is_end s) p e (sym (opens_past s ts behind g) ∙ h)) [
-      inl w ↦ inr ([], (let same : s ≡ mark m.End = end_is s w.0 in cc (same, w.1)))
-    | inr w ↦ inr (s ∷ w.0, ap (λ ts. s ∷ ts) w.1) ]
+      | inl w ↦ inr ([], (let same : s ≡ mark m.End = end_is s w.0 in cc (same, w.1)))
+      | inr w ↦ inr (s ∷ w.0, ap (λ ts. s ∷ ts) w.1)
+    ]
 
 -- where an END stands before the first LOOP, none may open
 closed : {ts after : List Sign} (rest : List Sign) (behind : Bool) (before : List Sign) → Passes ts after → after ≡ mark m.Loop ∷ rest → ts ≡ before ++ mark m.End ∷ mark m.Loop ∷ rest → loop_opens ts behind ≡ false

@@ -1,19 +1,18 @@
 -- What the plans of bodies give, the grammar reads.
-use Rattle.std.proofs.Common.{◌≡◌, ℕ, Bool, true, false, List, [], ◌∷◌, Option, Some, None, refl}
+use Rattle.std.proofs.Common.{ℕ, Bool, true, false, List, [], ◌∷◌, Option, Some, None, refl}
 use Rattle.std.specs.Prelude.{codes}
 use Rattle.away_core.specs.declared.grammar.Mark.{Mark}
 use Rattle.away_core.specs.declared.grammar.Mark.TheVariants as m
-use Rattle.away_core.specs.declared.statements.Decl.{Decl}
 use Rattle.away_core.specs.declared.statements.Raised.TheVariants as r
 use Rattle.away_core.specs.declared.statements.Stmt.TheVariants as s
-use Rattle.away_core.specs.Signs.{Sign, mark, name, integer, string, parameter, quote}
+use Rattle.away_core.specs.Signs.{Sign, mark, name}
 use Rattle.away_core.specs.Grammar.{perhaps}
 use Rattle.away_core.specs.FunctionGrammar as g
 use Rattle.away_core.specs.FunctionGrammar.{Part, decl, decls, default, statement, statements, branch, elsifs, whens, otherwise, condition, block, repeated, kind, step, body, labelled}
 use Rattle.sql_text.specs.Plans.{done}
-use Rattle.sql_text.proofs.Holds.{Holds, Nothing, here, name_taken, type_taken}
-use Rattle.plsql_parse.specs.Sorts.{PartPlan, ReadsAny, string_in}
-use Rattle.plsql_parse.specs.Bodies.{default_plan, typed_plan, decl_plan, decls_plan, statement_plan, statements_plan, branch_plan, elsifs_plan, whens_plan, otherwise_plan, condition_plan, begun_plan, block_plan, repeated_plan, counted_plan, kind_plan, step_plan, value_plan, text_plan, raised_plan, left_plan, marked_plan, statement_by, labelled_plan, outermost_plan, body_plan}
+use Rattle.sql_text.proofs.Holds.{Nothing, here, name_taken, type_taken}
+use Rattle.plsql_parse.specs.Sorts.{ReadsAny}
+use Rattle.plsql_parse.specs.Bodies.{default_plan, typed_plan, decl_plan, decls_plan, statement_plan, statements_plan, branch_plan, elsifs_plan, whens_plan, otherwise_plan, condition_plan, block_plan, repeated_plan, counted_plan, kind_plan, step_plan, text_plan, raised_plan, left_plan, marked_plan, statement_by, labelled_plan, outermost_plan, body_plan}
 use Rattle.plsql_parse.proofs.HoldsMore.{PartHolds, beside, maybe_name_holds, eat_word_holds, string_taken}
 
 -- ---- declarations

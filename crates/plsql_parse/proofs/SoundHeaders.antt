@@ -1,14 +1,13 @@
 -- What the plans of what stands around a body give, the grammar reads.
-use Rattle.std.proofs.Common.{◌≡◌, ℕ, Bool, true, false, List, [], ◌∷◌, Option, Some, None, refl, sym, subst}
-use Rattle.std.specs.Prelude.{codes, bytes_eq, if◌then◌else◌}
+use Rattle.std.proofs.Common.{◌≡◌, ℕ, Bool, true, false, List, ◌∷◌, Option, Some, None, refl, sym, subst}
+use Rattle.std.specs.Prelude.{codes, bytes_eq}
 use Rattle.std.proofs.lemmas.Slice.Eq.{bytes_eq-Decides}
 use Rattle.away_core.specs.declared.grammar.Mark.{Mark}
 use Rattle.away_core.specs.declared.grammar.Mark.TheVariants as m
 use Rattle.away_core.specs.declared.grammar.Attribute.{Attribute}
 use Rattle.away_core.specs.declared.grammar.Attribute.TheVariants as attribute
-use Rattle.away_core.specs.declared.types.Ty.{Ty}
 use Rattle.away_core.specs.declared.statements.Stmt.{Stmt}
-use Rattle.away_core.specs.Signs.{Sign, mark, name, integer, string, parameter, quote}
+use Rattle.away_core.specs.Signs.{Sign, mark, name, string}
 use Rattle.away_core.specs.Grammar.{perhaps, qualified}
 use Rattle.away_core.specs.FunctionGrammar as g
 use Rattle.away_core.specs.FunctionGrammar.{Part, ReadsPart, parameters, signature, attribute_of, attributes, function, or_replace, one_word, may_run, may_stand}
@@ -97,11 +96,10 @@ named_holds : (inside : Stmt) (o q : Bool) (n : List ℕ)
 named_holds inside o q n xs =
     eat_word_holds (λ rest. (ts : List Sign) × Nothing ts × ReadsPart signature ts xs rest)
     (λ rest k. mark m.Create ∷ or_replace o (name (codes "function") ∷ qualified q (name n ∷ k.0)))
-    (codes "returns") (returned_plan inside n xs) fail
-    (
+    (codes "returns") (returned_plan inside n xs) fail (
       tt,
       type_taken ReadsAny _ _ _ (λ t ty is found.
-        if_holds ReadsAny _ _ (may_stand found) _ _ (λ h. (λ ts k. g.function_of o q true t is h k.1.2 k.2, λ ts k. g.function_of o q false t is h k.1.2 k.2)) (λ h. tt)),
+          if_holds ReadsAny _ _ (may_stand found) _ _ (λ h. (λ ts k. g.function_of o q true t is h k.1.2 k.2, λ ts k. g.function_of o q false t is h k.1.2 k.2)) (λ h. tt)),
     )
     tt
 

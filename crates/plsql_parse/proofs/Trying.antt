@@ -1,11 +1,11 @@
 -- What comes of a plan, by computation.
-use Rattle.std.proofs.Common.{◌≡◌, ℕ, zero, suc, Bool, true, false, List, [], ◌∷◌, Option, Some, None, refl, sym, ap, subst}
+use Rattle.std.proofs.Common.{◌≡◌, ℕ, zero, suc, Bool, true, false, List, [], ◌∷◌, Option, Some, None, refl, sym, subst}
 use Rattle.std.specs.Prelude.{if◌then◌else◌}
 use denote.Enum.Bare.{sameb, same_true, same_false}
 use Rattle.away_core.specs.contracts.grammar.Mark.{the_type}
 use Rattle.away_core.specs.declared.grammar.Mark.{Mark}
 use Rattle.away_core.specs.Signs.{Sign, mark, name, integer, string, parameter, quote}
-use Rattle.sql_text.specs.Plans.{Plan, done, fail, take, eat, look, read, first, tail, Begins, Runs, ends, fails, takes, eats, leaves, sees, misses, reads, breaks}
+use Rattle.sql_text.specs.Plans.{Plan, done, fail, take, eat, look, read, first, tail, Runs, ends, fails, takes, eats, leaves, sees, misses, reads, breaks}
 use Rattle.sql_text.proofs.Holds.{some_same}
 
 -- what comes of it, or nothing where too many steps were needed

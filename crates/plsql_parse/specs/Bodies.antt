@@ -11,7 +11,7 @@ use Rattle.away_core.specs.declared.statements.Raised.TheVariants as r
 use Rattle.away_core.specs.declared.statements.Stmt.{Stmt}
 use Rattle.away_core.specs.declared.statements.Stmt.TheVariants as s
 use Rattle.away_core.specs.Signs.{Sign, mark, name}
-use Rattle.away_core.specs.FunctionGrammar.{Part, PartTree, decl, decls, default, statement, statements, branch, elsifs, whens, otherwise, condition, block, repeated, kind, step, body, opens_loop}
+use Rattle.away_core.specs.FunctionGrammar.{decl, decls, default, statement, statements, branch, elsifs, whens, otherwise, condition, block, repeated, kind, step, body, opens_loop}
 use Rattle.sql_text.specs.Plans.{done, fail, take, eat, look, read, want, expect}
 use Rattle.plsql_parse.specs.Sorts.{part, PartPlan, expression, a_name, a_type, maybe_name, eat_word, string_in, is_name}
 
@@ -79,19 +79,19 @@ block_plan label = eat m.Declare (read (part decls) (λ ds. expect m.Begin (begu
 abbrev pub repeated_plan : (label : Option (List ℕ)) → PartPlan (repeated label)
 repeated_plan label =
     read (part kind) (λ how. expect m.Loop (read (part statements) (λ ss. expect m.End (expect m.Loop
-      (maybe_name (λ closing. done (s.Loop label how ss closing)))))))
+    (maybe_name (λ closing. done (s.Loop label how ss closing)))))))
 
 -- behind IN, and REVERSE where it is written
 abbrev pub counted_plan : List ℕ → Bool → PartPlan kind
 counted_plan n reverse =
     look opens_loop
-      (expression (λ first. expect m.Dots (expression (λ last. read (part step) (λ x. done (k.Count n reverse first last x))))))
-      fail
+    (expression (λ first. expect m.Dots (expression (λ last. read (part step) (λ x. done (k.Count n reverse first last x))))))
+    fail
 
 abbrev pub kind_plan : PartPlan kind
 kind_plan =
     eat m.While (look opens_loop (expression (λ x. done (k.While x))) fail)
-      (eat m.For (a_name (λ n. expect m.In (eat m.Reverse (counted_plan n true) (counted_plan n false)))) (done k.Plain))
+    (eat m.For (a_name (λ n. expect m.In (eat m.Reverse (counted_plan n true) (counted_plan n false)))) (done k.Plain))
 
 abbrev pub step_plan : PartPlan step
 step_plan = eat m.By (expression (λ x. done (Some x))) (done None)
@@ -124,13 +124,13 @@ condition_plan = eat m.When (expression (λ x. done (Some x))) (done None)
 abbrev pub if_plan : PartPlan statement
 if_plan =
     read (part branch) (λ a. read (part elsifs) (λ more. read (part otherwise) (λ other.
-      expect m.End (expect m.If (expect m.Semicolon (done (s.If (a ∷ more) other)))))))
+    expect m.End (expect m.If (expect m.Semicolon (done (s.If (a ∷ more) other)))))))
 
 -- behind CASE
 abbrev pub cases_plan : PartPlan statement
 cases_plan =
     expect m.When (read (part branch) (λ a. read (part whens) (λ more. read (part otherwise) (λ other.
-      expect m.End (expect m.Case (expect m.Semicolon (done (s.Cases (a ∷ more) other))))))))
+    expect m.End (expect m.Case (expect m.Semicolon (done (s.Cases (a ∷ more) other))))))))
 
 -- behind EXIT or CONTINUE, and the label where it is written
 abbrev pub left_plan : (Option Expr → Stmt) → PartPlan statement
@@ -170,13 +170,13 @@ statement_by _ = fail
 abbrev pub labelled_plan : Option (List ℕ) → PartPlan statement
 labelled_plan label =
     look (next opens_block)
-      (read (part (block label)) (λ x. expect m.Semicolon (done x)))
-      (read (part (repeated label)) (λ x. expect m.Semicolon (done x)))
+    (read (part (block label)) (λ x. expect m.Semicolon (done x)))
+    (read (part (repeated label)) (λ x. expect m.Semicolon (done x)))
 
 abbrev pub statement_plan : PartPlan statement
 statement_plan =
     eat m.LabelOpen (a_name (λ n. expect m.LabelClose (labelled_plan (Some n))))
-      (look (next opens) (labelled_plan None) (take statement_by))
+    (look (next opens) (labelled_plan None) (take statement_by))
 
 abbrev pub statements_plan : PartPlan statements
 statements_plan = look (next closes) (done []) (read (part statement) (λ x. read (part statements) (λ xs. done (x ∷ xs))))

@@ -1,6 +1,11 @@
 -- The plan of each sort.
+use Rattle.std.specs.Prelude.{List, [], Some}
 use Rattle.away_core.specs.FunctionGrammar.{Part, decl, decls, default, statement, statements, branch, elsifs, whens, otherwise, condition, block, repeated, kind, step, body, parameter, parameters, signature, attribute_of, attributes, function}
-use Rattle.sql_text.specs.Plans.{Plan}
+use Rattle.away_core.specs.declared.statements.Stmt.{Stmt}
+use Rattle.away_core.specs.declared.statements.Function.{Function}
+use Rattle.away_core.specs.Signs.{all_say}
+use Rattle.away_core.specs.Tokens.{Lexeme}
+use Rattle.sql_text.specs.Plans.{Plan, Runs}
 use Rattle.sql_text.specs.Descent as descent
 use Rattle.plsql_parse.specs.Sorts.{AnySort, sql, part, AnyTree, PartPlan, lifted}
 use Rattle.plsql_parse.specs.Bodies.{default_plan, decl_plan, decls_plan, statement_plan, statements_plan, branch_plan, elsifs_plan, whens_plan, otherwise_plan, condition_plan, block_plan, repeated_plan, kind_plan, step_plan, body_plan}
@@ -32,3 +37,9 @@ part_plan (function inside) = function_plan inside
 abbrev pub any_plan : (n : AnySort) → Plan AnyTree n
 any_plan (sql n) = lifted (descent.plan n)
 any_plan (part p) = part_plan p
+
+-- what the plans give of a file's two lists, where nothing is left of either
+abbrev pub FileGives : List Lexeme → List Lexeme → Function → Type 0
+FileGives outer inner f =
+    (inside : Stmt) × Runs AnyTree any_plan (part body) body_plan (all_say inner) (Some (inside, []))
+    × Runs AnyTree any_plan (part (function inside)) (function_plan inside) (all_say outer) (Some (f, []))

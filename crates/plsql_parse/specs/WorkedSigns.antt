@@ -1,5 +1,5 @@
 -- The signs of worked functions, token by token.
-use Rattle.std.specs.Prelude.{ℕ, List, [], ◌∷◌, Option, Some, None, codes, pos, true, false}
+use Rattle.std.specs.Prelude.{ℕ, List, [], ◌∷◌, Some, None, codes, pos, true, false}
 use Rattle.away_core.specs.declared.tokens.TokenKind.TheVariants.{Word, Integer, Symbol, Dollar}
 use Rattle.away_core.specs.declared.types.Ty.TheVariants as ty
 use Rattle.away_core.specs.declared.queries.Expr.{Expr}

@@ -7,11 +7,13 @@ ghost use Rattle.away_core.specs.declared.grammar.Level.TheVariants.{Or};
 ghost use Rattle.away_core.specs.declared.grammar.Mark.TheVariants.{Dots, End, Loop};
 ghost use Rattle.away_core.specs.Signs.{Sign, mark};
 ghost use Rattle.away_core.specs.Grammar.{Reads, Sort, Tree, at};
+ghost use Rattle.away_core.specs.Tokens.{Lexeme};
+ghost use Rattle.away_core.specs.FunctionFile.{LexesFile};
 ghost use Rattle.away_core.specs.FunctionGrammar.{Part, PartTree, ReadsPart, ReadsFunction, opens_loop, step};
 ghost use Rattle.sql_text.specs.Plans.{Runs};
 ghost use Rattle.sql_text.specs.Descent.{plan};
 ghost use Rattle.plsql_parse.specs.Sorts.{AnyTree, part, sql};
-ghost use Rattle.plsql_parse.specs.Plans.{any_plan, part_plan};
+ghost use Rattle.plsql_parse.specs.Plans.{FileGives, any_plan, part_plan};
 ghost use Rattle.plsql_parse.specs.Stops.{StopsPart};
 
 /// What the plan of a part of a function gives, the grammar reads.
@@ -36,10 +38,8 @@ pub fn plans_of_sql_give_the_same()
 
 /// The signs of a part have one tree, and the part has one end that ends it.
 pub fn signs_have_one_tree()
-    ensures {
-        (p : Part) (ts : List Sign) (x y : PartTree p) (rest other : List Sign) → ReadsPart p ts x rest → StopsPart p rest → ReadsPart p ts y other → StopsPart p other
-            → (x ≡ y) × (rest ≡ other)
-    }
+    ensures { (p : Part) (ts : List Sign) (x y : PartTree p) (rest other : List Sign) → ReadsPart p ts x rest → StopsPart p rest → ReadsPart p ts y other → StopsPart p other
+        → (x ≡ y) × (rest ≡ other) }
 {}
 
 /// A file reads as one function.
@@ -47,19 +47,20 @@ pub fn a_file_is_one_function()
     ensures { (z : List ℕ) (f g : Function) → ReadsFunction z f → ReadsFunction z g → f ≡ g }
 {}
 
+/// A file whose tokens are there reads as the function that the plans give of its two lists, where they give one and nothing is left.
+pub fn a_file_reads_as_the_plans_give()
+    ensures { (z : List ℕ) (outer inner : List Lexeme) (f : Function) → LexesFile z outer inner None → ReadsFunction z f ↔ FileGives outer inner f }
+{}
+
 /// A loop may open behind WHILE and a condition, unless the condition's last sign is an END.
 pub fn a_condition_ends_with_no_end()
-    ensures {
-        (ts : List Sign) (x : Expr) (rest : List Sign) → Reads (at Or) ts x (mark Loop ∷ rest)
-            → (opens_loop ts ≡ false) ↔ ((before : List Sign) × (ts ≡ before ++ mark End ∷ mark Loop ∷ rest))
-    }
+    ensures { (ts : List Sign) (x : Expr) (rest : List Sign) → Reads (at Or) ts x (mark Loop ∷ rest)
+        → (opens_loop ts ≡ false) ↔ ((before : List Sign) × (ts ≡ before ++ mark End ∷ mark Loop ∷ rest)) }
 {}
 
 /// And behind the bounds of FOR and the step, unless the last sign there is an END.
 pub fn a_range_ends_with_no_end()
-    ensures {
-        (ts : List Sign) (first : Expr) (after : List Sign) (last : Expr) (middle : List Sign) (x : Option Expr) (rest : List Sign)
-            → Reads (at Or) ts first (mark Dots ∷ after) → Reads (at Or) after last middle → ReadsPart step middle x (mark Loop ∷ rest)
-            → (opens_loop ts ≡ false) ↔ ((before : List Sign) × (ts ≡ before ++ mark End ∷ mark Loop ∷ rest))
-    }
+    ensures { (ts : List Sign) (first : Expr) (after : List Sign) (last : Expr) (middle : List Sign) (x : Option Expr) (rest : List Sign)
+        → Reads (at Or) ts first (mark Dots ∷ after) → Reads (at Or) after last middle → ReadsPart step middle x (mark Loop ∷ rest)
+        → (opens_loop ts ≡ false) ↔ ((before : List Sign) × (ts ≡ before ++ mark End ∷ mark Loop ∷ rest)) }
 {}

@@ -5,8 +5,9 @@ mod laws;
 mod worked;
 
 pub use laws::{
-    a_condition_ends_with_no_end, a_file_is_one_function, a_range_ends_with_no_end, plans_of_sql_give_the_same,
-    signs_have_one_tree, what_a_plan_gives_is_read, what_is_not_given_is_not_read, what_is_read_is_given,
+    a_condition_ends_with_no_end, a_file_is_one_function, a_file_reads_as_the_plans_give,
+    a_range_ends_with_no_end, plans_of_sql_give_the_same, signs_have_one_tree,
+    what_a_plan_gives_is_read, what_is_not_given_is_not_read, what_is_read_is_given,
 };
 pub use worked::{
     a_function_with_for_reads, a_function_with_while_reads, end_loop_ends_no_case,
