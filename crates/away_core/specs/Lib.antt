@@ -21,3 +21,4 @@ pub mod BigintSpellings
 pub mod OrderLaws
 pub mod ArithmeticLaws
 pub mod ValueLaws
+pub mod Texts

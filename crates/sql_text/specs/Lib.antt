@@ -3,3 +3,4 @@ pub mod Next
 pub mod Descent
 pub mod Said
 pub mod Qualified
+pub mod Refusals

@@ -7,6 +7,8 @@ mod expressions;
 mod files;
 mod leaves;
 mod laws;
+mod one_tree;
+mod read;
 mod refusal;
 mod schemas;
 mod signs;
@@ -16,6 +18,8 @@ pub use complete_law::what_is_read_is_given;
 pub use cursor::Cursor;
 pub use expressions::expression;
 pub use laws::what_a_plan_gives_is_read;
+pub use one_tree::a_text_reads_as_one_tree;
+pub use read::{read_expr, read_query, read_schema};
 pub use refusal::Refusal;
 pub use signs::Sign;
 
