@@ -24,3 +24,4 @@ pub mod BigintSpellings
 pub mod OrderLaws
 pub mod ArithmeticLaws
 pub mod ValueLaws
+pub mod Texts

@@ -4,6 +4,7 @@ pub mod Loops
 pub mod Names
 pub mod Columns
 pub mod Whole
+pub mod OneTree
 pub mod Holds
 pub mod SoundExpressions
 pub mod SoundQueries

@@ -4,3 +4,4 @@ pub mod Descent
 pub mod Said
 pub mod Qualified
 pub mod Spoken
+pub mod Refusals

@@ -8,6 +8,8 @@ mod files;
 mod leaves;
 mod laws;
 mod print_laws;
+mod one_tree;
+mod read;
 mod refusal;
 mod schemas;
 mod signs;
@@ -20,6 +22,8 @@ pub use laws::what_a_plan_gives_is_read;
 pub use print_laws::{
     printed_expressions_read_back, printed_queries_read_back, printing_reads_back,
 };
+pub use one_tree::a_text_reads_as_one_tree;
+pub use read::{read_expr, read_query, read_schema};
 pub use refusal::Refusal;
 pub use signs::Sign;
 

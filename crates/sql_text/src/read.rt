@@ -1,0 +1,126 @@
+//! The readers of queries, schemas and expressions.
+
+ghost use Rattle.std.specs.Prelude.{◌≡◌, ◌≤◌, ℕ, map, length, IfOk, IfErr, MatchOption};
+ghost use Rattle.away_core.specs.Nesting.{IsNesting};
+ghost use Rattle.away_core.specs.Texts.{IsText, IsExpression, ReadsQuery, ReadsSchema};
+ghost use Rattle.away_core.specs.Tokens.{AreSpelled};
+ghost use Rattle.away_core.specs.declared.queries.Expr.{Expr};
+ghost use Rattle.away_lex.specs.Lexed.{seen};
+ghost use Rattle.sql_text.specs.Refusals.{HasFewTokens, MayBeRead, NoExpression, Refuses, RefusesTokens, most_nesting};
+
+use crate::cursor::Cursor;
+use crate::expressions::expression;
+use crate::files::file_of;
+use crate::refusal::Refusal;
+use crate::schemas::tables_of;
+use away_core::{Expr, Level, Query, Schema};
+use away_lex::{LimitKind, ReadRefusal, Token, TokensRefusal, nesting, tokens};
+use std::alloc::Global;
+
+/// The greatest nesting of tokens that is read.
+const MOST_NESTING: u64 = 256;
+
+/// The query that a whole file is.
+pub fn read_query(alloc: Global, bytes: &[u8]) -> Result<Query, ReadRefusal>
+    requires { length bytes.now ≤ 67108864 }
+    ensures ok { IfOk result (λ query. MayBeRead bytes.now × ReadsQuery bytes.now query) }
+    ensures err { IfErr result (Refuses (ReadsQuery bytes.now) bytes.now) }
+{
+    let list = tokens_of(alloc, bytes)?;
+    let mut left = Cursor::new(list.as_slice(), 0);
+    match file_of(alloc, &mut left) {
+        Ok(query) => {
+            if left.left() == 0 {
+                Ok(query)
+            } else {
+                Err(ReadRefusal::NoTree)
+            }
+        }
+        Err(Refusal::NoTree) => Err(ReadRefusal::NoTree),
+        Err(Refusal::NoMemory) => Err(ReadRefusal::NoMemory),
+    }
+}
+
+/// The schema that a whole file is.
+pub fn read_schema(alloc: Global, bytes: &[u8]) -> Result<Schema, ReadRefusal>
+    requires { length bytes.now ≤ 67108864 }
+    ensures ok { IfOk result (λ schema. MayBeRead bytes.now × ReadsSchema bytes.now schema) }
+    ensures err { IfErr result (Refuses (ReadsSchema bytes.now) bytes.now) }
+{
+    let list = tokens_of(alloc, bytes)?;
+    let mut left = Cursor::new(list.as_slice(), 0);
+    match tables_of(alloc, &mut left) {
+        Ok(tables) => {
+            if left.left() == 0 {
+                Ok(Schema { tables })
+            } else {
+                Err(ReadRefusal::NoTree)
+            }
+        }
+        Err(Refusal::NoTree) => Err(ReadRefusal::NoTree),
+        Err(Refusal::NoMemory) => Err(ReadRefusal::NoMemory),
+    }
+}
+
+/// The expression that begins at this place of a token list, with the place where it ends.
+pub fn read_expr(
+    alloc: Global,
+    list: &[Token<'_>],
+    at: usize,
+) -> Result<(Expr, usize), ReadRefusal>
+    requires within { at ≤ length list.now }
+    requires spelled { AreSpelled (map seen list.now) }
+    requires shallow { (n : ℕ) → IsNesting (map seen list.now) n → n ≤ most_nesting }
+    ensures ok { IfOk result (λ found. IsExpression (map seen list.now) at found.0 found.1) }
+    ensures only { IfOk result (λ found. (x : Expr) (end : ℕ) → IsExpression (map seen list.now) at x end → (x ≡ found.0) × (end ≡ found.1)) }
+    ensures err { IfErr result (NoExpression (map seen list.now) at) }
+{
+    let mut left = Cursor::new(list, at);
+    match expression(alloc, &mut left, Level::Or) {
+        Ok(found) => {
+            if left.continues() {
+                Err(ReadRefusal::NoTree)
+            } else {
+                Ok((found, list.len() - left.left()))
+            }
+        }
+        Err(Refusal::NoTree) => Err(ReadRefusal::NoTree),
+        Err(Refusal::NoMemory) => Err(ReadRefusal::NoMemory),
+    }
+}
+
+/// The tokens of bytes that are a text and nest no deeper than is read.
+fn tokens_of<'a>(alloc: Global, bytes: &'a [u8]) -> Result<Vec<Token<'a>>, ReadRefusal>
+    ensures ok { IfOk result (λ list. HasFewTokens bytes.now (map seen list.items)) }
+    ensures err { IfErr result (RefusesTokens bytes.now) }
+{
+    let Some(text) = text_of(bytes) else {
+        return Err(ReadRefusal::NotText);
+    };
+    match tokens(alloc, text) {
+        Ok(list) => {
+            let found = nesting(list.as_slice());
+            if found > MOST_NESTING {
+                let which = LimitKind::Nesting;
+                Err(ReadRefusal::Limit { which, found })
+            } else {
+                Ok(list)
+            }
+        }
+        Err(TokensRefusal::Bad { offset }) => Err(ReadRefusal::Token { offset }),
+        Err(TokensRefusal::NoMemory) => Err(ReadRefusal::NoMemory),
+    }
+}
+
+/// The bytes as text: UTF-8 without U+0000.
+fn text_of(bytes: &[u8]) -> Option<&str>
+    ensures { MatchOption result (¬ (IsText bytes.now)) (λ text. IsText bytes.now × (text.now ≡ bytes.now)) }
+{
+    if bytes.contains(&0) {
+        return None;
+    }
+    match str::from_utf8(bytes) {
+        Ok(text) => Some(text),
+        Err(_) => None,
+    }
+}
