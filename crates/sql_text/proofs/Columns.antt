@@ -31,7 +31,7 @@ columns_begin old (Some p) d = d
 pub columns_more : {old now middle new : List Sign} {c : ColumnSchema} (found : List ColumnSchema) → ColumnsLead old found now → Gives Tree plan column (plan column) now (Ok c) middle → middle ≡ mark m.Comma ∷ new → ColumnsLead old (found ++ c ∷ []) new
 columns_more {old = old} {new = new} {c = c} found b d e o r =
     subst (λ o. Runs Tree plan columns (plan columns) old o) (behind_both found c o)
-      (b (behind (c ∷ []) o) (reads (run_of d) (subst (λ ts. Runs Tree plan columns (eat m.Comma (read columns (λ cs. done (c ∷ cs))) (done (c ∷ []))) ts (behind (c ∷ []) o)) (sym e) (eats (columns_on o r)))))
+    (b (behind (c ∷ []) o) (reads (run_of d) (subst (λ ts. Runs Tree plan columns (eat m.Comma (read columns (λ cs. done (c ∷ cs))) (done (c ∷ []))) ts (behind (c ∷ []) o)) (sym e) (eats (columns_on o r)))))
 
 pub columns_end : {old now middle new : List Sign} {c : ColumnSchema} (found : List ColumnSchema) → ColumnsLead old found now → Gives Tree plan column (plan column) now (Ok c) middle → (new ≡ middle) × ¬ (Begins middle m.Comma)
     → Gives Tree plan columns (plan columns) old (Ok (found ++ c ∷ [])) new
@@ -68,8 +68,8 @@ table_on : {c d e f new : List Sign} {n : List ℕ} {cs : List ColumnSchema} →
 table_on {n = n} {cs = cs} begun given ended_by closed o r =
     let all = behind (record { name = n; columns = cs } ∷ []) o in
     subst (λ ts. Runs Tree plan tables (held n) ts all) (sym begun)
-      (eats (reads (run_of given) (subst (λ ts. Runs Tree plan tables (ended n cs) ts all) (sym ended_by)
-        (eats (subst (λ ts. Runs Tree plan tables (expect m.Semicolon (read tables (λ more. done (record { name = n; columns = cs } ∷ more)))) ts all) (sym closed) (eats (tables_on o r)))))))
+    (eats (reads (run_of given) (subst (λ ts. Runs Tree plan tables (ended n cs) ts all) (sym ended_by)
+    (eats (subst (λ ts. Runs Tree plan tables (expect m.Semicolon (read tables (λ more. done (record { name = n; columns = cs } ∷ more)))) ts all) (sym closed) (eats (tables_on o r)))))))
 
 pub tables_more : {old now a b c d e f new : List Sign} {n : List ℕ} {cs : List ColumnSchema} (found : List TableSchema) → TablesLead old found now → now ≡ mark m.Create ∷ a → a ≡ mark m.Table ∷ b → NameRead b (Ok n) c → c ≡ mark m.Open ∷ d
     → Gives Tree plan columns (plan columns) d (Ok cs) e → e ≡ mark m.Close ∷ f → f ≡ mark m.Semicolon ∷ new → TablesLead old (found ++ record { name = n; columns = cs } ∷ []) new
@@ -77,9 +77,9 @@ tables_more {old = old} {n = n} {cs = cs} found lead create word called begun gi
     let t : TableSchema = record { name = n; columns = cs } in
     let all = behind (t ∷ []) o in
     subst (λ o. Runs Tree plan tables (plan tables) old o) (behind_both found t o)
-      (lead all (subst (λ ts. Runs Tree plan tables (plan tables) ts all) (sym create)
-        (eats (subst (λ ts. Runs Tree plan tables (expect m.Table (qualified_name held)) ts all) (sym word)
-          (eats (called tables held all (table_on begun given ended_by closed o r)))))))
+    (lead all (subst (λ ts. Runs Tree plan tables (plan tables) ts all) (sym create)
+    (eats (subst (λ ts. Runs Tree plan tables (expect m.Table (qualified_name held)) ts all) (sym word)
+    (eats (called tables held all (table_on begun given ended_by closed o r)))))))
 
 pub tables_end : {old now new : List Sign} {found : List TableSchema} → TablesLead old found now → (new ≡ now) × ¬ (Begins now m.Create) → Gives Tree plan tables (plan tables) old (Ok found) new
 tables_end {old = old} {now = now} {new = new} {found = found} h e =

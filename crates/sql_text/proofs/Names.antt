@@ -1,7 +1,6 @@
 -- Names, one behind the other or behind `public.`.
 use Rattle.std.proofs.Common.{◌≡◌, ℕ, Bool, true, false, if◌then◌else◌, List, [], ◌∷◌, ◌++◌, Option, Some, None, Result, Ok, Err, codes, bytes_eq, refl, sym, ◌∙◌, ap, subst, append_assoc, append-nil}
 use Rattle.std.specs.Bool.{OnTrue, OnFalse}
-
 use Rattle.away_core.specs.declared.grammar.Mark.{Mark}
 use Rattle.away_core.specs.declared.grammar.Mark.TheVariants as m
 use Rattle.away_core.specs.Signs.{Sign, mark}
@@ -55,14 +54,14 @@ pub dotted_read : {old rest after new : List Sign} {n t : List ℕ} → name_in 
     → NameRead old (Ok t) new
 dotted_read {n = n} e q public h w p s f o d =
     named_on (λ n. if bytes_eq n (codes "public") then eat m.Dot (a_name f) (f n) else f n) e q
-      (behind_public n f public (subst (λ ts. Runs Tree plan s (eat m.Dot (a_name f) (f n)) ts o) (sym h) (eats (named_on f w p d))))
+    (behind_public n f public (subst (λ ts. Runs Tree plan s (eat m.Dot (a_name f) (f n)) ts o) (sym h) (eats (named_on f w p d))))
 
 -- no name stands behind `public.`
 dot_alone : (old new : List Sign) {rest after : List Sign} {n : List ℕ} (r : Refusal) → name_in (first old) ≡ Some n → rest ≡ tail old → bytes_eq n (codes "public") ≡ true → rest ≡ mark m.Dot ∷ after → Found (name_in (first after)) (Err r)
     → NameRead old (Err r) new
 dot_alone old new {n = n} NoTree e q public h w = λ s f.
     named_on (λ n. if bytes_eq n (codes "public") then eat m.Dot (a_name f) (f n) else f n) e q
-      (behind_public n f public (subst (λ ts. Runs Tree plan s (eat m.Dot (a_name f) (f n)) ts None) (sym h) (eats (unnamed f w))))
+    (behind_public n f public (subst (λ ts. Runs Tree plan s (eat m.Dot (a_name f) (f n)) ts None) (sym h) (eats (unnamed f w))))
 dot_alone old new NoMemory e q public h w = tt
 
 -- whether a name stands behind `public.` or none
@@ -127,7 +126,7 @@ names_begin old (Some p) d = d
 pub names_more : {old now middle new : List Sign} {n : List ℕ} (found : List (List ℕ)) → NamesLead old found now → name_in (first now) ≡ Some n → middle ≡ tail now → middle ≡ mark m.Comma ∷ new → NamesLead old (found ++ n ∷ []) new
 names_more {old = old} {n = n} found b w q e o r =
     subst (λ o. Runs Tree plan names (plan names) old o) (behind_both found n o)
-      (b (behind (n ∷ []) o) (named_on and_more w q (subst (λ ts. Runs Tree plan names (and_more n) ts (behind (n ∷ []) o)) (sym e) (eats (names_on o r)))))
+    (b (behind (n ∷ []) o) (named_on and_more w q (subst (λ ts. Runs Tree plan names (and_more n) ts (behind (n ∷ []) o)) (sym e) (eats (names_on o r)))))
 
 pub names_end : {old now middle new : List Sign} {n : List ℕ} (found : List (List ℕ)) → NamesLead old found now → name_in (first now) ≡ Some n → middle ≡ tail now → (new ≡ middle) × ¬ (Begins middle m.Comma)
     → Gives Tree plan names (plan names) old (Ok (found ++ n ∷ [])) new

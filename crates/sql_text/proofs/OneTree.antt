@@ -104,14 +104,14 @@ expression_read list begin x new le d s =
     let size : k + length new ≡ length list - begin = sym (length-append front.0 new) ∙ sym (ap length front.1) ∙ said_length list begin in
     let end : begin + k ≡ length list - length new = omega (arith, size, le) in
     let rest : all_say (drop (begin + k) list) ≡ new =
-        ap all_say (sym (drop-drop k begin list)) ∙ sym (drop-map says k (drop begin list)) ∙ ap (drop k) front.1 ∙ drop-append_seam front.0 new in
+    ap all_say (sym (drop-drop k begin list)) ∙ sym (drop-map says k (drop begin list)) ∙ ap (drop k) front.1 ∙ drop-append_seam front.0 new in
     subst (IsExpression list begin x) end
-      (record {
-        forward = omega arith;
-        within = omega (arith, size, le);
-        reads = subst (λ rest. Reads (at l.Or) (all_say (drop begin list)) x rest) (sym rest) (sound run);
-        stops = subst (Stops (at l.Or)) (sym rest) s;
-      })
+    (record {
+      forward = omega arith;
+      within = omega (arith, size, le);
+      reads = subst (λ rest. Reads (at l.Or) (all_say (drop begin list)) x rest) (sym rest) (sound run);
+      stops = subst (Stops (at l.Or)) (sym rest) s;
+    })
 
 -- no expression begins where what is given doesn't stop
 pub none_stops : (list : List Lexeme) (begin : ℕ) (x : Expr) (new : List Sign) → Gives Tree plan (at l.Or) (plan (at l.Or)) (all_say (drop begin list)) (Ok x) new → ¬ (Stops (at l.Or) new) → (y : Expr) (end : ℕ) → ¬ (IsExpression list begin y end)

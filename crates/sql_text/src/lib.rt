@@ -5,9 +5,9 @@ mod complete_law;
 mod cursor;
 mod expressions;
 mod files;
-mod leaves;
 mod laws;
 mod print_laws;
+mod leaves;
 mod one_tree;
 mod read;
 mod refusal;
@@ -27,5 +27,7 @@ pub use read::{read_expr, read_query, read_schema};
 pub use refusal::Refusal;
 pub use signs::Sign;
 
+#[cfg(test)]
+mod read_tests;
 #[cfg(test)]
 mod sign_tests;

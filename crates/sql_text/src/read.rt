@@ -63,11 +63,7 @@ pub fn read_schema(alloc: Global, bytes: &[u8]) -> Result<Schema, ReadRefusal>
 }
 
 /// The expression that begins at this place of a token list, with the place where it ends.
-pub fn read_expr(
-    alloc: Global,
-    list: &[Token<'_>],
-    at: usize,
-) -> Result<(Expr, usize), ReadRefusal>
+pub fn read_expr(alloc: Global, list: &[Token<'_>], at: usize) -> Result<(Expr, usize), ReadRefusal>
     requires within { at ≤ length list.now }
     requires spelled { AreSpelled (map seen list.now) }
     requires shallow { (n : ℕ) → IsNesting (map seen list.now) n → n ≤ most_nesting }

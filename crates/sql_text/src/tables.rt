@@ -49,11 +49,7 @@ pub fn qualified_name(alloc: Global, tokens: &mut Cursor<'_>) -> Result<Name, Re
 }
 
 /// The alias behind a table's name.
-fn aliased_table(
-    alloc: Global,
-    tokens: &mut Cursor<'_>,
-    name: Name,
-) -> Result<FromItem, Refusal>
+fn aliased_table(alloc: Global, tokens: &mut Cursor<'_>, name: Name) -> Result<FromItem, Refusal>
     ensures found { Gives Tree plan from_item (table_plan name) tokens.old result tokens.new }
     ensures shrinks { length tokens.new ≤ length tokens.old }
 {
@@ -83,11 +79,7 @@ pub fn named_subquery(
     tokens.eat(Mark::As);
     let alias = tokens.name(alloc)?;
     if !tokens.eat(Mark::Open) {
-        return Ok(from_with(
-            Source::Sub(query, lateral),
-            alias,
-            Items::new(alloc),
-        ));
+        return Ok(from_with(Source::Sub(query, lateral), alias, Items::new(alloc)));
     }
     let columns = names_of(alloc, tokens)?;
     tokens.expect(Mark::Close)?;

@@ -12,7 +12,7 @@ use Rattle.sql_text.proofs.Columns.{ColumnsLead, TablesLead, columns_begin, colu
 use Rattle.sql_text.proofs.files.file_of.Goals as goal
 
 pub returns-in_err-query-clause-found : goal.returns-in_err-query-clause-found
-returns-in_err-query-clause-found c = 
+returns-in_err-query-clause-found c =
     let p = err_from_is_err_and c.from_residual.result c.from_residual.ensures.1 in
     rw (p.1, p.2) (overlooked (sym c.if-not-sees_with.ensures) (read_no c.in_err-query.ensures.found))
 
@@ -20,12 +20,12 @@ pub returns-then-not-sees_with-clause-found : goal.returns-then-not-sees_with-cl
 returns-then-not-sees_with-clause-found c = overlooked (sym c.if-not-sees_with.ensures) (read_on c.in_ok-query.ensures.found (rw (sym c.into_inner.ensures) c.ended.ensures.found))
 
 pub returns-in_err-recursive-clause-found : goal.returns-in_err-recursive-clause-found
-returns-in_err-recursive-clause-found c = 
+returns-in_err-recursive-clause-found c =
     let p = err_from_is_err_and c.from_residual-in_err-recursive.result c.from_residual-in_err-recursive.ensures.1 in
     rw (p.1, p.2) (looked (sym c.if-not-sees_with.ensures) (read_no c.in_err-recursive.ensures.found))
 
 pub returns-in_err-selects-clause-found : goal.returns-in_err-selects-clause-found
-returns-in_err-selects-clause-found c = 
+returns-in_err-selects-clause-found c =
     let p = err_from_is_err_and c.from_residual-in_err-selects.result c.from_residual-in_err-selects.ensures.1 in
     rw (p.1, p.2) (looked (sym c.if-not-sees_with.ensures) (read_on c.in_ok-recursive.ensures.found (read_no c.in_err-selects.ensures.found)))
 

@@ -11,12 +11,12 @@ use Rattle.sql_text.proofs.Columns.{ColumnsLead, TablesLead, columns_begin, colu
 use Rattle.sql_text.proofs.schemas.columns_of.Goals as goal
 
 pub returns-in_err-column_of-clause-found : goal.returns-in_err-column_of-clause-found
-returns-in_err-column_of-clause-found c = 
+returns-in_err-column_of-clause-found c =
     let p = err_from_is_err_and c.from_residual.result c.from_residual.ensures.1 in
     rw (p.1, p.2) (columns_fail _ c.loop-found.invariant.begun c.in_err-column_of.ensures.found)
 
 pub returns-in_err-push-clause-found : goal.returns-in_err-push-clause-found
-returns-in_err-push-clause-found c = 
+returns-in_err-push-clause-found c =
     let p = err_from_is_err_and c.from_residual-in_err-push.result c.from_residual-in_err-push.ensures.1 in
     rw (p.1, p.2) (no_memory)
 

@@ -9,7 +9,7 @@ use Rattle.sql_text.proofs.Names.{none_read, other_read, public_read, behind_dot
 use Rattle.sql_text.proofs.tables.aliased_table.Goals as goal
 
 pub returns-in_err-alias-clause-found : goal.returns-in_err-alias-clause-found
-returns-in_err-alias-clause-found c = 
+returns-in_err-alias-clause-found c =
     let p = err_from_is_err_and c.from_residual.result c.from_residual.ensures.1 in
     rw (p.1, p.2) (eaten m.As c.if-eat.ensures.yes (not_wanted name_in _ c.in_err-alias.field-0.0 c.in_err-alias.ensures.found))
 
@@ -17,12 +17,12 @@ pub returns-then-eat-clause-found : goal.returns-then-eat-clause-found
 returns-then-eat-clause-found c = rw (c.from_with.ensures, c.new.ensures) (eaten m.As c.if-eat.ensures.yes (wanted name_in _ c.in_ok-alias.ensures.found c.in_ok-alias.ensures.rest (finished refl)))
 
 pub returns-in_err-alias-2-clause-found : goal.returns-in_err-alias-2-clause-found
-returns-in_err-alias-2-clause-found c = 
+returns-in_err-alias-2-clause-found c =
     let p = err_from_is_err_and c.from_residual-in_err-alias-2.result c.from_residual-in_err-alias-2.ensures.1 in
     rw (p.1, p.2) (no_memory)
 
 pub returns-in_err-alias-in-None-clause-found : goal.returns-in_err-alias-in-None-clause-found
-returns-in_err-alias-in-None-clause-found c = 
+returns-in_err-alias-in-None-clause-found c =
     let p = err_from_is_err_and c.from_residual-in_err-alias-in-None.result c.from_residual-in_err-alias-in-None.ensures.1 in
     rw (p.1, p.2) (no_memory)
 

@@ -9,12 +9,12 @@ use Rattle.sql_text.proofs.Names.{none_read, other_read, public_read, behind_dot
 use Rattle.sql_text.proofs.tables.names_of.Goals as goal
 
 pub returns-in_err-name-clause-found : goal.returns-in_err-name-clause-found
-returns-in_err-name-clause-found c = 
+returns-in_err-name-clause-found c =
     let p = err_from_is_err_and c.from_residual.result c.from_residual.ensures.1 in
     rw (p.1, p.2) (names_fail c.in_err-name.field-0.0 _ c.loop-found.invariant.begun c.in_err-name.ensures.found)
 
 pub returns-in_err-push-clause-found : goal.returns-in_err-push-clause-found
-returns-in_err-push-clause-found c = 
+returns-in_err-push-clause-found c =
     let p = err_from_is_err_and c.from_residual-in_err-push.result c.from_residual-in_err-push.ensures.1 in
     rw (p.1, p.2) (no_memory)
 

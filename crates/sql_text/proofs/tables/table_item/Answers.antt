@@ -9,7 +9,7 @@ use Rattle.sql_text.proofs.Names.{none_read, other_read, public_read, behind_dot
 use Rattle.sql_text.proofs.tables.table_item.Goals as goal
 
 pub returns-in_err-name-clause-found : goal.returns-in_err-name-clause-found
-returns-in_err-name-clause-found c = 
+returns-in_err-name-clause-found c =
     let p = err_from_is_err_and c.from_residual.result c.from_residual.ensures.1 in
     rw (p.1, p.2) (name_missing _ _ c.in_err-name.field-0.0 c.in_err-name.ensures.found)
 

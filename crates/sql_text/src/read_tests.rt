@@ -1,0 +1,182 @@
+//! What the readers of queries, schemas and expressions give.
+
+use crate::read::{read_expr, read_query, read_schema};
+use away_core::{Expr, Query, Schema, Ty};
+use away_lex::{LimitKind, ReadRefusal, nesting, tokens};
+use std::alloc::{AllocError, Global};
+use std::test::Fail;
+
+/// What `away compile` writes for the function of the example.
+static WRITTEN: &str =
+    "WITH RECURSIVE away_r(away_go, away_fn, away_c0, away_c1, away_res, away_err) AS (SELECT CAST(TRUE AS boolean), CAST(1 \
+    AS bigint), CAST($1 AS bigint), CAST($2 AS bigint), CAST(NULL AS bigint), CAST(NULL AS text) UNION ALL SELECT \
+    away_s.away_go, away_s.away_fn, away_s.away_c0, away_s.away_c1, away_s.away_res, away_s.away_err FROM away_r, LATERAL \
+    (SELECT CAST(FALSE AS boolean), CAST(0 AS bigint), CAST(NULL AS bigint), CAST(NULL AS bigint), away_k2.away_v, CAST(NULL \
+    AS text) FROM LATERAL (SELECT CAST(TRUE AS boolean) WHERE away_r.away_fn = CAST(1 AS bigint)) AS away_k1(away_v), \
+    LATERAL (SELECT away_r.away_c0 + away_r.away_c1 * CAST(2 AS bigint)) AS away_k2(away_v)) AS away_s(away_go, away_fn, \
+    away_c0, away_c1, away_res, away_err) WHERE away_r.away_go) SELECT away_r.away_res, away_r.away_err FROM away_r WHERE \
+    NOT away_r.away_go";
+
+/// What the text begins with as an expression, and where that ends; `-` where it begins with none.
+fn shown(alloc: Global, text: &str) -> Result<String, AllocError> {
+    let Ok(list) = tokens(alloc, text) else {
+        return Err(AllocError);
+    };
+    if nesting(list.as_slice()) > 256 {
+        return Err(AllocError);
+    }
+    match read_expr(alloc, list.as_slice(), 0) {
+        Ok((tree, end)) => {
+            let kind = kind_of(&tree);
+            format!(in alloc; "{kind} {end}")
+        }
+        Err(ReadRefusal::NoTree) => String::from_str(alloc, "-"),
+        Err(_) => Err(AllocError),
+    }
+}
+
+fn kind_of(tree: &Expr) -> &'static str {
+    match tree {
+        Expr::Chain(_, more) if more.len() == 1 => "chain of 2",
+        Expr::Chain(_, _) => "chain",
+        Expr::Cast(_, Ty::Text) => "cast to text",
+        Expr::Param(1, Ty::Bigint) => "parameter",
+        _ => "other",
+    }
+}
+
+#[test]
+fn expressions(rt: HostRuntime) -> Result<(), Fail> {
+    let rows = [
+        ("a + 1 THEN", "chain of 2 3"),
+        ("a + THEN", "-"),
+        ("a::text::text", "cast to text 5"),
+        ("a::text::text::text", "-"),
+        ("(a::text::text)::text", "cast to text 9"),
+        ("$1::bigint::text::text", "cast to text 7"),
+        ("$1::bigint", "parameter 3"),
+        ("CAST($1 AS bigint)", "parameter 6"),
+        ("a < b < c", "-"),
+        ("a Or b oR c", "chain 5"),
+        ("", "-"),
+    ];
+    for (text, wanted) in rows.iter() {
+        assert_eq!(rt; shown(rt.alloc(), text)?.as_str(), *wanted);
+    }
+    Ok(())
+}
+
+/// What a text is as a query.
+fn query_of(alloc: Global, text: &str) -> Result<&'static str, AllocError> {
+    match read_query(alloc, text.as_bytes()) {
+        Ok(
+            Query {
+                recursive: None,
+                ..
+            },
+        ) => Ok("query"),
+        Ok(
+            Query {
+                recursive: Some(_),
+                ..
+            },
+        ) => Ok("recursive"),
+        Err(ReadRefusal::NotText) => Ok("no text"),
+        Err(ReadRefusal::Token { .. }) => Ok("token"),
+        Err(ReadRefusal::NoTree) => Ok("no tree"),
+        Err(ReadRefusal::Outside { .. }) => Ok("outside"),
+        Err(ReadRefusal::Limit { .. }) => Ok("limit"),
+        Err(ReadRefusal::NoMemory) => Err(AllocError),
+    }
+}
+
+#[test]
+fn queries(rt: HostRuntime) -> Result<(), Fail> {
+    let rows = [
+        ("", "no tree"),
+        ("SELECT 1", "query"),
+        ("sELECT 1 aS one;", "query"),
+        ("SELECT 1;;", "no tree"),
+        ("SELECT 1; SELECT 2", "no tree"),
+        ("SELECT 1 ?", "token"),
+        ("SELECT '\u{0}'", "no text"),
+        (
+            "SELECT a FROM public.t AS u WHERE a > 1 ORDER BY a LIMIT 1",
+            "query",
+        ),
+        ("SELECT 1 LIMIT 1 UNION ALL SELECT 2", "no tree"),
+        (
+            "WITH RECURSIVE r(n) AS (SELECT 1 UNION ALL SELECT n + 1 FROM r WHERE n < 9) SELECT n FROM r;",
+            "recursive",
+        ),
+        (
+            "WITH RECURSIVE r(n) AS (SELECT 1) SELECT n FROM r",
+            "no tree",
+        ),
+        (WRITTEN, "recursive"),
+    ];
+    for (text, wanted) in rows.iter() {
+        assert_eq!(rt; query_of(rt.alloc(), text)?, *wanted);
+    }
+    Ok(())
+}
+
+/// So many pairs of parentheses round a number.
+fn nested(alloc: Global, depth: usize) -> Result<String, AllocError> {
+    let mut text = String::from_str(alloc, "SELECT ")?;
+    for _pair in 0..depth {
+        text.push_str("(")?;
+    }
+    text.push_str("1")?;
+    for _pair in 0..depth {
+        text.push_str(")")?;
+    }
+    Ok(text)
+}
+
+#[test]
+fn parentheses_nest_at_most_256_deep(rt: HostRuntime) -> Result<(), Fail> {
+    let deep = nested(rt.alloc(), 256)?;
+    assert!(rt; read_query(rt.alloc(), deep.as_bytes()).is_ok());
+    let deeper = nested(rt.alloc(), 257)?;
+    assert!(rt;
+        matches!(
+            read_query(rt.alloc(), deeper.as_bytes()),
+            Err(ReadRefusal::Limit {
+                which: LimitKind::Nesting,
+                found: 257
+            })
+        )
+    );
+    Ok(())
+}
+
+#[test]
+fn schemas(rt: HostRuntime) -> Result<(), Fail> {
+    let text =
+        "--\n-- Name: route; Type: TABLE; Schema: public\n--\n\nCREATE TABLE public.route (\n    src bigint NOT NULL,\n    dst bigint NOT NULL,\n    cost bigint\n);\n";
+    match read_schema(rt.alloc(), text.as_bytes()) {
+        Ok(Schema { tables }) => {
+            assert_eq!(rt; tables.len(), 1);
+            for table in tables.as_slice().iter() {
+                assert_eq!(rt; table.name.text(), "route");
+                assert_eq!(rt; table.columns.len(), 3);
+                for column in table.columns.as_slice().iter() {
+                    assert_eq!(rt; column.not_null, column.name.text() != "cost");
+                }
+            }
+        }
+        Err(_) => assert!(rt; false),
+    }
+    match read_schema(rt.alloc(), b"") {
+        Ok(Schema { tables }) => assert!(rt; tables.is_empty()),
+        Err(_) => assert!(rt; false),
+    }
+    assert!(rt;
+        matches!(
+            read_schema(rt.alloc(), b"CREATE TABLE t (a bigint)"),
+            Err(ReadRefusal::NoTree)
+        )
+    );
+    Ok(())
+}
