@@ -30,4 +30,6 @@ pub use signs::Sign;
 #[cfg(test)]
 mod read_tests;
 #[cfg(test)]
+mod production_tests;
+#[cfg(test)]
 mod sign_tests;
