@@ -1,19 +1,17 @@
 -- What a plan gave is what the text reads as, and no text reads as two trees.
-use Rattle.std.proofs.Common.{◌≡◌, ◌≤◌, ℕ, ◌+◌, ◌-◌, List, [], ◌∷◌, ◌++◌, length, drop, map, Option, Some, None, Result, Ok, Err, refl, sym, ◌∙◌, ap, subst, arith, append_assoc}
+use Rattle.std.proofs.Common.{◌≡◌, ◌≤◌, ℕ, ◌+◌, ◌-◌, List, [], ◌∷◌, ◌++◌, length, drop, Option, Some, None, Ok, Err, refl, sym, ◌∙◌, ap, subst, arith, append_assoc}
 use Rattle.std.proofs.lemmas.List.{drop-drop, drop-map, length-map, length-append, length-drop}
 use Rattle.std.proofs.Math.Seq.{drop-append_seam}
 use Rattle.away_core.specs.declared.grammar.Level.TheVariants as l
 use Rattle.away_core.specs.declared.queries.Expr.{Expr}
-use Rattle.away_core.specs.declared.queries.Query.{Query}
-use Rattle.away_core.specs.declared.schemas.Schema.{Schema}
-use Rattle.away_core.specs.Grammar.{Sort, at, file, tables, Tree, Reads, Stops}
+use Rattle.away_core.specs.Grammar.{Sort, at, Tree, Reads, Stops}
 use Rattle.away_core.specs.Signs.{Sign, says, all_say}
-use Rattle.away_core.specs.Texts.{IsExpression, ReadsQuery, ReadsSchema}
+use Rattle.away_core.specs.Texts.{IsExpression}
 use Rattle.away_core.specs.Tokens.{Lexeme, Lexes}
 use Rattle.away_lex.proofs.Reading.{one_list}
 use Rattle.sql_text.specs.declared.refusal.Refusal.TheVariants.{NoTree}
 use Rattle.sql_text.specs.Descent.{plan}
-use Rattle.sql_text.specs.Plans.{Plan, tail, Runs, ends, fails, takes, eats, leaves, sees, misses, reads, breaks, Gives, tree, no_tree, no_memory}
+use Rattle.sql_text.specs.Plans.{Plan, tail, Runs, ends, fails, takes, eats, leaves, sees, misses, reads, breaks, Gives, no_tree}
 use Rattle.sql_text.proofs.Complete.{complete}
 use Rattle.sql_text.proofs.Plans.{one}
 use Rattle.sql_text.proofs.Sound.{sound}

@@ -1,5 +1,5 @@
 -- Whole files.
-use Rattle.std.proofs.Common.{◌≡◌, Bool, true, false, if◌then◌else◌, List, [], ◌∷◌, ◌++◌, Option, Some, None, Result, Ok, Err, refl, sym, subst}
+use Rattle.std.proofs.Common.{◌≡◌, Bool, true, false, if◌then◌else◌, List, [], ◌∷◌, ◌++◌, Option, Some, None, Result, Err, refl, sym, subst}
 use Rattle.away_core.specs.declared.queries.Select.{Select}
 use Rattle.away_core.specs.Signs.{Sign}
 use Rattle.away_core.specs.Grammar.{Sort, Tree}

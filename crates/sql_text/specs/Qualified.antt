@@ -1,5 +1,5 @@
 -- A name that may stand behind `public.`.
-use Rattle.std.specs.Prelude.{ℕ, List, Option, Some, None, Result, Ok, Err}
+use Rattle.std.specs.Prelude.{ℕ, List, Option, None, Result, Ok, Err}
 use Rattle.away_core.specs.Signs.{Sign}
 use Rattle.away_core.specs.Grammar.{Sort, Tree}
 use Rattle.sql_text.specs.Plans.{Plan, Runs}

@@ -1,5 +1,5 @@
 -- When the public readers give a tree, and what each of their refusals says.
-use Rattle.std.specs.Prelude.{◌≡◌, ◌≤◌, ◌<◌, ℕ, List, Option, Some, None}
+use Rattle.std.specs.Prelude.{◌≡◌, ◌≤◌, ◌<◌, ℕ, List, Some, None}
 use Rattle.away_core.specs.declared.queries.Expr.{Expr}
 use Rattle.away_core.specs.Tokens.{Lexeme, Lexes}
 use Rattle.away_core.specs.Nesting.{IsNesting}

@@ -1,13 +1,9 @@
-use Rattle.std.proofs.Common.{refl, sym, ◌∙◌, rules, ◌≤◌, arith}
-use Rattle.std.proofs.lemmas.Grind.{common_steps}
+use Rattle.std.proofs.Common.{refl, sym, ◌∙◌}
 use Rattle.std.proofs.lemmas.Result.{err_from_is_err_and}
 use Rattle.away_core.specs.declared.grammar.Mark.TheVariants as m
-use Rattle.sql_text.specs.Next.{name_in, type_in}
-use Rattle.sql_text.specs.Plans.{no_memory}
-use Rattle.sql_text.proofs.Steps.{finished, failed, eaten, left, looked, overlooked, read_on, read_no, wanted, not_wanted, perhaps_found, perhaps_missed, refused}
-use Rattle.sql_text.proofs.Names.{none_read, other_read, public_read, behind_dot, name_read, name_missing, eaten_or_left, name_there, no_name_there, names_begin, names_more, names_end, names_fail}
-use Rattle.sql_text.proofs.Whole.{chosen, not_chosen, with_it, without_it, parted_last}
-use Rattle.sql_text.proofs.Columns.{ColumnsLead, TablesLead, columns_begin, columns_more, columns_end, columns_fail, tables_begin, tables_more, tables_end, tables_fail}
+use Rattle.sql_text.specs.Next.{name_in}
+use Rattle.sql_text.proofs.Steps.{finished, eaten, read_on, read_no, wanted, not_wanted, refused}
+use Rattle.sql_text.proofs.Whole.{with_it, without_it}
 use Rattle.sql_text.proofs.files.recursive_of.Goals as goal
 
 pub returns-in_err-expect-clause-found : goal.returns-in_err-expect-clause-found

@@ -1,11 +1,10 @@
-use Rattle.std.proofs.Common.{◌≡◌, List, [], length, map, drop, subst, sym, ◌∙◌, ap, arith}
-use Rattle.std.proofs.lemmas.Bool.{OnTrue_at, OnFalse_at}
-use Rattle.away_core.specs.Grammar.{file, tables}
+use Rattle.std.proofs.Common.{[], map, subst, sym, ◌∙◌, ap, arith}
+use Rattle.away_core.specs.Grammar.{tables}
 use Rattle.away_core.specs.Signs.{all_say}
 use Rattle.away_core.specs.Tokens.{AreSpelled}
 use Rattle.away_lex.proofs.Reading.{are_spelled}
 use Rattle.away_lex.specs.Lexed.{seen}
-use Rattle.sql_text.proofs.OneTree.{all_read, not_all_read, none_read, no_tree_of, expression_read, none_stops, none_begins, one_expression}
+use Rattle.sql_text.proofs.OneTree.{all_read, not_all_read, none_read, no_tree_of}
 use Rattle.sql_text.proofs.Steps.{moved}
 use Rattle.sql_text.proofs.read.read_schema.Goals as goal
 

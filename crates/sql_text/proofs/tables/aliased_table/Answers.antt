@@ -1,11 +1,10 @@
-use Rattle.std.proofs.Common.{refl, sym, ◌∙◌, rules, ◌≤◌, arith}
-use Rattle.std.proofs.lemmas.Grind.{common_steps}
+use Rattle.std.proofs.Common.{refl}
 use Rattle.std.proofs.lemmas.Result.{err_from_is_err_and}
 use Rattle.away_core.specs.declared.grammar.Mark.TheVariants as m
-use Rattle.sql_text.specs.Next.{name_in, type_in}
+use Rattle.sql_text.specs.Next.{name_in}
 use Rattle.sql_text.specs.Plans.{no_memory}
-use Rattle.sql_text.proofs.Steps.{finished, failed, eaten, left, looked, overlooked, read_on, read_no, wanted, not_wanted, perhaps_found, perhaps_missed, refused}
-use Rattle.sql_text.proofs.Names.{none_read, other_read, public_read, behind_dot, name_read, name_missing, eaten_or_left, name_there, no_name_there, names_begin, names_more, names_end, names_fail}
+use Rattle.sql_text.proofs.Steps.{finished, eaten, left, wanted, not_wanted}
+use Rattle.sql_text.proofs.Names.{name_there, no_name_there}
 use Rattle.sql_text.proofs.tables.aliased_table.Goals as goal
 
 pub returns-in_err-alias-clause-found : goal.returns-in_err-alias-clause-found

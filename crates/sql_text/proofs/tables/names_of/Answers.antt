@@ -1,11 +1,8 @@
-use Rattle.std.proofs.Common.{refl, sym, ◌∙◌, rules, ◌≤◌, arith}
+use Rattle.std.proofs.Common.{rules, arith}
 use Rattle.std.proofs.lemmas.Grind.{common_steps}
 use Rattle.std.proofs.lemmas.Result.{err_from_is_err_and}
-use Rattle.away_core.specs.declared.grammar.Mark.TheVariants as m
-use Rattle.sql_text.specs.Next.{name_in}
 use Rattle.sql_text.specs.Plans.{no_memory}
-use Rattle.sql_text.proofs.Steps.{finished, eaten, left, read_on, read_no, wanted, not_wanted, perhaps_found, perhaps_missed, refused}
-use Rattle.sql_text.proofs.Names.{none_read, other_read, public_read, behind_dot, name_read, name_missing, names_begin, names_more, names_end, names_fail}
+use Rattle.sql_text.proofs.Names.{names_more, names_end, names_fail}
 use Rattle.sql_text.proofs.tables.names_of.Goals as goal
 
 pub returns-in_err-name-clause-found : goal.returns-in_err-name-clause-found
