@@ -54,7 +54,7 @@ list_begins old (Some p) d = d
 pub list_more : {old now middle new : List Sign} {x : Expr} (found : List Expr) → ListLeads old found now → Gives Tree plan (at l.Or) (plan (at l.Or)) now (Ok x) middle → middle ≡ mark m.Comma ∷ new → ListLeads old (found ++ x ∷ []) new
 list_more {old = old} {new = new} {x = x} found b d e o r =
     subst (λ o. Runs Tree plan list (plan list) old o) (behind_both found x o)
-      (b (behind (x ∷ []) o) (reads (run_of d) (subst (λ ts. Runs Tree plan list (eat m.Comma (read list (λ xs. done (x ∷ xs))) (done (x ∷ []))) ts (behind (x ∷ []) o)) (sym e) (eats (list_on o r)))))
+    (b (behind (x ∷ []) o) (reads (run_of d) (subst (λ ts. Runs Tree plan list (eat m.Comma (read list (λ xs. done (x ∷ xs))) (done (x ∷ []))) ts (behind (x ∷ []) o)) (sym e) (eats (list_on o r)))))
 
 pub list_ends : {old now middle new : List Sign} {x : Expr} (found : List Expr) → ListLeads old found now → Gives Tree plan (at l.Or) (plan (at l.Or)) now (Ok x) middle → (new ≡ middle) × ¬ (Begins middle m.Comma)
     → Gives Tree plan list (plan list) old (Ok (found ++ x ∷ [])) new
@@ -79,10 +79,10 @@ pub arms_more : {old now a b c new : List Sign} {test value : Expr} (found : Lis
     → Gives Tree plan (at l.Or) (plan (at l.Or)) c (Ok value) new → ArmsLead old (found ++ (test, value) ∷ []) new
 arms_more {old = old} {b = b} {c = c} {new = new} {test = test} {value = value} found h w t e v o r =
     subst (λ o. Runs Tree plan arms (plan arms) old o) (behind_both found (test, value) o)
-      (h (behind ((test, value) ∷ []) o)
-        (subst (λ ts. Runs Tree plan arms (plan arms) ts (behind ((test, value) ∷ []) o)) (sym w)
-          (eats (reads (run_of t) (subst (λ ts. Runs Tree plan arms (expect m.Then (read (at l.Or) (λ value. read arms (λ more. done ((test, value) ∷ more))))) ts (behind ((test, value) ∷ []) o)) (sym e)
-            (eats (reads (run_of v) (arms_on o r))))))))
+    (h (behind ((test, value) ∷ []) o)
+    (subst (λ ts. Runs Tree plan arms (plan arms) ts (behind ((test, value) ∷ []) o)) (sym w)
+    (eats (reads (run_of t) (subst (λ ts. Runs Tree plan arms (expect m.Then (read (at l.Or) (λ value. read arms (λ more. done ((test, value) ∷ more))))) ts (behind ((test, value) ∷ []) o)) (sym e)
+    (eats (reads (run_of v) (arms_on o r))))))))
 
 pub arms_end : {old now new : List Sign} {found : List (Expr × Expr)} → ArmsLead old found now → (new ≡ now) × ¬ (Begins now m.When) → Gives Tree plan arms (plan arms) old (Ok found) new
 arms_end {old = old} {now = now} {new = new} {found = found} h e =
@@ -118,8 +118,8 @@ link_runs : {level inner : Level} {now after new : List Sign} {o : ChainOp} {x :
     → (given : Option (List (ChainOp × Expr) × List Sign)) → Runs Tree plan (links level) (plan (links level)) new given → Runs Tree plan (links level) (plan (links level)) now (behind ((o, x) ∷ []) given)
 link_runs {level = level} {now = now} {new = new} {o = o} {x = x} f q e d given r =
     sees (ap is_some (sym f))
-      (takes (subst (λ found. Runs Tree plan (links level) (with (λ o. read (at (operands level)) (λ x. read (links level) (λ xs. done ((o, x) ∷ xs)))) found) (tail now) (behind ((o, x) ∷ []) given)) f
-        (reads (subst (λ ts. Runs Tree plan (at (operands level)) (plan (at (operands level))) ts (Some (x, new))) q (run_of (at_level e d))) (links_on given r))))
+    (takes (subst (λ found. Runs Tree plan (links level) (with (λ o. read (at (operands level)) (λ x. read (links level) (λ xs. done ((o, x) ∷ xs)))) found) (tail now) (behind ((o, x) ∷ []) given)) f
+    (reads (subst (λ ts. Runs Tree plan (at (operands level)) (plan (at (operands level))) ts (Some (x, new))) q (run_of (at_level e d))) (links_on given r))))
 
 pub links_more : {level inner : Level} {old now after new : List Sign} {x : Expr} {o : ChainOp} (first_one : Expr) (found : List (ChainOp × Expr)) → LinksLead level old first_one found now → Some o ≡ operator_in level (first now) → after ≡ tail now
     → inner ≡ operands level → Gives Tree plan (at inner) (plan (at inner)) after (Ok x) new → LinksLead level old first_one (found ++ (o, x) ∷ []) new
@@ -131,13 +131,13 @@ pub links_fail : {level inner : Level} {old now after new other : List Sign} {o 
 links_fail first_one found b f q e no_memory = no_memory
 links_fail {level = level} {now = now} {after = after} first_one found b f q e (no_tree d) =
     no_tree (b None (sees (ap is_some (sym f)) (takes (subst (λ found. Runs Tree plan (links level) (with (λ o. read (at (operands level)) (λ x. read (links level) (λ xs. done ((o, x) ∷ xs)))) found) (tail now) None) f
-      (breaks (subst (λ ts. Runs Tree plan (at (operands level)) (plan (at (operands level))) ts None) q (subst (λ a. Runs Tree plan (at a) (plan (at a)) after None) e d)))))))
+    (breaks (subst (λ ts. Runs Tree plan (at (operands level)) (plan (at (operands level))) ts None) q (subst (λ a. Runs Tree plan (at a) (plan (at a)) after None) e d)))))))
 
 pub links_end : {level : Level} {old now new : List Sign} (first_one : Expr) (found : List (ChainOp × Expr)) → LinksLead level old first_one found now → None ≡ operator_in level (first now) → new ≡ now
     → Gives Tree plan (at level) (chain_plan level) old (Ok (chained first_one found)) new
 links_end {level = level} {old = old} {now = now} {new = new} first_one found b f e =
     subst (λ xs. Gives Tree plan (at level) (chain_plan level) old (Ok (chained first_one xs)) new) (append-nil found)
-      (tree (b (Some ([], new)) (misses (ap is_some (sym f)) (subst (λ ts. Runs Tree plan (links level) (done []) now (Some ([], ts))) (sym e) ends))))
+    (tree (b (Some ([], new)) (misses (ap is_some (sym f)) (subst (λ ts. Runs Tree plan (links level) (done []) now (Some ([], ts))) (sym e) ends))))
 
 -- ---- levels
 
@@ -166,7 +166,7 @@ items_on (Some p) d = reads d ends
 pub items_more : {old now middle new : List Sign} {x : Item} (found : List Item) → ItemsLead old found now → Gives Tree plan item (plan item) now (Ok x) middle → middle ≡ mark m.Comma ∷ new → ItemsLead old (found ++ x ∷ []) new
 items_more {old = old} {new = new} {x = x} found b d e o r =
     subst (λ o. Runs Tree plan items (plan items) old o) (behind_both found x o)
-      (b (behind (x ∷ []) o) (reads (run_of d) (subst (λ ts. Runs Tree plan items (eat m.Comma (read items (λ xs. done (x ∷ xs))) (done (x ∷ []))) ts (behind (x ∷ []) o)) (sym e) (eats (items_on o r)))))
+    (b (behind (x ∷ []) o) (reads (run_of d) (subst (λ ts. Runs Tree plan items (eat m.Comma (read items (λ xs. done (x ∷ xs))) (done (x ∷ []))) ts (behind (x ∷ []) o)) (sym e) (eats (items_on o r)))))
 
 pub items_end : {old now middle new : List Sign} {x : Item} (found : List Item) → ItemsLead old found now → Gives Tree plan item (plan item) now (Ok x) middle → (new ≡ middle) × ¬ (Begins middle m.Comma)
     → Gives Tree plan items (plan items) old (Ok (found ++ x ∷ [])) new
@@ -184,7 +184,7 @@ from_on (Some p) d = reads d ends
 pub from_more : {old now middle new : List Sign} {x : FromItem} (found : List FromItem) → FromLead old found now → Gives Tree plan from_item (plan from_item) now (Ok x) middle → middle ≡ mark m.Comma ∷ new → FromLead old (found ++ x ∷ []) new
 from_more {old = old} {new = new} {x = x} found b d e o r =
     subst (λ o. Runs Tree plan from_items (plan from_items) old o) (behind_both found x o)
-      (b (behind (x ∷ []) o) (reads (run_of d) (subst (λ ts. Runs Tree plan from_items (eat m.Comma (read from_items (λ xs. done (x ∷ xs))) (done (x ∷ []))) ts (behind (x ∷ []) o)) (sym e) (eats (from_on o r)))))
+    (b (behind (x ∷ []) o) (reads (run_of d) (subst (λ ts. Runs Tree plan from_items (eat m.Comma (read from_items (λ xs. done (x ∷ xs))) (done (x ∷ []))) ts (behind (x ∷ []) o)) (sym e) (eats (from_on o r)))))
 
 pub from_end : {old now middle new : List Sign} {x : FromItem} (found : List FromItem) → FromLead old found now → Gives Tree plan from_item (plan from_item) now (Ok x) middle → (new ≡ middle) × ¬ (Begins middle m.Comma)
     → Gives Tree plan from_items (plan from_items) old (Ok (found ++ x ∷ [])) new
@@ -202,7 +202,7 @@ keys_on (Some p) d = reads d ends
 pub keys_more : {old now middle new : List Sign} {x : Key} (found : List Key) → KeysLead old found now → Gives Tree plan key (plan key) now (Ok x) middle → middle ≡ mark m.Comma ∷ new → KeysLead old (found ++ x ∷ []) new
 keys_more {old = old} {new = new} {x = x} found b d e o r =
     subst (λ o. Runs Tree plan keys (plan keys) old o) (behind_both found x o)
-      (b (behind (x ∷ []) o) (reads (run_of d) (subst (λ ts. Runs Tree plan keys (eat m.Comma (read keys (λ xs. done (x ∷ xs))) (done (x ∷ []))) ts (behind (x ∷ []) o)) (sym e) (eats (keys_on o r)))))
+    (b (behind (x ∷ []) o) (reads (run_of d) (subst (λ ts. Runs Tree plan keys (eat m.Comma (read keys (λ xs. done (x ∷ xs))) (done (x ∷ []))) ts (behind (x ∷ []) o)) (sym e) (eats (keys_on o r)))))
 
 pub keys_end : {old now middle new : List Sign} {x : Key} (found : List Key) → KeysLead old found now → Gives Tree plan key (plan key) now (Ok x) middle → (new ≡ middle) × ¬ (Begins middle m.Comma)
     → Gives Tree plan keys (plan keys) old (Ok (found ++ x ∷ [])) new
@@ -227,8 +227,8 @@ pub selects_more : {old now middle after new : List Sign} {x : Select} (found : 
     → SelectsLead old (found ++ x ∷ []) new
 selects_more {old = old} {after = after} {new = new} {x = x} found b d e f o r =
     subst (λ o. Runs Tree plan selects (plan selects) old o) (behind_both found x o)
-      (b (behind (x ∷ []) o) (reads (run_of d) (subst (λ ts. Runs Tree plan selects (more_selects x) ts (behind (x ∷ []) o)) (sym e)
-        (eats (subst (λ ts. Runs Tree plan selects (expect m.All (read selects (λ xs. done (x ∷ xs)))) ts (behind (x ∷ []) o)) (sym f) (eats (selects_on o r)))))))
+    (b (behind (x ∷ []) o) (reads (run_of d) (subst (λ ts. Runs Tree plan selects (more_selects x) ts (behind (x ∷ []) o)) (sym e)
+    (eats (subst (λ ts. Runs Tree plan selects (expect m.All (read selects (λ xs. done (x ∷ xs)))) ts (behind (x ∷ []) o)) (sym f) (eats (selects_on o r)))))))
 
 pub selects_end : {old now middle new : List Sign} {x : Select} (found : List Select) → SelectsLead old found now → Gives Tree plan select (plan select) now (Ok x) middle → (new ≡ middle) × ¬ (Begins middle m.Union)
     → Gives Tree plan selects (plan selects) old (Ok (found ++ x ∷ [])) new
@@ -244,7 +244,7 @@ pub selects_break : {old now middle after other : List Sign} {x : Select} {e : R
     → (e ≡ NoTree) × ¬ (Begins after m.All) → Gives Tree plan selects (plan selects) old (Err e) other
 selects_break {old = old} {after = after} {other = other} {x = x} found b d e f =
     subst (λ e. Gives Tree plan selects (plan selects) old (Err e) other) (sym f.0)
-      (no_tree (b None (reads (run_of d) (subst (λ ts. Runs Tree plan selects (more_selects x) ts None) (sym e) (eats (leaves f.1 fails))))))
+    (no_tree (b None (reads (run_of d) (subst (λ ts. Runs Tree plan selects (more_selects x) ts None) (sym e) (eats (leaves f.1 fails))))))
 
 -- ---- clauses
 

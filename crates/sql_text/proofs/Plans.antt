@@ -36,11 +36,12 @@ one (sees h d) w = elim (inside w) [ inl v ↦ one d v.1 | inr v ↦ absurd (cc 
 one (misses h d) w = elim (inside w) [ inl v ↦ absurd (cc (h, v.0)) | inr v ↦ one d v.1 ]
 one {T = T} {plan = plan} (reads {n = n} {s = s} {f = f} {middle = middle} {x = x} c d) w =
     elim (inside w) [
-      inl v ↦ (
-        let same : Some (v.0, v.1) ≡ Some (x, middle) = one c v.2 in
-        let pair : (v.0, v.1) ≡ (x, middle) = some_same same in
-        let first_same : v.0 ≡ x = ap (λ p. p.0) pair in
-        let rest_same : v.1 ≡ middle = ap (λ p. p.1) pair in
-        one d (subst (λ r. Runs T plan n (f x) r _) rest_same (subst (λ y. Runs T plan n (f y) v.1 _) first_same v.3)))
-    | inr v ↦ absurd (let same : None ≡ Some (x, middle) = one c v.0 in cc same) ]
+      | inl v ↦ (
+          let same : Some (v.0, v.1) ≡ Some (x, middle) = one c v.2 in
+          let pair : (v.0, v.1) ≡ (x, middle) = some_same same in
+          let first_same : v.0 ≡ x = ap (λ p. p.0) pair in
+          let rest_same : v.1 ≡ middle = ap (λ p. p.1) pair in
+          one d (subst (λ r. Runs T plan n (f x) r _) rest_same (subst (λ y. Runs T plan n (f y) v.1 _) first_same v.3)))
+      | inr v ↦ absurd (let same : None ≡ Some (x, middle) = one c v.0 in cc same)
+    ]
 one (breaks c) w = elim (inside w) [ inl v ↦ absurd (let same : Some (v.0, v.1) ≡ None = one c v.2 in cc same) | inr v ↦ v.1 ]

@@ -41,7 +41,6 @@ pub read_no : {S : Type 0} {T : S → Type 0} {plan : (n : S) → Plan T n} {n s
 read_no (no_tree c) = no_tree (breaks c)
 read_no no_memory = no_memory
 
-
 take_on : {S : Type 0} {T : S → Type 0} {plan : (n : S) → Plan T n} {n : S} {f : Option Sign → Plan T n} {ts new : List Sign} {r : Result (T n) Refusal} → Gives T plan n (f (first ts)) (tail ts) r new → Gives T plan n (take f) ts r new
 take_on (tree d) = tree (takes d)
 take_on (no_tree d) = no_tree (takes d)

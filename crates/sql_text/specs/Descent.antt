@@ -72,8 +72,8 @@ range_plan = read (at l.Concat) (λ x. eat m.Not (within_plan x true) (within_pl
 abbrev pub sign_plan : Plan Tree (at l.Sign)
 sign_plan =
     eat m.Minus
-      (look is_least (take (λ s. done (e.Int (negsuc (2 ^ 63 - 1))))) (read (at l.Cast) (λ x. done (e.Neg x))))
-      (read (at l.Cast) (λ x. done x))
+    (look is_least (take (λ s. done (e.Int (negsuc (2 ^ 63 - 1))))) (read (at l.Cast) (λ x. done (e.Neg x))))
+    (read (at l.Cast) (λ x. done x))
 
 abbrev pub cast_plan : Plan Tree (at l.Cast)
 cast_plan = read (at l.Primary) (λ x. eat m.Colons (a_type (λ t. eat m.Colons (a_type (λ u. done (e.Cast (e.Cast x t) u))) (done (e.Cast x t)))) (done x))
@@ -86,10 +86,10 @@ rows_plan n = if bytes_eq n (codes "count") then expect m.Close (done e.CountRow
 abbrev pub named_plan : List ℕ → Plan Tree (at l.Primary)
 named_plan n =
     eat m.Dot (a_name (λ c. done (e.Dotted n c)))
-      (eat m.Open
-        (eat m.Star (rows_plan n)
-          (eat m.Close (done (e.Call n [])) (read list (λ xs. expect m.Close (done (e.Call n xs))))))
-        (done (e.Named n)))
+    (eat m.Open
+    (eat m.Star (rows_plan n)
+    (eat m.Close (done (e.Call n [])) (read list (λ xs. expect m.Close (done (e.Call n xs))))))
+    (done (e.Named n)))
 
 -- behind COALESCE, GREATEST and LEAST
 abbrev pub arguments_plan : List ℕ → Plan Tree (at l.Primary)
@@ -108,8 +108,8 @@ typed_parameter_plan = want parameter_in (λ i. expect m.As (a_type (λ t. expec
 abbrev pub cast_call_plan : Plan Tree (at l.Primary)
 cast_call_plan =
     expect m.Open
-      (look is_typed_parameter typed_parameter_plan
-        (read (at l.Or) (λ x. expect m.As (a_type (λ t. expect m.Close (done (e.Cast x t)))))))
+    (look is_typed_parameter typed_parameter_plan
+    (read (at l.Or) (λ x. expect m.As (a_type (λ t. expect m.Close (done (e.Cast x t)))))))
 
 abbrev pub exists_plan : Plan Tree (at l.Primary)
 exists_plan = expect m.Open (read query (λ q. expect m.Close (done (e.Exists q))))
@@ -178,7 +178,7 @@ from_with s a ns = roll-FromItem (record { source = s; alias = a; columns = ns }
 abbrev pub table_plan : List ℕ → Plan Tree from_item
 table_plan n =
     eat m.As (a_name (λ a. done (from_with (source.Table n) a [])))
-      (perhaps_a name_in (λ a. done (from_with (source.Table n) a [])) (done (from_with (source.Table n) n [])))
+    (perhaps_a name_in (λ a. done (from_with (source.Table n) a [])) (done (from_with (source.Table n) n [])))
 
 -- behind the alias of a subquery
 abbrev pub columns_plan : Source → List ℕ → Plan Tree from_item
@@ -230,7 +230,7 @@ select_with xs fs w ks n = roll-Select (record { list = xs; from = fs; filter = 
 abbrev pub select_plan : Plan Tree select
 select_plan =
     expect m.Select
-      (read items (λ xs. read from_clause (λ fs. read where_clause (λ w. read order_clause (λ ks. read limit_clause (λ n. done (select_with xs fs w ks n)))))))
+    (read items (λ xs. read from_clause (λ fs. read where_clause (λ w. read order_clause (λ ks. read limit_clause (λ n. done (select_with xs fs w ks n)))))))
 
 abbrev pub selects_plan : Plan Tree selects
 selects_plan = read select (λ s. eat m.Union (expect m.All (read selects (λ ss. done (s ∷ ss)))) (done (s ∷ [])))
@@ -260,7 +260,7 @@ recursive_with n ns p = roll-Recursive (record { name = n; columns = ns; first =
 abbrev pub recursive_plan : Plan Tree recursive
 recursive_plan =
     expect m.With (expect m.Recursive (a_name (λ n. expect m.Open (read names (λ ns. expect m.Close (expect m.As (expect m.Open
-      (read selects (λ ss. expect m.Close (with (λ p. done (recursive_with n ns p)) (parted ss)))))))))))
+    (read selects (λ ss. expect m.Close (with (λ p. done (recursive_with n ns p)) (parted ss)))))))))))
 
 -- a `;` may stand at the end
 abbrev pub file_with : Query → Plan Tree file
@@ -269,15 +269,15 @@ file_with q = eat m.Semicolon (done q) (done q)
 abbrev pub file_plan : Plan Tree file
 file_plan =
     look is_with
-      (read recursive (λ r. read selects (λ ss. if may_join ss then file_with (query_with (Some r) ss) else fail)))
-      (read query file_with)
+    (read recursive (λ r. read selects (λ ss. if may_join ss then file_with (query_with (Some r) ss) else fail)))
+    (read query file_with)
 
 -- ---- schemas
 
 abbrev pub column_plan : Plan Tree column
 column_plan =
     a_name (λ n. a_type (λ t.
-      eat m.Not (expect m.Null (done (record { name = n; ty = t; not_null = true }))) (done (record { name = n; ty = t; not_null = false }))))
+    eat m.Not (expect m.Null (done (record { name = n; ty = t; not_null = true }))) (done (record { name = n; ty = t; not_null = false }))))
 
 abbrev pub table_columns_plan : Plan Tree columns
 table_columns_plan = read column (λ c. eat m.Comma (read columns (λ cs. done (c ∷ cs))) (done (c ∷ [])))
@@ -285,9 +285,9 @@ table_columns_plan = read column (λ c. eat m.Comma (read columns (λ cs. done (
 abbrev pub tables_plan : Plan Tree tables
 tables_plan =
     eat m.Create
-      (expect m.Table (qualified_name (λ n. expect m.Open (read columns (λ cs. expect m.Close (expect m.Semicolon
-        (read tables (λ more. done (record { name = n; columns = cs } ∷ more)))))))))
-      (done [])
+    (expect m.Table (qualified_name (λ n. expect m.Open (read columns (λ cs. expect m.Close (expect m.Semicolon
+    (read tables (λ more. done (record { name = n; columns = cs } ∷ more)))))))))
+    (done [])
 
 -- ---- all sorts
 

@@ -7,12 +7,12 @@ ghost use Rattle.sql_text.specs.Descent.{plan, not_plan, is_plan, compare_plan, 
 
 use crate::cursor::Cursor;
 use crate::leaves::{
-    called_name, chain_of, inner, is_number, item_with, key_with, literal, may_join, number, plain_query,
-    unboxed,
+    called_name, chain_of, inner, is_number, item_with, key_with, literal, may_join, number,
+    plain_query, unboxed,
 };
 use crate::refusal::Refusal;
-use crate::tables::{named_subquery, table_item};
 use crate::signs::{Sign, is_count, text_of};
+use crate::tables::{named_subquery, table_item};
 use away_core::{ChainOp, Expr, FromItem, Item, Key, Level, Mark, Name, Query, Select};
 use away_lex::folded;
 use sqlite_items::{Boxed, Items};

@@ -6,9 +6,9 @@ mod cursor;
 mod expressions;
 mod files;
 mod laws;
-mod print_laws;
 mod leaves;
 mod one_tree;
+mod print_laws;
 mod read;
 mod refusal;
 mod schemas;
@@ -19,17 +19,17 @@ pub use complete_law::what_is_read_is_given;
 pub use cursor::Cursor;
 pub use expressions::expression;
 pub use laws::what_a_plan_gives_is_read;
+pub use one_tree::a_text_reads_as_one_tree;
 pub use print_laws::{
     printed_expressions_read_back, printed_queries_read_back, printing_reads_back,
 };
-pub use one_tree::a_text_reads_as_one_tree;
 pub use read::{read_expr, read_query, read_schema};
 pub use refusal::Refusal;
 pub use signs::Sign;
 
 #[cfg(test)]
-mod read_tests;
-#[cfg(test)]
 mod production_tests;
+#[cfg(test)]
+mod read_tests;
 #[cfg(test)]
 mod sign_tests;

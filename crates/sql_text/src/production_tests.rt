@@ -15,7 +15,10 @@ static QUERIES: [(&str, bool); 62] = [
     ("SELECT a IS NULL IS NULL", false),
     ("SELECT (a IS NULL) IS NULL", true),
     ("SELECT a IS b", false),
-    ("SELECT a = b, a <> b, a != b, a < b, a <= b, a > b, a >= b", true),
+    (
+        "SELECT a = b, a <> b, a != b, a < b, a <= b, a > b, a >= b",
+        true,
+    ),
     ("SELECT a = b = c", false),
     ("SELECT a BETWEEN b AND c AND d", true),
     ("SELECT a NOT BETWEEN b AND c", true),
@@ -31,11 +34,17 @@ static QUERIES: [(&str, bool); 62] = [
     ("SELECT 9223372036854775808", false),
     ("SELECT (-9223372036854775808)::text", true),
     ("SELECT -9223372036854775808::text", false),
-    ("SELECT a::bigint, a::int8, a::boolean, a::bool, a::text", true),
+    (
+        "SELECT a::bigint, a::int8, a::boolean, a::bool, a::text",
+        true,
+    ),
     ("SELECT a::numeric", false),
     ("SELECT TRUE, FALSE, NULL, 'it''s', a, a.b", true),
     ("SELECT a.", false),
-    ("SELECT CAST(a + 1 AS text), CAST($2 AS bigint), $3::text", true),
+    (
+        "SELECT CAST(a + 1 AS text), CAST($2 AS bigint), $3::text",
+        true,
+    ),
     ("SELECT CAST($1::bigint AS text)", true),
     ("SELECT $1", false),
     ("SELECT CAST(a, text)", false),
@@ -43,7 +52,10 @@ static QUERIES: [(&str, bool); 62] = [
     ("SELECT (a", false),
     ("SELECT EXISTS (SELECT 1), EXISTS (SELECT a FROM t)", true),
     ("SELECT EXISTS (1)", false),
-    ("SELECT CASE WHEN a THEN 1 END, CASE WHEN a THEN 1 WHEN b THEN 2 ELSE 3 END", true),
+    (
+        "SELECT CASE WHEN a THEN 1 END, CASE WHEN a THEN 1 WHEN b THEN 2 ELSE 3 END",
+        true,
+    ),
     ("SELECT CASE a WHEN 1 THEN 2 END", false),
     ("SELECT CASE ELSE 1 END", false),
     ("SELECT coalesce(a, 1), GREATEST(a), least(a, b)", true),
@@ -54,12 +66,21 @@ static QUERIES: [(&str, bool); 62] = [
     ("SELECT a AS b, c", true),
     ("SELECT a b", false),
     ("SELECT", false),
-    ("SELECT a FROM t, public.t, t u, t AS u, public.t AS u", true),
+    (
+        "SELECT a FROM t, public.t, t u, t AS u, public.t AS u",
+        true,
+    ),
     ("SELECT a FROM public, public p", true),
-    ("SELECT a FROM (SELECT 1) s, LATERAL (SELECT 2) AS s(a, b)", true),
+    (
+        "SELECT a FROM (SELECT 1) s, LATERAL (SELECT 2) AS s(a, b)",
+        true,
+    ),
     ("SELECT a FROM (SELECT 1)", false),
     ("SELECT a FROM LATERAL t", false),
-    ("SELECT a FROM t WHERE a ORDER BY a, b ASC, c DESC LIMIT 1 + 1", true),
+    (
+        "SELECT a FROM t WHERE a ORDER BY a, b ASC, c DESC LIMIT 1 + 1",
+        true,
+    ),
     ("SELECT a FROM t ORDER BY 1", false),
     ("SELECT a FROM t ORDER BY (1)", false),
     ("SELECT a FROM t ORDER BY -9223372036854775808", false),
@@ -71,12 +92,18 @@ static QUERIES: [(&str, bool); 62] = [
         "WITH RECURSIVE r(a) AS (SELECT 1 LIMIT 1 UNION ALL SELECT 2) SELECT 1",
         true,
     ),
-    ("SELECT (WITH RECURSIVE r(a) AS (SELECT 1 UNION ALL SELECT 2) SELECT 1)", false),
+    (
+        "SELECT (WITH RECURSIVE r(a) AS (SELECT 1 UNION ALL SELECT 2) SELECT 1)",
+        false,
+    ),
 ];
 
 /// Texts, and whether a schema reads them.
 static SCHEMAS: [(&str, bool); 8] = [
-    ("CREATE TABLE t (a bigint); create table public.u (b text not null, c bool);", true),
+    (
+        "CREATE TABLE t (a bigint); create table public.u (b text not null, c bool);",
+        true,
+    ),
     ("CREATE TABLE t ();", false),
     ("CREATE TABLE t (a);", false),
     ("CREATE TABLE t (a bigint not);", false),

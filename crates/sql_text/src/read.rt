@@ -1,12 +1,11 @@
 //! The readers of queries, schemas and expressions.
 
 ghost use Rattle.std.specs.Prelude.{◌≡◌, ◌≤◌, ℕ, map, length, IfOk, IfErr, MatchOption};
-ghost use Rattle.away_core.specs.Nesting.{IsNesting};
 ghost use Rattle.away_core.specs.Texts.{IsText, IsExpression, ReadsQuery, ReadsSchema};
 ghost use Rattle.away_core.specs.Tokens.{AreSpelled};
 ghost use Rattle.away_core.specs.declared.queries.Expr.{Expr};
 ghost use Rattle.away_lex.specs.Lexed.{seen};
-ghost use Rattle.sql_text.specs.Refusals.{HasFewTokens, MayBeRead, NoExpression, Refuses, RefusesTokens, most_nesting};
+ghost use Rattle.sql_text.specs.Refusals.{HasFewTokens, MayBeRead, NoExpression, Refuses, RefusesTokens};
 
 use crate::cursor::Cursor;
 use crate::expressions::expression;
@@ -22,7 +21,6 @@ const MOST_NESTING: u64 = 256;
 
 /// The query that a whole file is.
 pub fn read_query(alloc: Global, bytes: &[u8]) -> Result<Query, ReadRefusal>
-    requires { length bytes.now ≤ 67108864 }
     ensures ok { IfOk result (λ query. MayBeRead bytes.now × ReadsQuery bytes.now query) }
     ensures err { IfErr result (Refuses (ReadsQuery bytes.now) bytes.now) }
 {
@@ -43,7 +41,6 @@ pub fn read_query(alloc: Global, bytes: &[u8]) -> Result<Query, ReadRefusal>
 
 /// The schema that a whole file is.
 pub fn read_schema(alloc: Global, bytes: &[u8]) -> Result<Schema, ReadRefusal>
-    requires { length bytes.now ≤ 67108864 }
     ensures ok { IfOk result (λ schema. MayBeRead bytes.now × ReadsSchema bytes.now schema) }
     ensures err { IfErr result (Refuses (ReadsSchema bytes.now) bytes.now) }
 {
@@ -66,7 +63,6 @@ pub fn read_schema(alloc: Global, bytes: &[u8]) -> Result<Schema, ReadRefusal>
 pub fn read_expr(alloc: Global, list: &[Token<'_>], at: usize) -> Result<(Expr, usize), ReadRefusal>
     requires within { at ≤ length list.now }
     requires spelled { AreSpelled (map seen list.now) }
-    requires shallow { (n : ℕ) → IsNesting (map seen list.now) n → n ≤ most_nesting }
     ensures ok { IfOk result (λ found. IsExpression (map seen list.now) at found.0 found.1) }
     ensures only { IfOk result (λ found. (x : Expr) (end : ℕ) → IsExpression (map seen list.now) at x end → (x ≡ found.0) × (end ≡ found.1)) }
     ensures err { IfErr result (NoExpression (map seen list.now) at) }
