@@ -1,7 +1,7 @@
 //! What the readers of queries, schemas and expressions give.
 
 use crate::read::{read_expr, read_query, read_schema};
-use away_core::{Expr, Query, Schema, Ty};
+use away_core::{Expr, Query, Schema, Select, Ty};
 use away_lex::{LimitKind, ReadRefusal, tokens};
 use std::alloc::{AllocError, Global};
 use std::test::Fail;
@@ -115,6 +115,63 @@ fn queries(rt: HostRuntime) -> Result<(), Fail> {
     for (text, wanted) in rows.iter() {
         assert_eq!(rt; query_of(rt.alloc(), text)?, *wanted);
     }
+    Ok(())
+}
+
+/// The names and sizes of a recursive query: its table with the columns, the items of both terms, the FROM items of the
+/// second with their columns, and the items of the last select.
+fn outline(alloc: Global, text: &str) -> Result<String, AllocError> {
+    let Ok(query) = read_query(alloc, text.as_bytes()) else {
+        return String::from_str(alloc, "-");
+    };
+    outline_of(alloc, &query)
+}
+
+fn outline_of(alloc: Global, query: &Query) -> Result<String, AllocError> {
+    let mut shown = String::new(alloc);
+    let Some(recursive) = &query.recursive else {
+        return Ok(shown);
+    };
+    shown.push_str(recursive.name.text())?;
+    for column in recursive.columns.as_slice().iter() {
+        shown.push_str(" ")?;
+        shown.push_str(column.text())?;
+    }
+    for select in recursive.first.as_slice().iter() {
+        add_select(&mut shown, select)?;
+    }
+    add_select(&mut shown, &recursive.second)?;
+    for select in query.selects.as_slice().iter() {
+        add_select(&mut shown, select)?;
+    }
+    Ok(shown)
+}
+
+fn add_select(shown: &mut String, select: &Select) -> Result<(), AllocError> {
+    shown.push_str(";")?;
+    for _item in select.list.as_slice().iter() {
+        shown.push_str(" item")?;
+    }
+    for item in select.from.as_slice().iter() {
+        shown.push_str(" ")?;
+        shown.push_str(item.alias.text())?;
+        for _column in item.columns.as_slice().iter() {
+            shown.push_str("+")?;
+        }
+    }
+    if select.filter.is_some() {
+        shown.push_str(" where")?;
+    }
+    Ok(())
+}
+
+#[test]
+fn the_compiled_query_reads_as_its_tree(rt: HostRuntime) -> Result<(), Fail> {
+    let shown = outline(rt.alloc(), WRITTEN)?;
+    assert_eq!(rt;
+        shown.as_str(),
+        "away_r away_go away_fn away_c0 away_c1 away_res away_err; item item item item item item; item item item item item item away_r away_s++++++ where; item item away_r where"
+    );
     Ok(())
 }
 
