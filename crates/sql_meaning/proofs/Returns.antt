@@ -40,31 +40,14 @@ froms = map (λ f. from_of meaning f)
 abbrev pub start_row : List Value → List Value
 start_row args = val.Bool true ∷ val.Int (pos 1) ∷ args ++ (val.Null ∷ val.Null ∷ [])
 
-ranged_small : (b : Bool) (n : _) (c : Class) → b ≡ true → (if b then Ok (val.Int n) else Err c) ≡ Ok (val.Int n)
-ranged_small true n c h = refl
-ranged_small false n c h = cc
-
--- the cast to its own type keeps a value
-own_cast : (t : Ty) (v : Value) → HasType v t → cast t v ≡ Ok v
-own_cast ty.Bigint v h = refl
-own_cast ty.Boolean v h = refl
-own_cast ty.Integer val.Null h = refl
-own_cast ty.Integer (val.Int n) h = ranged_small (fits_small n) n _ h
-own_cast ty.Integer (val.Bool b) h = absurd h
-own_cast ty.Integer (val.Text s) h = absurd h
-own_cast ty.Text val.Null h = refl
-own_cast ty.Text (val.Text s) h = refl
-own_cast ty.Text (val.Int n) h = absurd h
-own_cast ty.Text (val.Bool b) h = absurd h
-
-is_argument : (cx : Context) (k : ℕ) (t : Ty) (v : Value) → at cx.args k ≡ v → HasType v t → Is cx (cast_to t (expr.Param (suc k) t)) v
-is_argument cx k t v p h = is_cast cx (expr.Param (suc k) t) (at cx.args k) v t (record { gives = refl; single = refl }) (ap (cast t) p ∙ own_cast t v h)
+is_argument : (cx : Context) (k : ℕ) (t : Ty) (v : Value) → at cx.args k ≡ v → Is cx (expr.Param (suc k) t) v
+is_argument cx k t v p = record { gives = ap Ok p; single = refl }
 
 -- the arguments from the k-th on, which are vs, and more behind them
 are_arguments : (cx : Context) (es : List Expr) (ws : List Value) → Are cx es ws → (k : ℕ) (ts : List Ty) (vs : List Value) → AreTyped ts vs → ((j : ℕ) → at cx.args (k + j) ≡ at vs j) → Are cx (arguments k ts ++ es) (vs ++ ws)
 are_arguments cx es ws rest k [] [] h sees = rest
 are_arguments cx es ws rest k (t ∷ ts) (v ∷ vs) h sees =
-    more cx (cast_to t (expr.Param (suc k) t)) _ v _ (is_argument cx k t v (ap (at cx.args) (first k) ∙ sees 0) h.0) (are_arguments cx es ws rest (suc k) ts vs h.1 (λ j. ap (at cx.args) (next k j) ∙ sees (suc j)))
+    more cx (expr.Param (suc k) t) _ v _ (is_argument cx k t v (ap (at cx.args) (first k) ∙ sees 0)) (are_arguments cx es ws rest (suc k) ts vs h.1 (λ j. ap (at cx.args) (next k j) ∙ sees (suc j)))
   where
     first : (k : ℕ) → k ≡ k + 0
     first k = omega arith

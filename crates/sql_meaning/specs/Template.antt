@@ -47,7 +47,7 @@ let_item e = lateral (one (select (e ∷ []) [] None))
 -- the parameters from number i + 1 on, each with its type
 abbrev pub arguments : ℕ → List Ty → List Expr
 arguments i [] = []
-arguments i (t ∷ ts) = cast_to t (expr.Param (suc i) t) ∷ arguments (suc i) ts
+arguments i (t ∷ ts) = expr.Param (suc i) t ∷ arguments (suc i) ts
 
 -- the first term: TRUE, label 1, the arguments, and no result
 abbrev pub start : List Ty → Ty → Select
