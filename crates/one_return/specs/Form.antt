@@ -1,0 +1,104 @@
+-- The functions that are compiled: `BEGIN RETURN e; END` over parameters of type bigint, e being integers below 2^63, names, and sums, differences and
+-- products of these.
+use Rattle.std.specs.Prelude.{◌≡◌, ◌≤◌, ℕ, pos, negsuc, Bool, true, false, not, ◌&&◌, ◌||◌, List, [], ◌∷◌, length, map, take, None, bytes_eq, codes}
+use Rattle.std.specs.List.{list_any}
+use Rattle.away_core.specs.declared.types.Ty.{Ty}
+use Rattle.away_core.specs.declared.types.Ty.TheVariants as ty
+use Rattle.away_core.specs.declared.grammar.Level.{Level}
+use Rattle.away_core.specs.declared.grammar.Level.TheVariants as l
+use Rattle.away_core.specs.declared.operators.ChainOp.{ChainOp}
+use Rattle.away_core.specs.declared.operators.ChainOp.TheVariants as op
+use Rattle.away_core.specs.declared.operators.IntOp.TheVariants as int
+use Rattle.away_core.specs.declared.queries.Expr.{Expr}
+use Rattle.away_core.specs.declared.queries.Expr.TheOpen.{Expr-F, Source-F, FromItem-F, Item-F, Key-F, Select-F, Recursive-F, Query-F}
+use Rattle.away_core.specs.declared.queries.Expr.TheOpen as ex
+use Rattle.away_core.specs.declared.statements.Function.{Function}
+use Rattle.away_core.specs.declared.statements.Stmt.TheVariants as s
+use Rattle.away_core.specs.Algebra.{Algebra, expr_of}
+
+-- ---- the expression
+
+-- the operators of a chain of the level: + and -, or *
+abbrev pub joins : Level → ChainOp → Bool
+joins l.Sum (op.Int int.Add) = true
+joins l.Sum (op.Int int.Sub) = true
+joins l.Product (op.Int int.Mul) = true
+joins _ _ = false
+
+-- each operator is of the level, and each operand may stand
+abbrev pub are_links : Level → List (ChainOp × Bool) → Bool
+are_links level [] = true
+are_links level (x ∷ more) = joins level x.0 && (x.1 && are_links level more)
+
+-- the links of a chain of one level, which are some
+abbrev pub are_of_one_level : List (ChainOp × Bool) → Bool
+are_of_one_level [] = false
+are_of_one_level (x ∷ more) = are_links l.Sum (x ∷ more) || are_links l.Product (x ∷ more)
+
+abbrev pub is_arithmetic : Expr-F Bool Bool Bool Bool Bool Bool Bool Bool → Bool
+is_arithmetic (ex.Int (pos n)) = true
+is_arithmetic (ex.Named n) = true
+is_arithmetic (ex.Chain e links) = e && are_of_one_level links
+is_arithmetic _ = false
+
+abbrev pub arithmetic_only : Algebra
+arithmetic_only =
+    record {
+      AnExpr = Bool;
+      ASource = Bool;
+      AFrom = Bool;
+      AnItem = Bool;
+      AKey = Bool;
+      AQuery = Bool;
+      ARecursive = Bool;
+      ASelect = Bool;
+      no_expr = false;
+      no_query = false;
+      expr = is_arithmetic;
+      source = λ s. false;
+      from = λ f. false;
+      item = λ i. false;
+      key = λ k. false;
+      query = λ q. false;
+      recursive = λ r. false;
+      select = λ s. false;
+    }
+
+-- integers, names, and sums, differences and products of these
+unfoldable pub arithmetic : Expr → Bool
+arithmetic e = expr_of arithmetic_only e
+
+-- ---- the parameters
+
+-- names that the query has for itself
+unfoldable pub is_own_name : List ℕ → Bool
+is_own_name name = bytes_eq (take 5 name) (codes "away_")
+
+abbrev pub is_bigint : Ty → Bool
+is_bigint ty.Bigint = true
+is_bigint _ = false
+
+abbrev pub has_name : List ℕ → List (List ℕ × Ty) → Bool
+has_name name = list_any (λ p. bytes_eq p.0 name)
+
+-- bigints, of names that differ and aren't the query's own
+abbrev pub may_be_parameters : List (List ℕ × Ty) → Bool
+may_be_parameters [] = true
+may_be_parameters (p ∷ more) = is_bigint p.1 && (not (is_own_name p.0) && (not (has_name p.0 more) && may_be_parameters more))
+
+abbrev pub names_of : Function → List (List ℕ)
+names_of f = map (λ p. p.0) f.params
+
+-- ---- the function
+
+-- The function is of the form, and returns this expression. Attributes without effect may stand in its text.
+pub record IsForm (f : Function) (e : Expr) : Type 0 where
+  pub not_strict : f.strict ≡ false
+  pub result : f.result ≡ ty.Bigint
+  pub few : length f.params ≤ 64
+  pub params : may_be_parameters f.params ≡ true
+  pub body : f.body ≡ s.Block None [] (s.Return e ∷ []) None
+  pub arithmetic : arithmetic e ≡ true
+
+abbrev pub HasForm : Function → Type 0
+HasForm f = (e : Expr) × IsForm f e

@@ -1,0 +1,8 @@
+//! Functions that are one RETURN: from the tree of a function to the text of a query with the same answers.
+#![tactic(auto)]
+
+mod compiler;
+mod refusal;
+
+pub use compiler::compile;
+pub use refusal::CompileError;
