@@ -1,0 +1,4 @@
+mod ColumnNames
+pub mod Lists
+pub mod Arithmetic
+pub mod Bodies

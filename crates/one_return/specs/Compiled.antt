@@ -5,14 +5,13 @@ use Rattle.away_core.specs.declared.queries.Expr.{Expr}
 use Rattle.away_core.specs.declared.queries.Query.{Query}
 use Rattle.away_core.specs.declared.schemas.Schema.{Schema}
 use Rattle.away_core.specs.declared.statements.Function.{Function}
-use Rattle.away_core.specs.declared.statements.Stmt.TheVariants as s
 use Rattle.away_core.specs.Count.{weight}
 use Rattle.away_core.specs.Texts.{ReadsQuery}
 use Rattle.sql_meaning.specs.Equivalent.{FunctionAnswer, IsEquivalent}
 use Rattle.sql_meaning.specs.OneReturn.{answer_of_return}
 use Rattle.sql_meaning.specs.Typed.{AreTyped}
 use Rattle.one_return.specs.Fits.{FitsSchema}
-use Rattle.one_return.specs.Form.{names_of}
+use Rattle.one_return.specs.Form.{Returns, names_of}
 use Rattle.one_return.specs.Resolution.{resolved, resolved_value}
 
 -- What a function answers that isn't STRICT and whose body is one RETURN: the value of its expression, where each name is a parameter.
@@ -20,7 +19,7 @@ pub record IsAnswerOf (schema : Schema) (f : Function) (a : FunctionAnswer) : Ty
   pub written : Expr
   pub value : Expr
   pub not_strict : f.strict ≡ false
-  pub body : f.body ≡ s.Block None [] (s.Return written ∷ []) None
+  pub body : Returns f.body written
   pub means : resolved_value schema (names_of f) written ≡ Some value
   pub answers : a ≡ answer_of_return value
 

@@ -1,7 +1,7 @@
 -- The functions that are compiled: `BEGIN RETURN e; END` over parameters of type bigint, e being integers below 2^63, names, and sums, differences and
 -- products of these.
-use Rattle.std.specs.Prelude.{◌≡◌, ◌≤◌, ℕ, pos, negsuc, Bool, true, false, not, ◌&&◌, ◌||◌, List, [], ◌∷◌, length, map, take, None, bytes_eq, codes}
-use Rattle.std.specs.List.{list_any}
+use Rattle.std.specs.Prelude.{◌≡◌, ◌≤◌, ℕ, pos, negsuc, Bool, true, false, not, ◌&&◌, ◌||◌, List, [], ◌∷◌, length, map, None, bytes_eq, nat_eq, codes}
+use Rattle.std.specs.List.{list_any, starts_with}
 use Rattle.away_core.specs.declared.types.Ty.{Ty}
 use Rattle.away_core.specs.declared.types.Ty.TheVariants as ty
 use Rattle.away_core.specs.declared.grammar.Level.{Level}
@@ -13,6 +13,7 @@ use Rattle.away_core.specs.declared.queries.Expr.{Expr}
 use Rattle.away_core.specs.declared.queries.Expr.TheOpen.{Expr-F, Source-F, FromItem-F, Item-F, Key-F, Select-F, Recursive-F, Query-F}
 use Rattle.away_core.specs.declared.queries.Expr.TheOpen as ex
 use Rattle.away_core.specs.declared.statements.Function.{Function}
+use Rattle.away_core.specs.declared.statements.Stmt.{Stmt}
 use Rattle.away_core.specs.declared.statements.Stmt.TheVariants as s
 use Rattle.away_core.specs.Algebra.{Algebra, expr_of}
 
@@ -68,11 +69,15 @@ arithmetic_only =
 unfoldable pub arithmetic : Expr → Bool
 arithmetic e = expr_of arithmetic_only e
 
+-- a link with whether its operand is such
+abbrev pub judged : ChainOp × Expr → ChainOp × Bool
+judged l = (l.0, arithmetic l.1)
+
 -- ---- the parameters
 
 -- names that the query has for itself
-unfoldable pub is_own_name : List ℕ → Bool
-is_own_name name = bytes_eq (take 5 name) (codes "away_")
+abbrev pub is_own_name : List ℕ → Bool
+is_own_name name = starts_with nat_eq name (codes "away_")
 
 abbrev pub is_bigint : Ty → Bool
 is_bigint ty.Bigint = true
@@ -86,10 +91,24 @@ abbrev pub may_be_parameters : List (List ℕ × Ty) → Bool
 may_be_parameters [] = true
 may_be_parameters (p ∷ more) = is_bigint p.1 && (not (is_own_name p.0) && (not (has_name p.0 more) && may_be_parameters more))
 
+abbrev pub names_in : List (List ℕ × Ty) → List (List ℕ)
+names_in = map (λ p. p.0)
+
 abbrev pub names_of : Function → List (List ℕ)
-names_of f = map (λ p. p.0) f.params
+names_of f = names_in f.params
+
+abbrev pub types_of : List (List ℕ × Ty) → List Ty
+types_of = map (λ p. p.1)
 
 -- ---- the function
+
+-- the statements are one RETURN of this expression
+abbrev pub ReturnsAlone : List Stmt → Expr → Type 0
+ReturnsAlone statements e = statements ≡ s.Return e ∷ []
+
+-- the body is one RETURN of this expression, without declarations and labels
+abbrev pub Returns : Stmt → Expr → Type 0
+Returns body e = body ≡ s.Block None [] (s.Return e ∷ []) None
 
 -- The function is of the form, and returns this expression. Attributes without effect may stand in its text.
 pub record IsForm (f : Function) (e : Expr) : Type 0 where
@@ -97,7 +116,7 @@ pub record IsForm (f : Function) (e : Expr) : Type 0 where
   pub result : f.result ≡ ty.Bigint
   pub few : length f.params ≤ 64
   pub params : may_be_parameters f.params ≡ true
-  pub body : f.body ≡ s.Block None [] (s.Return e ∷ []) None
+  pub body : Returns f.body e
   pub arithmetic : arithmetic e ≡ true
 
 abbrev pub HasForm : Function → Type 0

@@ -5,4 +5,6 @@ pub mod Form
 pub mod Compiled
 pub mod Refusals
 pub mod Places
+pub mod Placing
 pub mod Written
+pub mod Known

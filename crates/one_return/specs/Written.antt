@@ -56,9 +56,13 @@ fault_name = codes "away_err"
 abbrev pub column_name : ℕ → List ℕ
 column_name i = codes "away_c" ++ decimal i
 
+-- the columns of so many parameters
+abbrev pub parameter_columns : ℕ → List (List ℕ)
+parameter_columns n = map column_name (below n)
+
 -- the columns of the working table, for so many parameters
 abbrev pub columns : ℕ → List (List ℕ)
-columns n = go_name ∷ label_name ∷ map column_name (below n) ++ (result_name ∷ fault_name ∷ [])
+columns n = go_name ∷ label_name ∷ parameter_columns n ++ (result_name ∷ fault_name ∷ [])
 
 -- ---- the query
 
@@ -70,18 +74,25 @@ from_table = roll-FromItem (record { source = source.Table table_name; alias = t
 abbrev pub lateral_as : List ℕ → List (List ℕ) → Query → FromItem
 lateral_as alias names q = roll-FromItem (record { source = source.Sub q true; alias = alias; columns = names })
 
+-- the call is at label 1
+abbrev pub is_here : Expr
+is_here = expr.Compare cmp.Eq (expr.Dotted table_name label_name) (number (pos 1))
+
 -- one row where the call is at label 1, and none elsewhere
 abbrev pub gate : FromItem
-gate = lateral_as gate_name (only_name ∷ []) (one (select (truth true ∷ []) [] (Some (expr.Compare cmp.Eq (expr.Dotted table_name label_name) (number (pos 1))))))
+gate = lateral_as gate_name (only_name ∷ []) (one (select (truth true ∷ []) [] (Some is_here)))
 
 -- the row that holds the value
 abbrev pub held : Expr → FromItem
 held e = lateral_as value_name (only_name ∷ []) (one (select (e ∷ []) [] None))
 
+-- the finished row: the call is over, and its result is the value
+abbrev pub finished : List Ty → List Expr
+finished params = truth false ∷ number (pos 0) ∷ map null_of params ++ (expr.Dotted value_name only_name ∷ null_of ty.Text ∷ [])
+
 -- the finished row of label 1
 abbrev pub branch : List Ty → Expr → Select
-branch params e =
-    select (truth false ∷ number (pos 0) ∷ map null_of params ++ (expr.Dotted value_name only_name ∷ null_of ty.Text ∷ [])) (gate ∷ held e ∷ []) None
+branch params e = select (finished params) (gate ∷ held e ∷ []) None
 
 -- from a row to the next, while the call goes on
 abbrev pub step : List Ty → Expr → Select

@@ -2,7 +2,11 @@
 #![tactic(auto)]
 
 mod compiler;
+mod form;
+mod names;
 mod refusal;
+mod template;
+mod trees;
 
 pub use compiler::compile;
 pub use refusal::CompileError;
