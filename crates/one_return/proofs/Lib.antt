@@ -2,3 +2,4 @@ mod ColumnNames
 pub mod Lists
 pub mod Arithmetic
 pub mod Bodies
+pub mod Rows

@@ -13,9 +13,9 @@ use Rattle.one_return.specs.declared.refusal.CompileError.TheVariants.{Unbuilt, 
 abbrev pub StandsAs : List (List ℕ) → Expr → Expr → Type 0
 StandsAs variables e x = (y : Expr) × Places variables value e y x
 
--- the links of a chain stand so
-abbrev pub LinksStandAs : List (List ℕ) → List (ChainOp × Expr) → List (ChainOp × Expr) → Type 0
-LinksStandAs variables ls xs = (level : Level) × ((ys : List (ChainOp × Expr)) × Places variables (links level) ls ys xs)
+-- the links of a chain of the level stand so
+abbrev pub LinksStandAs : List (List ℕ) → Level → List (ChainOp × Expr) → List (ChainOp × Expr) → Type 0
+LinksStandAs variables level ls xs = (ys : List (ChainOp × Expr)) × Places variables (links level) ls ys xs
 
 -- over whichever tables the expression stands for nothing
 abbrev pub IsUnknown : List (List ℕ) → Expr → Type 0

@@ -152,7 +152,7 @@ fn are_links(level: Level, links: &[(ChainOp, Expr)]) -> bool
 }
 
 /// Whether the operator links operands of the level.
-fn joins(level: Level, op: ChainOp) -> bool
+pub fn joins(level: Level, op: ChainOp) -> bool
     ensures { result ≡ spec.joins level op }
 {
     match (level, op) {

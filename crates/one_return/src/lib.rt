@@ -4,6 +4,7 @@
 mod compiler;
 mod form;
 mod names;
+mod placing;
 mod refusal;
 mod template;
 mod trees;

@@ -1,6 +1,7 @@
 //! Why a function isn't compiled.
 
 use away_core::NoMemory;
+use std::alloc::AllocError;
 
 #[derive(Clone, Copy, Debug, PartialEq, Eq)]
 pub enum CompileError {
@@ -9,4 +10,26 @@ pub enum CompileError {
     /// A name in the returned expression is no parameter.
     UnknownName,
     NoMemory,
+}
+
+impl From<AllocError> for CompileError {
+    ghost use Rattle.std.specs.Prelude.{◌≡◌};
+    ghost use Rattle.one_return.specs.declared.refusal.CompileError.TheVariants.{NoMemory};
+
+    ghost from_gives = { λ _ e. e ≡ NoMemory };
+
+    fn from(_error: AllocError) -> CompileError {
+        CompileError::NoMemory
+    }
+}
+
+impl From<NoMemory> for CompileError {
+    ghost use Rattle.std.specs.Prelude.{◌≡◌};
+    ghost use Rattle.one_return.specs.declared.refusal.CompileError.TheVariants.{NoMemory};
+
+    ghost from_gives = { λ _ e. e ≡ NoMemory };
+
+    fn from(_error: NoMemory) -> CompileError {
+        CompileError::NoMemory
+    }
 }
