@@ -1,2 +1,4 @@
 pub mod Values
 pub mod Owned
+pub mod ColumnPlaces
+pub mod Selected
