@@ -2,3 +2,5 @@ pub mod Values
 pub mod Owned
 pub mod ColumnPlaces
 pub mod Selected
+pub mod TemplateNames
+pub mod Placing

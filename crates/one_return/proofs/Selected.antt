@@ -9,13 +9,14 @@ use Rattle.away_core.specs.declared.queries.Source.TheVariants as source
 use Rattle.away_core.specs.declared.queries.FromItem.{FromItem}
 use Rattle.away_core.specs.declared.queries.Select.{Select}
 use Rattle.away_core.specs.declared.queries.Query.{Query}
-use Rattle.away_core.specs.declared.queries.Expr.TheViews.{roll-Select, roll-Query}
+use Rattle.away_core.specs.declared.queries.Expr.TheViews.{roll-FromItem, roll-Select, roll-Recursive, roll-Query}
+use Rattle.away_core.specs.declared.schemas.Schema.{Schema}
 use Rattle.away_core.specs.Algebra.{expr_of, item_of, from_of, select_of, query_of}
 use Rattle.away_core.proofs.Equations as eq
 use Rattle.sql_meaning.specs.Trees.{item, number, truth, null_of, select, one}
 use Rattle.one_return.specs.Places.{value}
-use Rattle.one_return.specs.Resolution.{then_by, each_by, perhaps_by, FromIs, from_is, froms_by, select_over, resolving}
-use Rattle.one_return.specs.Scope.{Seen, Scope, inside}
+use Rattle.one_return.specs.Resolution.{then_by, each_by, perhaps_by, FromIs, from_is, froms_by, select_over, table_is, with_by, resolving, resolved}
+use Rattle.one_return.specs.Scope.{Seen, Place, Scope, inside, over_schema, without, with_table}
 use Rattle.one_return.specs.Written.{lateral_as}
 use Rattle.one_return.proofs.Values.{StandsFor}
 
@@ -107,6 +108,16 @@ lateral_stands scope before alias name names q y h =
     ap (λ s. then_by (s (name ∷ names) before scope) (λ s. Some (from_is alias s))) (eq.of_sub resolving q true)
     ∙ ap (λ o. then_by (then_by o (λ x. Some (record { it = source.Sub x true; columns = name ∷ names; names = map Some (name ∷ names) }))) (λ s. Some (from_is alias s))) h
 
+-- a table of the scope
+pub table_stands : (scope : Scope) (before : List Seen) (name alias : List ℕ) (columns : List (List ℕ)) (place : Place) → scope.table name ≡ Some place
+    → FromStands scope before (roll-FromItem (record { source = source.Table name; alias = alias; columns = columns })) (from_is alias (table_is name place))
+unfolding FromStands
+table_stands scope before name alias columns place h = ap (λ o. then_by (then_by o (λ p. Some (table_is name p))) (λ s. Some (from_is alias s))) h
+
+pub no_item : (scope : Scope) → FromsStand scope [] []
+unfolding FromsStand
+no_item scope = refl
+
 pub one_item : (scope : Scope) (f : FromItem) (is : FromIs) → FromStands scope [] f is → FromsStand scope (f ∷ []) (is ∷ [])
 unfolding FromStands FromsStand
 one_item scope f is h = ap (λ o. then_by o (λ x. Some (x ∷ []))) h
@@ -116,3 +127,22 @@ unfolding FromStands FromsStand
 two_items scope f g is then_is h k =
     ap (λ o. then_by o (λ x. then_by (then_by (from_of resolving g (x.seen ∷ []) scope) (λ y. Some (y ∷ []))) (λ xs. Some (x ∷ xs)))) h
     ∙ ap (λ o. then_by (then_by o (λ y. Some (y ∷ []))) (λ xs. Some (is ∷ xs))) k
+
+-- ---- a query over a recursive table
+
+-- of one select, where each term of the table is one
+abbrev pub over_table : List ℕ → List (List ℕ) → Select → Select → Select → Query
+over_table name columns first second s = roll-Query (record { recursive = Some (roll-Recursive (record { name = name; columns = columns; first = first ∷ []; second = second })); selects = s ∷ [] })
+
+pub over_table_stands : (scope : Scope) (name : List ℕ) (columns : List (List ℕ)) (first second s x y z : Select) → SelectStands (without name scope) first x → SelectStands (with_table name columns scope) second y
+    → SelectStands (with_table name columns scope) s z → QueryStands scope (over_table name columns first second s) (over_table name columns x y z)
+unfolding SelectStands QueryStands
+over_table_stands scope name columns first second s x y z h k l =
+    ap (λ q. q.it scope) (eq.of_with resolving (roll-Recursive (record { name = name; columns = columns; first = first ∷ []; second = second })) (s ∷ []))
+    ∙ (ap (λ r. with_by (Some r) (select_of resolving s ∷ []) scope) (eq.of_recursive resolving name columns (first ∷ []) second)
+    ∙ (λ i. then_by (then_by (then_by (h i) (λ a. Some (a ∷ []))) (λ a. then_by (k i) (λ b. Some (roll-Recursive (record { name = name; columns = columns; first = a; second = b })))))
+        (λ r. then_by (then_by (l i) (λ c. Some (c ∷ []))) (λ c. Some (roll-Query (record { recursive = Some r; selects = c }))))))
+
+pub resolved_is : (schema : Schema) (q y : Query) → QueryStands (over_schema schema []) q y → resolved schema q ≡ Some y
+unfolding QueryStands
+resolved_is schema q y h = h
