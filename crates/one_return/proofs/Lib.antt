@@ -4,3 +4,5 @@ pub mod ColumnPlaces
 pub mod Selected
 pub mod TemplateNames
 pub mod Placing
+pub mod WrittenTree
+pub mod TreeIsTemplate
