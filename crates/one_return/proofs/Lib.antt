@@ -6,3 +6,4 @@ pub mod TemplateNames
 pub mod Placing
 pub mod WrittenTree
 pub mod TreeIsTemplate
+pub mod WrittenMeans
