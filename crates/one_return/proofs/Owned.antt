@@ -1,16 +1,15 @@
 -- The expression with slots for its names is a function's own: its slots are variables, and no aggregate stands in it.
-use Rattle.std.proofs.Common.{◌≡◌, refl, ap, sym, ◌∙◌, ℕ, suc, ◌+◌, ◌<◌, nat_lt, Bool, true, false, ◌&&◌, ◌||◌, if◌then◌else◌, List, [], ◌∷◌, ◌++◌, map, length, flat_map, Option, Some, None, bytes_eq, arith}
+use Rattle.std.proofs.Common.{◌≡◌, refl, ap, ◌∙◌, ℕ, suc, ◌+◌, ◌<◌, nat_lt, Bool, true, false, ◌&&◌, ◌||◌, if◌then◌else◌, List, [], ◌∷◌, ◌++◌, map, length, flat_map, Option, Some, bytes_eq, arith}
 use Rattle.std.proofs.lemmas.Bool.{lt-ltb}
 use Rattle.std.proofs.lemmas.List.Folds.{list_all-append}
 use Rattle.std.specs.List.{list_all, list_any}
 use Rattle.away_core.specs.declared.operators.ChainOp.{ChainOp}
 use Rattle.away_core.specs.declared.queries.Expr.{Expr}
-use Rattle.away_core.specs.declared.queries.Expr.TheVariants as expr
 use Rattle.away_core.specs.Algebra.{expr_of}
 use Rattle.away_core.proofs.Equations as eq
 use Rattle.sql_meaning.specs.Meaning.{has_aggregate}
 use Rattle.sql_meaning.specs.OneReturn.{IsSource}
-use Rattle.sql_meaning.specs.Reads.{Read, Reads, reading, allows, fits}
+use Rattle.sql_meaning.specs.Reads.{Read, Reads, reading, allows}
 use Rattle.sql_meaning.proofs.Nodes.{aggregate_chain}
 use Rattle.one_return.specs.Places.{Part, value, links, Tree, Places, literal, variable, chain, last, another}
 use Rattle.one_return.specs.Scope.{slot_from}

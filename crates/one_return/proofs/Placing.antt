@@ -1,18 +1,17 @@
 -- A function's expression in its query: each column stands for the slot that is there.
-use Rattle.std.proofs.Common.{◌≡◌, refl, ap, sym, ◌∙◌, ℕ, zero, suc, ◌+◌, ◌<◌, ◌^◌, List, [], ◌∷◌, map, length, Some, None, pos, arith}
+use Rattle.std.proofs.Common.{◌≡◌, refl, ap, sym, ◌∙◌, ℕ, suc, ◌<◌, ◌^◌, List, map, length, Some, pos, arith}
 use Rattle.away_core.specs.declared.types.Ty.{Ty}
 use Rattle.away_core.specs.declared.types.Ty.TheVariants as ty
 use Rattle.away_core.specs.declared.operators.ChainOp.{ChainOp}
 use Rattle.away_core.specs.declared.queries.Expr.{Expr}
 use Rattle.away_core.specs.declared.queries.Expr.TheVariants as expr
 use Rattle.away_core.specs.declared.schemas.Schema.{Schema}
-use Rattle.away_core.specs.Algebra.{Algebra, expr_of}
+use Rattle.away_core.specs.Algebra.{Algebra}
 use Rattle.away_core.proofs.Equations as eq
 use Rattle.sql_meaning.specs.Placed.{Deep, replacing, column_of, with_cast, placed, placed_at}
 use Rattle.sql_meaning.specs.Template.{slot_at}
 use Rattle.one_return.specs.Places.{Part, value, links, Tree, Places, literal, variable, chain, last, another}
-use Rattle.one_return.specs.Scope.{slot_from}
-use Rattle.one_return.specs.Written.{table_name, column_name}
+use Rattle.one_return.specs.Written.{column_name}
 use Rattle.one_return.proofs.ColumnPlaces.{parameter_is}
 use Rattle.one_return.proofs.Owned.{slot_below}
 use Rattle.one_return.proofs.Selected.{cast_stands}

@@ -4,15 +4,14 @@ use Rattle.away_core.specs.declared.types.Ty.{Ty}
 use Rattle.away_core.specs.declared.queries.Expr.{Expr}
 use Rattle.away_core.specs.declared.queries.Expr.TheVariants as expr
 use Rattle.away_core.specs.declared.queries.FromItem.{FromItem}
-use Rattle.away_core.specs.declared.queries.Item.{Item}
 use Rattle.away_core.specs.declared.queries.Source.{Source}
 use Rattle.away_core.specs.declared.queries.Source.TheVariants as source
 use Rattle.away_core.specs.declared.queries.Select.{Select}
 use Rattle.away_core.specs.declared.queries.Query.{Query}
-use Rattle.away_core.specs.declared.queries.Expr.TheViews.{roll-FromItem, roll-Recursive, roll-Query}
+use Rattle.away_core.specs.declared.queries.Expr.TheViews.{roll-FromItem, roll-Recursive}
 use Rattle.away_core.specs.Algebra.{expr_of, item_of, from_of, select_of, query_of}
 use Rattle.away_core.proofs.Equations as eq
-use Rattle.sql_meaning.specs.Names.{nameless, bare_columns, bare_select, bare_query, bare_recursive, bare}
+use Rattle.sql_meaning.specs.Names.{nameless, bare_columns, bare_select, bare_query, bare_recursive}
 use Rattle.sql_meaning.specs.Placed.{placed_at}
 use Rattle.sql_meaning.specs.Template as t
 use Rattle.sql_meaning.specs.Template.{slot_at, start, query_of_return}

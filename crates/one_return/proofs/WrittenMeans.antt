@@ -1,5 +1,5 @@
 -- The written query stands for the template, where the function's expression stands so in it; and so the compiled text has the function's answers.
-use Rattle.std.proofs.Common.{◌≡◌, refl, ap, sym, ◌∙◌, subst, ℕ, ◌+◌, ◌*◌, ◌<◌, ◌≤◌, ◌^◌, List, [], ◌∷◌, map, length, Some, arith}
+use Rattle.std.proofs.Common.{◌≡◌, refl, sym, ◌∙◌, subst, ℕ, ◌<◌, ◌≤◌, ◌^◌, List, map, length, Some, arith}
 use Rattle.std.proofs.lemmas.List.{length-map}
 use Rattle.std.proofs.lemmas.Slice.Zip.{AllZip-long}
 use Rattle.away_core.specs.declared.types.Ty.{Ty}
@@ -16,7 +16,7 @@ use Rattle.sql_meaning.specs.Placed.{placed_at}
 use Rattle.sql_meaning.specs.Template.{slot_at}
 use Rattle.sql_meaning.specs.Typed.{AreTyped}
 use Rattle.sql_meaning.proofs.Theorem.{one_return}
-use Rattle.one_return.specs.Compiled.{IsCompiled, IsAnswerOf}
+use Rattle.one_return.specs.Compiled.{IsCompiled}
 use Rattle.one_return.specs.Fits.{FitsTable, FitsSchema}
 use Rattle.one_return.specs.Form.{IsForm, names_of}
 use Rattle.one_return.specs.Places.{Places, value}

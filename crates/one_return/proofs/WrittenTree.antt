@@ -1,5 +1,5 @@
 -- The written query, with what its names stand for.
-use Rattle.std.proofs.Common.{◌≡◌, refl, ap, sym, ◌∙◌, ℕ, zero, suc, ◌+◌, ◌<◌, ◌^◌, pos, true, false, List, [], ◌∷◌, ◌++◌, map, length, Some, None, decimal}
+use Rattle.std.proofs.Common.{◌≡◌, refl, ℕ, suc, ◌<◌, ◌^◌, pos, true, false, List, [], ◌∷◌, ◌++◌, map, length, Some, None, decimal}
 use Rattle.away_core.specs.declared.types.Ty.{Ty}
 use Rattle.away_core.specs.declared.types.Ty.TheVariants as ty
 use Rattle.away_core.specs.declared.operators.CmpOp.TheVariants as cmp
@@ -14,13 +14,13 @@ use Rattle.away_core.specs.declared.schemas.Schema.{Schema}
 use Rattle.sql_meaning.specs.Template.{below, arguments, start, is_label}
 use Rattle.sql_meaning.specs.Trees.{col, number, truth, null_of, select, one}
 use Rattle.one_return.specs.Places.{value}
-use Rattle.one_return.specs.Resolution.{FromIs, resolved}
+use Rattle.one_return.specs.Resolution.{resolved}
 use Rattle.one_return.specs.Scope.{Scope}
 use Rattle.one_return.specs.Written.{table_name, step_name, gate_name, value_name, only_name, go_name, label_name, result_name, fault_name, columns, from_table, lateral_as, written}
 use Rattle.one_return.specs.Written as w
 use Rattle.one_return.proofs.ColumnPlaces.{go_is, label_is, result_is, fault_is}
-use Rattle.one_return.proofs.Selected.{StandFor, SelectStands, QueryStands, FromStands, none, more, for_each, number_stands, truth_stands, null_stands, not_stands, compare_stands, filter_stands, select_stands, one_stands, lateral_is, lateral_stands, table_stands, no_item, one_item, two_items, over_table, over_table_stands, resolved_is}
-use Rattle.one_return.proofs.TemplateNames.{around, first_term, over_calls, calls, gated, valued, in_step, at_call, in_branch, in_gate, in_value, call_here, call_in_step, call_in_gate, value_in_branch, steps_stand}
+use Rattle.one_return.proofs.Selected.{StandFor, SelectStands, FromStands, none, more, for_each, number_stands, truth_stands, null_stands, not_stands, compare_stands, filter_stands, select_stands, one_stands, lateral_is, lateral_stands, table_stands, no_item, one_item, two_items, over_table, over_table_stands, resolved_is}
+use Rattle.one_return.proofs.TemplateNames.{around, first_term, over_calls, calls, gated, in_step, at_call, in_branch, in_gate, in_value, call_here, call_in_step, call_in_gate, value_in_branch, steps_stand}
 use Rattle.one_return.proofs.Values.{StandsFor}
 
 -- ---- the first term
