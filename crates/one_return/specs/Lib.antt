@@ -6,3 +6,4 @@ pub mod Compiled
 pub mod Refusals
 pub mod Places
 pub mod Written
+pub mod Examples

@@ -2,7 +2,9 @@
 #![tactic(auto)]
 
 mod compiler;
+mod laws;
 mod refusal;
 
 pub use compiler::compile;
+pub use laws::a_worked_query_stands_for_its_template;
 pub use refusal::CompileError;
