@@ -45,8 +45,7 @@ module _ (tables : ℕ) (variables : List (List ℕ)) where
   owned _ _ _ _ (variable {n} {i} there) = (ap (λ b. b && true) (lt-ltb i (length variables) (let b = slot_below 0 n variables i there in omega arith)), refl)
   owned _ _ _ _ (chain {x} {y} {z} {xs} {ys} {zs} level h rest) =
       let first = owned value x y z h in
-      let more = owned (links level) xs ys zs rest in
-      (
+      let more = owned (links level) xs ys zs rest in (
         ap (λ (r : Reads). list_all allowed (r 0)) (eq.of_chain reading y ys) ∙ both (expr_of reading y 0) _ first.0 more.0,
         aggregate_chain y ys ∙ (λ i. first.1 i || more.1 i),
       )

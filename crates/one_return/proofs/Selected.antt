@@ -141,7 +141,7 @@ over_table_stands scope name columns first second s x y z h k l =
     ap (λ q. q.it scope) (eq.of_with resolving (roll-Recursive (record { name = name; columns = columns; first = first ∷ []; second = second })) (s ∷ []))
     ∙ (ap (λ r. with_by (Some r) (select_of resolving s ∷ []) scope) (eq.of_recursive resolving name columns (first ∷ []) second)
     ∙ (λ i. then_by (then_by (then_by (h i) (λ a. Some (a ∷ []))) (λ a. then_by (k i) (λ b. Some (roll-Recursive (record { name = name; columns = columns; first = a; second = b })))))
-        (λ r. then_by (then_by (l i) (λ c. Some (c ∷ []))) (λ c. Some (roll-Query (record { recursive = Some r; selects = c }))))))
+    (λ r. then_by (then_by (l i) (λ c. Some (c ∷ []))) (λ c. Some (roll-Query (record { recursive = Some r; selects = c }))))))
 
 pub resolved_is : (schema : Schema) (q y : Query) → QueryStands (over_schema schema []) q y → resolved schema q ≡ Some y
 unfolding QueryStands

@@ -44,8 +44,8 @@ and_more f g fs gs h rest = record { same = λ i. h.same i ∷ rest.same i }
 same_select : (es : List Expr) (fs gs : List FromItem) (filter : _) → SameItems fs gs → SameSelect (select es fs filter) (select es gs filter)
 same_select es fs gs filter h = record {
   same = eq.of_select nameless (map item es) fs filter [] None
-  ∙ (ap (λ froms. bare_select (record { list = map (λ i. item_of nameless i) (map item es); from = froms; filter = option_map (λ e. expr_of nameless e) filter; order = []; limit = None })) h.same
-  ∙ sym (eq.of_select nameless (map item es) gs filter [] None));
+      ∙ (ap (λ froms. bare_select (record { list = map (λ i. item_of nameless i) (map item es); from = froms; filter = option_map (λ e. expr_of nameless e) filter; order = []; limit = None })) h.same
+      ∙ sym (eq.of_select nameless (map item es) gs filter [] None));
 }
 
 same_one : (s u : Select) → SameSelect s u → SameQuery (one s) (one u)
@@ -57,8 +57,8 @@ same_one s u h = record {
 same_lateral : (alias : List ℕ) (names : List (List ℕ)) (q r : Query) → SameQuery q r → SameItem (lateral_as alias names q) (lateral r)
 same_lateral alias names q r h = record {
   same = ap (λ (s : Source). roll-FromItem (record { source = s; alias = []; columns = bare_columns s names })) (eq.of_sub nameless q true)
-  ∙ (ap (λ x. roll-FromItem (record { source = source.Sub x true; alias = []; columns = [] })) h.same
-  ∙ sym (ap (λ (s : Source). roll-FromItem (record { source = s; alias = []; columns = bare_columns s [] })) (eq.of_sub nameless r true)));
+      ∙ (ap (λ x. roll-FromItem (record { source = source.Sub x true; alias = []; columns = [] })) h.same
+      ∙ sym (ap (λ (s : Source). roll-FromItem (record { source = s; alias = []; columns = bare_columns s [] })) (eq.of_sub nameless r true)));
 }
 
 -- ---- the template

@@ -33,8 +33,7 @@ use Rattle.one_return.proofs.WrittenTree.{tree, written_stands}
 pub written_means : (schema : Schema) (variables : List (List ℕ)) (params : List Ty) (result : Ty) {e y x : Expr} → length variables ≡ length params → length params < 2 ^ 64 → Places variables value e y x
     → (r : Query) × (resolved schema (written params result x) ≡ Some r) × IsTemplate (length schema.tables) params result y r
 written_means schema variables params result {e} {y} {x} long small h =
-    let placed : Expr = placed_at result slot_at y in
-    (
+    let placed : Expr = placed_at result slot_at y in (
       tree (length schema.tables) (length params) params result placed,
       written_stands schema params small x placed (expression_stands schema (length params) variables long small result h) result,
       tree_is_template (length schema.tables) params result y,
@@ -71,5 +70,5 @@ compiled schema f {e} {y} {x} text form h reads few =
       means = query.1;
       answers = record { written = e; value = y; not_strict = form.not_strict; body = form.body; means = means schema (names_of f) h; answers = refl };
       equivalent = narrower (FitsSchema schema) (λ T. length T ≡ length schema.tables) (AreTyped params) (weight f) (answer_of_return y) query.0 (λ T fits. AllZip-long FitsTable schema.tables T fits)
-        (one_return (length schema.tables) (weight f) params f.result y few (some_weight f) (subst (λ n. IsSource (length schema.tables) n y) as_many (is_source (length schema.tables) (names_of f) h)) query.0 query.2);
+          (one_return (length schema.tables) (weight f) params f.result y few (some_weight f) (subst (λ n. IsSource (length schema.tables) n y) as_many (is_source (length schema.tables) (names_of f) h)) query.0 query.2);
     }
