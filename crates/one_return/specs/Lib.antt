@@ -7,3 +7,4 @@ pub mod Refusals
 pub mod Places
 pub mod Written
 pub mod Examples
+pub mod NameExamples

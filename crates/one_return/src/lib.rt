@@ -6,5 +6,8 @@ mod laws;
 mod refusal;
 
 pub use compiler::compile;
-pub use laws::a_worked_query_stands_for_its_template;
+pub use laws::{
+    a_name_stands_for_what_is_nearest, a_worked_query_stands_for_its_template,
+    an_item_sees_what_stands_before_it,
+};
 pub use refusal::CompileError;
