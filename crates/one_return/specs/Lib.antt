@@ -8,3 +8,5 @@ pub mod Places
 pub mod Placing
 pub mod Written
 pub mod Known
+pub mod Examples
+pub mod NameExamples
