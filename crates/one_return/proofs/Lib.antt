@@ -12,3 +12,4 @@ pub mod InPlace
 pub mod WrittenTree
 pub mod TreeIsTemplate
 pub mod WrittenMeans
+pub mod PlacingSteps

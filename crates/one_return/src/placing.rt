@@ -16,6 +16,7 @@ use std::alloc::Global;
 
 /// The expression with a column of the working table for each parameter, and each literal under a cast to its type.
 #[cycle(placing)]
+#[tactic(auto, using(crate::proofs::Arithmetic::arithmetic_rules))]
 pub fn placed(
     alloc: Global,
     params: &[(Name, Ty)],
@@ -34,7 +35,26 @@ pub fn placed(
             let links = placed_links(alloc, params, level, links.as_slice())?;
             Ok(Boxed::new(alloc, Expr::Chain(first, links))?)
         }
-        _ => unreachable!(),
+        Expr::Str(_)
+        | Expr::Bool(_)
+        | Expr::Null
+        | Expr::Dotted(_, _)
+        | Expr::Slot(_)
+        | Expr::Column(_)
+        | Expr::Param(_, _)
+        | Expr::Neg(_)
+        | Expr::NegSmall(_)
+        | Expr::Not(_)
+        | Expr::Is(_, _, _)
+        | Expr::Compare(_, _, _)
+        | Expr::Between(_, _, _, _)
+        | Expr::OneOf(_, _, _)
+        | Expr::Cast(_, _)
+        | Expr::Cases(_, _)
+        | Expr::Call(_, _)
+        | Expr::CountRows
+        | Expr::Scalar(_)
+        | Expr::Exists(_) => unreachable!(),
     }
 }
 
