@@ -1,6 +1,8 @@
 -- The lines that are written in place of an output.
 use Rattle.std.specs.Prelude.{ℕ, List, [], ◌∷◌, ◌++◌, codes}
 use Rattle.std.specs.Fmt.{decimal}
+use Rattle.away_lex.specs.declared.kind.LimitKind.{LimitKind}
+use Rattle.away_lex.specs.declared.kind.LimitKind.TheVariants.{Nesting, Nodes, Variables, Loops}
 
 -- a text and LF
 abbrev pub line : List ℕ → List ℕ
@@ -17,3 +19,17 @@ read_fault name = line (codes "read fault " ++ name)
 -- the rule of a bad token, with its offset
 abbrev pub bad_token : ℕ → List ℕ
 bad_token offset = codes "X2 " ++ decimal offset
+
+-- the rule of a word that isn't read, with the word
+abbrev pub outside_word : List ℕ → List ℕ
+outside_word word = codes "X4 " ++ word
+
+abbrev pub limit_name : LimitKind → List ℕ
+limit_name Nesting = codes "nesting"
+limit_name Nodes = codes "nodes"
+limit_name Variables = codes "variables"
+limit_name Loops = codes "loops"
+
+-- the rule of a limit, with what is counted and the count
+abbrev pub exceeded : LimitKind → ℕ → List ℕ
+exceeded which found = codes "X5 " ++ (limit_name which ++ (codes " " ++ decimal found))

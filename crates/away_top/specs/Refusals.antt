@@ -1,29 +1,48 @@
--- What a refusal says of the bytes of a file.
-use Rattle.std.specs.Prelude.{ℕ, List}
-use Rattle.away_core.specs.Tokens.{Lexeme}
-use Rattle.away_top.specs.declared.one_return.refusal.Refusal.{Refusal}
-use Rattle.away_top.specs.declared.one_return.refusal.Refusal.TheVariants.{Source, Form}
-use Rattle.away_top.specs.declared.one_return.source.SourceError.{SourceError}
-use Rattle.away_top.specs.declared.one_return.source.SourceError.TheVariants.{NotText, Token, NoMemory}
-use Rattle.away_top.specs.Sources.{HasBadFileToken, HasBadToken, HasFileTokens, IsText}
+-- What the files of a run read as, and which rules they are refused by.
+use Rattle.std.specs.Prelude.{◌≡◌, ◌⊎◌, ℕ, List, codes}
+use Rattle.away_core.specs.declared.schemas.Schema.{Schema}
+use Rattle.away_core.specs.declared.statements.Function.{Function}
+use Rattle.away_core.specs.FunctionGrammar.{ReadsFunction}
+use Rattle.away_core.specs.Texts.{ReadsSchema}
+use Rattle.away_lex.specs.declared.kind.ReadRefusal.{ReadRefusal}
+use Rattle.away_lex.specs.declared.kind.ReadRefusal.TheVariants.{NotText, Token, NoTree, Outside, Limit, NoMemory}
+use Rattle.sql_text.specs.Refusals as query
+use Rattle.plsql_parse.specs.Refusals as function
+use Rattle.one_return.specs.Form.{HasForm}
+use Rattle.one_return.specs.Refusals.{HasUnknownName}
+use Rattle.away_top.specs.Lines.{bad_token, exceeded, outside_word}
 
--- why a file has no token list
-abbrev pub IsSourceError : List ℕ → SourceError → Type 0
-IsSourceError bytes NotText = ¬ (IsText bytes)
-IsSourceError bytes (Token offset) = HasBadToken bytes offset
-IsSourceError bytes NoMemory = Unit {0}
+-- The rule that a reader's refusal is printed as, with its details. Want of memory is no refusal of the file.
+abbrev pub IsRule : ReadRefusal → List ℕ → Type 0
+IsRule NotText rule = rule ≡ codes "X1"
+IsRule (Token offset) rule = rule ≡ bad_token offset
+IsRule NoTree rule = rule ≡ codes "X3"
+IsRule (Outside word) rule = rule ≡ outside_word word
+IsRule (Limit which found) rule = rule ≡ exceeded which found
+IsRule NoMemory rule = ⊥
 
--- why a function's file has no token lists
-abbrev pub IsFileError : List ℕ → SourceError → Type 0
-IsFileError bytes NotText = ¬ (IsText bytes)
-IsFileError bytes (Token offset) = HasBadFileToken bytes offset
-IsFileError bytes NoMemory = Unit {0}
+-- the reader refuses the bytes by the rule
+abbrev pub RefusesRead : (ReadRefusal → Type 0) → List ℕ → Type 0
+RefusesRead Refuses rule = (refusal : ReadRefusal) × Refuses refusal × IsRule refusal rule
 
--- the tokens of a function's file are there
-abbrev pub HasReadTokens : List ℕ → Type 0
-HasReadTokens bytes = (outer : List Lexeme) × ((body : List Lexeme) × HasFileTokens bytes outer body)
+-- ---- the schema
 
--- why a function isn't compiled
-abbrev pub IsRefusal : List ℕ → Refusal → Type 0
-IsRefusal bytes (Source error) = IsFileError bytes error
-IsRefusal bytes (Form error) = HasReadTokens bytes
+abbrev pub RefusesSchema : List ℕ → List ℕ → Type 0
+RefusesSchema bytes = RefusesRead (query.Refuses (ReadsSchema bytes) bytes)
+
+-- it reads as a schema
+abbrev pub IsSchema : List ℕ → Type 0
+IsSchema bytes = (schema : Schema) × query.MayBeRead bytes × ReadsSchema bytes schema
+
+-- ---- the function
+
+-- it reads as this function, within the limits
+abbrev pub ReadsWithin : List ℕ → Function → Type 0
+ReadsWithin bytes f = function.MayBeRead bytes × ReadsFunction bytes f × function.KeepsLimits f
+
+-- A function that reads isn't of the form that is compiled, or a name in it stands for nothing.
+abbrev pub RefusesForm : Function → List ℕ → Type 0
+RefusesForm f rule = (¬ (HasForm f) × (rule ≡ codes "UNBUILT")) ⊎ (HasUnknownName f × (rule ≡ codes "X7"))
+
+abbrev pub RefusesFunction : List ℕ → List ℕ → Type 0
+RefusesFunction bytes rule = RefusesRead (function.Refuses bytes) rule ⊎ ((f : Function) × ReadsWithin bytes f × RefusesForm f rule)

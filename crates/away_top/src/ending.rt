@@ -1,11 +1,13 @@
 //! How a run ends: a status and all that it writes.
 
 ghost use Rattle.std.specs.Prelude.{◌≡◌, IfOk, codes};
-ghost use Rattle.away_top.specs.Lines.{bad_token, line, read_fault, refusal};
+ghost use Rattle.away_top.specs.Lines.{bad_token, exceeded, limit_name, line, outside_word, read_fault, refusal};
 ghost use Rattle.away_top.specs.Help.{help_text, version_text};
 ghost use Rattle.away_top.specs.Steps.{IsEnding};
 
 use crate::Status;
+use away_core::Name;
+use away_lex::LimitKind;
 use itoa::Buffer;
 use std::alloc::{AllocError, Global};
 
@@ -85,4 +87,41 @@ pub fn refused_token(alloc: Global, name: &str, offset: u64) -> Result<Ending, A
     let mut rule = b"X2 ".to_vec(alloc)?;
     rule.extend_from_slice(buffer.format(offset).as_bytes())?;
     refused(alloc, name, &rule)
+}
+
+/// The file is refused for a word of a form that isn't read.
+pub fn refused_word(alloc: Global, name: &str, word: &Name) -> Result<Ending, AllocError>
+    ensures { IfOk result (λ ending. IsEnding ending Status.Refused (refusal name.now (outside_word word.now))) }
+{
+    let mut rule = b"X4 ".to_vec(alloc)?;
+    rule.extend_from_slice(word.text().as_bytes())?;
+    refused(alloc, name, &rule)
+}
+
+/// The file is refused for a limit.
+pub fn refused_limit(
+    alloc: Global,
+    name: &str,
+    which: LimitKind,
+    found: u64,
+) -> Result<Ending, AllocError>
+    ensures { IfOk result (λ ending. IsEnding ending Status.Refused (refusal name.now (exceeded which found))) }
+{
+    let mut buffer = Buffer::new();
+    let mut rule = b"X5 ".to_vec(alloc)?;
+    rule.extend_from_slice(limit_text(which))?;
+    rule.push(b' ')?;
+    rule.extend_from_slice(buffer.format(found).as_bytes())?;
+    refused(alloc, name, &rule)
+}
+
+fn limit_text(which: LimitKind) -> &'static [u8]
+    ensures { result.now ≡ limit_name which }
+{
+    match which {
+        LimitKind::Nesting => b"nesting",
+        LimitKind::Nodes => b"nodes",
+        LimitKind::Variables => b"variables",
+        LimitKind::Loops => b"loops",
+    }
 }

@@ -63,6 +63,7 @@ impl Files for MemoryFiles {
         ensures long { IfErr result (IsTooLong limit (held_at self.old.held name.now)) }
         ensures failed { IsErrOf result ReadError.Failed → Rose self.old.faults self.new.faults }
         ensures unsafe_name { IsErrOf result ReadError.Failed → IsSafeName self.old name.now → ⊥ }
+        ensures quiet { ¬ (IsErrOf result ReadError.Failed) → self.new.faults ≡ self.old.faults }
 
         // And exactly:
         ensures listed { Contains self.old.fails (counted self.old.calls) → IsCountedFailure self.old.faults result self.new.faults }

@@ -33,7 +33,3 @@ pub record IsCompiled (schema : Schema) (f : Function) (text : List ℕ) : Type 
   pub means : resolved schema written ≡ Some query
   pub answers : IsAnswerOf schema f answer
   pub equivalent : IsEquivalent (FitsSchema schema) (AreTyped (map (λ p. p.1) f.params)) (weight f) answer query
-
--- The same for each schema whose tables can be counted.
-abbrev pub Compiles : Function → List ℕ → Type 0
-Compiles f text = (schema : Schema) → length schema.tables < 2 ^ 64 → IsCompiled schema f text
