@@ -9,6 +9,7 @@ mod laws;
 mod leaves;
 mod one_tree;
 mod print_laws;
+mod printing;
 mod read;
 mod refusal;
 mod schemas;
@@ -23,6 +24,7 @@ pub use one_tree::a_text_reads_as_one_tree;
 pub use print_laws::{
     printed_expressions_read_back, printed_queries_read_back, printing_reads_back,
 };
+pub use printing::print_query;
 pub use read::{read_expr, read_query, read_schema};
 pub use refusal::Refusal;
 pub use signs::Sign;
