@@ -13,3 +13,8 @@ pub mod WrittenTree
 pub mod TreeIsTemplate
 pub mod WrittenMeans
 pub mod PlacingSteps
+pub mod SpokenNames
+pub mod Readable
+pub mod ReadableQueries
+pub mod ReadableExpression
+pub mod WrittenReads
