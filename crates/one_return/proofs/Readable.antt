@@ -1,5 +1,5 @@
 -- Spoken signs that read as a tree, whatever follows them; and those of expressions, each from those of its parts.
-use Rattle.std.proofs.Common.{◌≡◌, refl, ℕ, ◌<◌, ◌≤◌, ◌^◌, pos, Bool, true, false, List, ◌∷◌, Some, codes, arith}
+use Rattle.std.proofs.Common.{◌≡◌, refl, ℕ, ◌<◌, ◌≤◌, ◌^◌, pos, true, false, List, ◌∷◌, Some, codes, arith}
 use Rattle.away_core.specs.declared.grammar.Mark.{Mark}
 use Rattle.away_core.specs.declared.grammar.Mark.TheVariants as m
 use Rattle.away_core.specs.declared.grammar.Level.{Level}
