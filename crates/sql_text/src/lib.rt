@@ -6,13 +6,19 @@ mod cursor;
 mod expressions;
 mod files;
 mod laws;
+mod layout;
 mod leaves;
 mod one_tree;
+mod operators;
+mod parts;
+mod pieces;
 mod print_laws;
+mod printing;
 mod read;
 mod refusal;
 mod schemas;
 mod signs;
+mod spelling;
 mod tables;
 
 pub use complete_law::what_is_read_is_given;
@@ -23,10 +29,13 @@ pub use one_tree::a_text_reads_as_one_tree;
 pub use print_laws::{
     printed_expressions_read_back, printed_queries_read_back, printing_reads_back,
 };
+pub use printing::print_query;
 pub use read::{read_expr, read_query, read_schema};
 pub use refusal::Refusal;
 pub use signs::Sign;
 
+#[cfg(test)]
+mod print_tests;
 #[cfg(test)]
 mod production_tests;
 #[cfg(test)]
