@@ -39,7 +39,7 @@ fn push_space(text: &mut String, spaced: bool) -> Result<(), NoMemory>
 }
 
 fn push_piece(alloc: Global, text: &mut String, piece: Piece<'_>) -> Result<(), NoMemory>
-    ensures { OnOk result (string_bytes text.new ≡ string_bytes text.old ++ (spelled (shown piece)).text) }
+    ensures { OnOk result (string_bytes text.new ≡ string_bytes text.old ++ (spelled (shown piece.entry)).text) }
 {
     match piece {
         Piece::Mark(mark) => text.push_str(mark_text(mark))?,
@@ -53,7 +53,7 @@ fn push_piece(alloc: Global, text: &mut String, piece: Piece<'_>) -> Result<(), 
 
 /// Whether a space stands between what is before, if something is, and a piece.
 fn is_spaced(before: Option<Piece<'_>>, piece: Piece<'_>) -> bool
-    ensures { result ≡ spec.is_spaced (option_map shown before) (shown piece) }
+    ensures { result ≡ spec.is_spaced (option_map shown before.entry) (shown piece.entry) }
 {
     match before {
         None => false,
@@ -62,34 +62,34 @@ fn is_spaced(before: Option<Piece<'_>>, piece: Piece<'_>) -> bool
 }
 
 fn is_glued(before: Piece<'_>, piece: Piece<'_>) -> bool
-    ensures { result ≡ glued reserved.calls (spelled (shown before)) (spelled (shown piece)) }
+    ensures { result ≡ glued reserved.calls (spelled (shown before.entry)) (spelled (shown piece.entry)) }
 {
     opens(before) || closes(piece) || (calls(before) && is_opening(piece))
 }
 
 /// Whether no space stands behind it.
 fn opens(piece: Piece<'_>) -> bool
-    ensures { result ≡ (is_one 40 (spelled (shown piece)) || is_one 46 (spelled (shown piece))) }
+    ensures { result ≡ (is_one 40 (spelled (shown piece.entry)) || is_one 46 (spelled (shown piece.entry))) }
 {
     matches!(piece, Piece::Mark(Mark::Open | Mark::Dot))
 }
 
 /// Whether no space stands before it.
 fn closes(piece: Piece<'_>) -> bool
-    ensures { result ≡ (is_one 41 (spelled (shown piece)) || (is_one 44 (spelled (shown piece)) || is_one 46 (spelled (shown piece)))) }
+    ensures { result ≡ (is_one 41 (spelled (shown piece.entry)) || (is_one 44 (spelled (shown piece.entry)) || is_one 46 (spelled (shown piece.entry)))) }
 {
     matches!(piece, Piece::Mark(Mark::Close | Mark::Comma | Mark::Dot))
 }
 
 fn is_opening(piece: Piece<'_>) -> bool
-    ensures { result ≡ is_one 40 (spelled (shown piece)) }
+    ensures { result ≡ is_one 40 (spelled (shown piece.entry)) }
 {
     matches!(piece, Piece::Mark(Mark::Open))
 }
 
 /// Whether it is a word that `(` follows without a space: one that isn't reserved, or that reads as a function's name.
 fn calls(piece: Piece<'_>) -> bool
-    ensures { result ≡ (is_word_kind (spelled (shown piece)).kind && reserved.calls (spelled (shown piece)).text) }
+    ensures { result ≡ (is_word_kind (spelled (shown piece.entry)).kind && reserved.calls (spelled (shown piece.entry)).text) }
 {
     match piece {
         Piece::Mark(mark) => mark_calls(mark),
@@ -98,6 +98,7 @@ fn calls(piece: Piece<'_>) -> bool
     }
 }
 
+#[tactic(auto, unfolding(away_core::specs::Reserved::calls, away_core::specs::Reserved::is_reserved))]
 fn mark_calls(mark: Mark) -> bool
     ensures { result ≡ (is_word_kind (mark_spelled mark).kind && reserved.calls (mark_spelled mark).text) }
 {

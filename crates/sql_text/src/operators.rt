@@ -43,7 +43,11 @@ pub fn level_of(expr: &Expr) -> Level
 fn level_of_integer(number: i64) -> Level
     ensures { result ≡ (printed (expr.Int number)).level }
 {
-    if number < 0 { Level::Sign } else { Level::Primary }
+    if number < 0 {
+        Level::Sign
+    } else {
+        Level::Primary
+    }
 }
 
 /// The level of a chain, by its first operator.

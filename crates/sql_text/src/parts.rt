@@ -22,7 +22,11 @@ pub fn add_alias<'a>(pieces: &mut Pieces<'a>, alias: &'a Name) -> Result<(), NoM
 }
 
 /// Adds the alias of a FROM item. A table's own name is its alias where no other is written.
-pub fn add_alias_behind<'a>(pieces: &mut Pieces<'a>, source: &Source, alias: &'a Name) -> Result<(), NoMemory>
+pub fn add_alias_behind<'a>(
+    pieces: &mut Pieces<'a>,
+    source: &Source,
+    alias: &'a Name,
+) -> Result<(), NoMemory>
     ensures { Adds (alias_behind (source_of printing source.now).own_alias alias.now) pieces.old result pieces.new }
 {
     match source {
@@ -71,7 +75,11 @@ pub fn add_integer(pieces: &mut Pieces<'_>, number: i64) -> Result<(), NoMemory>
     }
 }
 
-pub fn add_dotted<'a>(pieces: &mut Pieces<'a>, alias: &'a Name, name: &'a Name) -> Result<(), NoMemory>
+pub fn add_dotted<'a>(
+    pieces: &mut Pieces<'a>,
+    alias: &'a Name,
+    name: &'a Name,
+) -> Result<(), NoMemory>
     ensures { Adds (sign.name alias.now ∷ sign.mark m.Dot ∷ sign.name name.now ∷ []) pieces.old result pieces.new }
 {
     pieces.name(alias)?;
@@ -107,7 +115,11 @@ pub fn add_test(pieces: &mut Pieces<'_>, test: IsTest, negative: bool) -> Result
 }
 
 /// Adds the name of a function, which is a reserved word for some that have arguments.
-pub fn add_function<'a>(pieces: &mut Pieces<'a>, name: &'a Name, has_arguments: bool) -> Result<(), NoMemory>
+pub fn add_function<'a>(
+    pieces: &mut Pieces<'a>,
+    name: &'a Name,
+    has_arguments: bool,
+) -> Result<(), NoMemory>
     ensures { Adds ((if has_arguments then spec.function_sign name.now else sign.name name.now) ∷ []) pieces.old result pieces.new }
 {
     if !has_arguments {
@@ -120,6 +132,7 @@ pub fn add_function<'a>(pieces: &mut Pieces<'a>, name: &'a Name, has_arguments: 
 }
 
 /// The reserved word that reads as the name.
+#[tactic(auto, unfolding(away_core::specs::Printing::function_sign))]
 fn function_mark(name: &Name) -> Option<Mark>
     ensures { sign.mark_or result (sign.name name.now) ≡ spec.function_sign name.now }
 {

@@ -55,7 +55,7 @@ impl<'a> Pieces<'a> {
     }
 
     fn add(&mut self, piece: Piece<'a>) -> Result<(), NoMemory>
-        ensures { Adds (shown piece ∷ []) self.old result self.new }
+        ensures { Adds (shown piece.entry ∷ []) self.old result self.new }
     {
         self.list.push(piece)?;
         Ok(())

@@ -6,12 +6,10 @@ use std::alloc::{AllocError, Global};
 use std::test::Fail;
 
 /// Texts, and what the query that each reads as prints as, without the line feed at the end.
-static ROWS: [(&str, &str); 1] = [
-    (
-        "select (a + b) || c, a + (b || c)",
-        "SELECT a + b || c, a + (b || c)",
-    ),
-];
+static ROWS: [(&str, &str); 1] = [(
+    "select (a + b) || c, a + (b || c)",
+    "SELECT a + b || c, a + (b || c)",
+)];
 
 /// What the text's query prints as, without the line feed at the end.
 fn printed(alloc: Global, text: &str) -> Result<String, AllocError> {

@@ -309,7 +309,11 @@ fn add_inside<'a>(pieces: &mut Pieces<'a>, expr: &'a Expr) -> Result<(), NoMemor
 
 /// Adds the operators of a chain, each with its operand.
 #[cycle(print)]
-fn add_links<'a>(pieces: &mut Pieces<'a>, level: Level, links: &'a [(ChainOp, Expr)]) -> Result<(), NoMemory>
+fn add_links<'a>(
+    pieces: &mut Pieces<'a>,
+    level: Level,
+    links: &'a [(ChainOp, Expr)],
+) -> Result<(), NoMemory>
     ensures { Adds (spec.links_signs level (map link_printed links.now)) pieces.old result pieces.new }
 {
     for (op, operand) in links {
