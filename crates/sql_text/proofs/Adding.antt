@@ -1,5 +1,5 @@
 -- Signs that are added one after the other, and what a loop over a list adds.
-use Rattle.std.proofs.Common.{◌≡◌, ◌≤◌, ◌<◌, ℕ, zero, suc, ◌+◌, Bool, true, false, if◌then◌else◌, nat_lt, List, [], ◌∷◌, ◌++◌, length, drop, get_or, map, Result, Ok, Err, refl, sym, ap, ◌∙◌, append_assoc, append-nil, arith}
+use Rattle.std.proofs.Common.{◌≡◌, ◌≤◌, ◌<◌, ℕ, zero, suc, ◌+◌, Bool, true, false, if◌then◌else◌, nat_lt, List, [], ◌∷◌, ◌++◌, length, drop, get_or, map, Result, Ok, Err, refl, sym, ap, ◌∙◌, subst, append_assoc, append-nil, arith}
 use Rattle.std.proofs.lemmas.Bool.Decides.{nat_tests}
 use Rattle.std.proofs.lemmas.List.{drop_all, drop_more, length-map}
 use Rattle.away_core.specs.declared.errors.NoMemory.{NoMemory}
@@ -14,6 +14,10 @@ use Rattle.sql_text.specs.Pieces.{Adds, each_before}
 pub then_on : {s t a b c : List Sign} {u : Unit {0}} {r : Result (Unit {0}) NoMemory} → Adds s a (Ok u) b → Adds t b r c → Adds (s ++ t) a r c
 then_on {s = s} {t = t} {a = a} {r = Ok v} h k = record { all = k.all ∙ ap (λ x. x ++ t) h.all ∙ append_assoc a s t }
 then_on {r = Err e} h k = record { all = tt }
+
+-- the same signs
+pub as_signs : {s t a c : List Sign} {r : Result (Unit {0}) NoMemory} → s ≡ t → Adds s a r c → Adds t a r c
+as_signs {a = a} {c = c} {r = r} e h = subst (λ s. Adds s a r c) e h
 
 pub no_memory : {s a c : List Sign} {e : NoMemory} → Adds s a (Err e) c
 no_memory = record { all = tt }

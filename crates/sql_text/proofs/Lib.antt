@@ -33,3 +33,4 @@ pub mod PrintTexts
 pub mod Adding
 pub mod Doubled
 pub mod LaidOut
+pub mod PrintNodes
