@@ -1,5 +1,5 @@
 -- What the printer adds for a node, by what it adds for the parts.
-use Rattle.std.proofs.Common.{◌≡◌, ◌==◌, ℕ, Bool, true, false, not, if◌then◌else◌, List, [], ◌∷◌, ◌++◌, length, map, option_map, Option, Some, None, refl, sym, ap, ◌∙◌, append_assoc, append-nil}
+use Rattle.std.proofs.Common.{◌≡◌, IsTrue, ℕ, Bool, true, false, not, if◌then◌else◌, List, [], ◌∷◌, ◌++◌, length, map, option_map, Option, Some, None, refl, sym, ap, ◌∙◌, append_assoc, append-nil}
 use Rattle.away_core.specs.declared.grammar.Level.{Level}
 use Rattle.away_core.specs.declared.grammar.Level.TheVariants as l
 use Rattle.away_core.specs.declared.grammar.Mark.{Mark}
@@ -11,11 +11,22 @@ use Rattle.away_core.specs.declared.types.Ty.{Ty}
 use Rattle.away_core.specs.declared.queries.Expr.{Expr}
 use Rattle.away_core.specs.declared.queries.Expr.TheVariants as e
 use Rattle.away_core.specs.declared.queries.Query.{Query}
+use Rattle.away_core.specs.declared.queries.FromItem.{FromItem}
+use Rattle.away_core.specs.declared.queries.Item.{Item}
+use Rattle.away_core.specs.declared.queries.Key.{Key}
+use Rattle.away_core.specs.declared.queries.Recursive.{Recursive}
+use Rattle.away_core.specs.declared.queries.Select.{Select}
+use Rattle.away_core.specs.declared.queries.Source.{Source}
+use Rattle.away_core.specs.declared.queries.Source.TheVariants as source
+use Rattle.away_core.specs.declared.queries.Expr.TheOpen as ex
+use Rattle.away_core.specs.declared.queries.Expr.TheViews as view
+use Rattle.away_core.specs.Algebra.{expr_of, from_of, item_of, key_of, recursive_of, select_of, source_of}
 use Rattle.away_core.specs.Signs.{Sign, mark, name}
 use Rattle.away_core.specs.Grammar.{operands, perhaps}
-use Rattle.away_core.specs.Printing.{Printed, arms_signs, chain_level, comparison_mark, else_signs, function_sign, links_signs, list_signs, placed, printed, printing, query_signs, test_mark, type_name, with_commas}
+use Rattle.away_core.specs.Printing.{Printed, arms_signs, chain_level, comparison_mark, else_signs, from_signs, function_sign, joined, limit_signs, links_signs, list_signs, names_signs, order_signs, placed, printed, printing, query_signs, selects_signs, test_mark, type_name, where_signs, with_commas}
 use Rattle.away_core.proofs.Equations as eq
-use Rattle.sql_text.specs.Pieces.{arm_printed, link_printed}
+use Rattle.sql_text.specs.Pieces.{arm_printed, each_before, link_printed}
+use Rattle.sql_text.proofs.Adding.{union}
 
 abbrev signs_of : Printed → List Sign
 signs_of p = p.signs
@@ -99,6 +110,20 @@ scalar_signs {q = q} z p h = ap (λ b. mark m.Open ∷ (query_signs b ++ mark m.
 pub exists_signs : {q r : Query} (z : Expr) → z ≡ e.Exists q → r ≡ q → mark m.Exists ∷ mark m.Open ∷ (query_signs r ++ mark m.Close ∷ []) ≡ (printed z).signs
 exists_signs {q = q} z p h = ap (λ b. mark m.Exists ∷ mark m.Open ∷ (query_signs b ++ mark m.Close ∷ [])) h ∙ sym (ap signs_of (ap printed p ∙ eq.of_exists printing q))
 
+-- a function's name is a reserved word at most where it has arguments
+call_is : (none : Bool) (n : List ℕ) (xs : List Expr) → (IsTrue none → xs ≡ []) → (xs ≡ [] → IsTrue none)
+    → (if not none then function_sign n else name n) ∷ mark m.Open ∷ (list_signs (map printed xs) ++ mark m.Close ∷ []) ≡ (printing.expr (ex.Call n (map (λ x. expr_of printing x) xs))).signs
+call_is true n [] h g = refl
+call_is true n (x ∷ xs) h g = absurd (cc (h refl))
+call_is false n [] h g = absurd (cc (g refl))
+call_is false n (x ∷ xs) h g = refl
+
+pub call_signs : {n : List ℕ} {xs us : List Expr} (z : Expr) (none : Bool) → z ≡ e.Call n xs → us ≡ xs → (IsTrue none → xs ≡ []) → (xs ≡ [] → IsTrue none)
+    → (if not none then function_sign n else name n) ∷ mark m.Open ∷ (list_signs (map printed us) ++ mark m.Close ∷ []) ≡ (printed z).signs
+call_signs {n = n} {xs = xs} z none p q h g =
+    ap (λ b. (if not none then function_sign n else name n) ∷ mark m.Open ∷ (list_signs (map printed b) ++ mark m.Close ∷ [])) q
+    ∙ call_is none n xs h g ∙ sym (ap signs_of (ap printed p ∙ eq.of_call printing n xs))
+
 -- ---- lists of expressions
 
 abbrev pub expr_signs : Expr → List Sign
@@ -107,3 +132,54 @@ expr_signs x = placed l.Or (printed x)
 pub list_is : (xs : List Expr) → map expr_signs xs ≡ map (placed l.Or) (map printed xs)
 list_is [] = refl
 list_is (x ∷ xs) = ap (λ b. expr_signs x ∷ b) (list_is xs)
+
+-- ---- queries
+
+pub query_alone : {ss : List Select} (q : Query) → (view.out-Query q).recursive ≡ None → ss ≡ (view.out-Query q).selects
+    → selects_signs (map (select_of printing) ss) ≡ query_signs q
+query_alone q h k =
+    ap (λ b. selects_signs (map (select_of printing) b)) k
+    ∙ sym (eq.query_is printing q ∙ ap (λ r. printing.query (record { recursive = option_map (λ r. recursive_of printing r) r; selects = map (λ x. select_of printing x) (view.out-Query q).selects })) h)
+
+pub query_with : {r : Recursive} {ss : List Select} (q : Query) → (view.out-Query q).recursive ≡ Some r → ss ≡ (view.out-Query q).selects
+    → recursive_of printing r ++ selects_signs (map (select_of printing) ss) ≡ query_signs q
+query_with {r = r} q h k =
+    ap (λ b. recursive_of printing r ++ selects_signs (map (select_of printing) b)) k
+    ∙ sym (eq.query_is printing q ∙ ap (λ r. printing.query (record { recursive = option_map (λ r. recursive_of printing r) r; selects = map (λ x. select_of printing x) (view.out-Query q).selects })) h)
+
+terms_join : (between : List Sign) (xs : List (List Sign)) (y : List Sign) → joined between (xs ++ y ∷ []) ≡ each_before between xs ++ y
+terms_join between [] y = refl
+terms_join between (x ∷ []) y = simp (append_assoc, append-nil)
+terms_join between (x ∷ z ∷ zs) y = ap (λ b. x ++ (between ++ b)) (terms_join between (z ∷ zs) y) ∙ simp append_assoc
+
+pub recursive_signs : {ns : List (List ℕ)} {ss : List Select} (r : Recursive) → ns ≡ (view.out-Recursive r).columns → ss ≡ (view.out-Recursive r).first
+    → mark m.With ∷ mark m.Recursive ∷ name (view.out-Recursive r).name ∷ mark m.Open ∷ (names_signs ns ++ mark m.Close ∷ mark m.As ∷ mark m.Open ∷
+        (each_before union (map (select_of printing) ss) ++ (select_of printing (view.out-Recursive r).second ++ mark m.Close ∷ [])))
+      ≡ recursive_of printing r
+recursive_signs {ns = ns} {ss = ss} r h k =
+    let o = view.out-Recursive r in
+    let term = select_of printing o.second in
+    let head : List Sign → List (List ℕ) → List Sign = λ b c. mark m.With ∷ mark m.Recursive ∷ name o.name ∷ mark m.Open ∷ (names_signs c ++ mark m.Close ∷ mark m.As ∷ mark m.Open ∷ b) in
+    let terms : each_before union (map (select_of printing) ss) ++ (term ++ mark m.Close ∷ []) ≡ selects_signs (map (select_of printing) o.first ++ term ∷ []) ++ mark m.Close ∷ [] =
+        sym (append_assoc (each_before union (map (select_of printing) ss)) term (mark m.Close ∷ []))
+        ∙ ap (λ b. b ++ mark m.Close ∷ []) (ap (λ b. each_before union (map (select_of printing) b) ++ term) k ∙ sym (terms_join union (map (select_of printing) o.first) term)) in
+    ap (λ b. head b ns) terms
+    ∙ ap (head (selects_signs (map (select_of printing) o.first ++ term ∷ []) ++ mark m.Close ∷ [])) h
+    ∙ sym (ap (recursive_of printing) (sym (view.roll-out-Recursive r)) ∙ eq.of_recursive printing o.name o.columns o.first o.second)
+
+pub select_signs : {ls : List Item} {fs : List FromItem} {ks : List Key} (s : Select) → ls ≡ (view.out-Select s).list → fs ≡ (view.out-Select s).from → ks ≡ (view.out-Select s).order
+    → mark m.Select ∷ (with_commas (map (item_of printing) ls) ++ (from_signs (map (from_of printing) fs) ++ (where_signs (option_map printed (view.out-Select s).filter)
+        ++ (order_signs (map (key_of printing) ks) ++ limit_signs (option_map printed (view.out-Select s).limit)))))
+      ≡ select_of printing s
+select_signs {ls = ls} {fs = fs} {ks = ks} s p q r =
+    let o = view.out-Select s in
+    let all : List Item → List FromItem → List Key → List Sign = λ a b c. mark m.Select ∷ (with_commas (map (item_of printing) a) ++ (from_signs (map (from_of printing) b)
+        ++ (where_signs (option_map printed o.filter) ++ (order_signs (map (key_of printing) c) ++ limit_signs (option_map printed o.limit))))) in
+    ap (λ a. all a fs ks) p ∙ ap (λ b. all o.list b ks) q ∙ ap (all o.list o.from) r ∙ sym (eq.select_is printing s)
+
+pub sub_signs : {q r : Query} {lateral : Bool} (s : Source) → s ≡ source.Sub q lateral → r ≡ q
+    → perhaps lateral (mark m.Lateral) [] ++ mark m.Open ∷ (query_signs r ++ mark m.Close ∷ []) ≡ (source_of printing s).signs
+sub_signs {q = q} {lateral = lateral} s h k =
+    ap (λ b. perhaps lateral (mark m.Lateral) [] ++ mark m.Open ∷ (query_signs b ++ mark m.Close ∷ [])) k
+    ∙ perhaps_join lateral (mark m.Lateral) (mark m.Open ∷ (query_signs q ++ mark m.Close ∷ []))
+    ∙ sym (ap (λ o. o.signs) (ap (source_of printing) h ∙ eq.of_sub printing q lateral))
