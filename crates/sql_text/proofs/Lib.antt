@@ -30,3 +30,7 @@ pub mod PrintClearQueries
 pub mod PrintSpoken
 pub mod PrintTokens
 pub mod PrintTexts
+pub mod Adding
+pub mod Doubled
+pub mod LaidOut
+pub mod PrintNodes

@@ -5,3 +5,4 @@ pub mod Said
 pub mod Qualified
 pub mod Spoken
 pub mod Refusals
+pub mod Pieces

@@ -6,14 +6,19 @@ mod cursor;
 mod expressions;
 mod files;
 mod laws;
+mod layout;
 mod leaves;
 mod one_tree;
+mod operators;
+mod parts;
+mod pieces;
 mod print_laws;
 mod printing;
 mod read;
 mod refusal;
 mod schemas;
 mod signs;
+mod spelling;
 mod tables;
 
 pub use complete_law::what_is_read_is_given;
@@ -29,6 +34,8 @@ pub use read::{read_expr, read_query, read_schema};
 pub use refusal::Refusal;
 pub use signs::Sign;
 
+#[cfg(test)]
+mod print_tests;
 #[cfg(test)]
 mod production_tests;
 #[cfg(test)]
