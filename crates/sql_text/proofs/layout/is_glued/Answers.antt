@@ -1,4 +1,4 @@
-use Rattle.std.proofs.Common.{◌≡◌, ◌&&◌, false, ap, sym, ◌∙◌}
+use Rattle.std.proofs.Common.{◌≡◌, ◌&&◌, ap, sym, ◌∙◌}
 use Rattle.away_core.specs.Reserved.{calls}
 use Rattle.away_core.specs.Spacing.{is_glued, is_one, is_word_kind}
 use Rattle.away_core.specs.Printing.{spelled}

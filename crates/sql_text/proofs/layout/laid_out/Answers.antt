@@ -1,4 +1,4 @@
-use Rattle.std.proofs.Common.{rules, ◌≡◌, ◌++◌, ◌∷◌, ◌+◌, [], None, Some, ap, sym, ◌∙◌, refl, append_assoc, drop, map, option_map, string_bytes, if◌then◌else◌}
+use Rattle.std.proofs.Common.{◌≡◌, ◌++◌, ◌∷◌, ◌+◌, [], None, Some, ap, sym, ◌∙◌, drop, map, option_map, string_bytes, if◌then◌else◌}
 use Rattle.std.proofs.lemmas.List.{drop_all, drop_more}
 use Rattle.away_core.specs.Printing.{spelled, signs_text}
 use Rattle.sql_text.specs.Pieces.{shown, is_spaced}

@@ -1,4 +1,4 @@
-use Rattle.std.proofs.Common.{◌≡◌, ◌∙◌, ap, inl, inr, sym, refl}
+use Rattle.std.proofs.Common.{ap, inl, inr}
 use Rattle.away_core.specs.Algebra.{from_of, item_of, key_of, select_of}
 use Rattle.away_core.specs.Printing.{printing, with_commas}
 use Rattle.sql_text.proofs.Adding.{as_signs, comma_on, commas_end, then_on, union_on}

@@ -1,4 +1,4 @@
-use Rattle.std.proofs.Common.{◌≡◌, ◌++◌, List, [], None, IfOk, String, Global, ℕ, ap, sym, subst, refl, ◌∙◌, map, string_bytes}
+use Rattle.std.proofs.Common.{◌≡◌, ◌++◌, List, [], None, IfOk, ℕ, ap, sym, subst, refl, ◌∙◌, map, string_bytes}
 use Rattle.std.proofs.lemmas.Result.{IfOk-weaker}
 use Rattle.away_core.specs.declared.queries.Query.{Query}
 use Rattle.away_core.specs.Signs.{Sign, all_say}
