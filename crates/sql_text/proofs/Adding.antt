@@ -7,7 +7,7 @@ use Rattle.away_core.specs.declared.grammar.Mark.TheVariants as m
 use Rattle.away_core.specs.Signs.{Sign, mark}
 use Rattle.away_core.specs.Grammar.{perhaps}
 use Rattle.away_core.specs.Printing.{joined, selects_signs, with_commas}
-use Rattle.sql_text.specs.Pieces.{Adds, each_before}
+use Rattle.sql_text.specs.Pieces.{Adds}
 
 -- ---- one behind the other
 

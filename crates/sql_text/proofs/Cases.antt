@@ -1,11 +1,10 @@
 -- Steps that depend on what was found: literals and reserved words that are called, arms, NOT behind an operand.
-use Rattle.std.proofs.Common.{◌≡◌, ◌≢◌, ℕ, ◌<◌, ◌≤◌, ◌^◌, pos, nat_lt, Bool, true, false, if◌then◌else◌, List, [], ◌∷◌, ◌++◌, Option, Some, None, Result, Ok, Err, refl, sym, ◌∙◌, ap, subst, codes, bytes_eq, arith}
+use Rattle.std.proofs.Common.{◌≡◌, ℕ, ◌^◌, pos, nat_lt, Bool, true, false, if◌then◌else◌, List, [], ◌∷◌, Some, None, Result, Ok, Err, refl, sym, subst, codes, bytes_eq, arith}
 use Rattle.std.specs.Bool.{OnTrue, OnFalse, IsTrue}
 use Rattle.std.proofs.lemmas.Bool.Decides.{nat_tests}
 use Rattle.away_core.specs.declared.grammar.Mark.{Mark}
 use Rattle.away_core.specs.declared.grammar.Mark.TheVariants as m
 use Rattle.away_core.specs.declared.grammar.Level.TheVariants as l
-use Rattle.away_core.specs.declared.operators.IsTest.{IsTest}
 use Rattle.away_core.specs.declared.queries.Expr.{Expr}
 use Rattle.away_core.specs.declared.queries.Expr.TheVariants as e
 use Rattle.away_core.specs.declared.queries.Key.{Key}
@@ -15,10 +14,9 @@ use Rattle.away_core.specs.Grammar.{at, arms, query, selects, key, Tree, literal
 use Rattle.sql_text.specs.declared.refusal.Refusal.{Refusal}
 use Rattle.sql_text.specs.declared.refusal.Refusal.TheVariants.{NoTree, NoMemory}
 use Rattle.sql_text.specs.Said.{Found, Numbered}
-use Rattle.sql_text.specs.Next.{test_in}
-use Rattle.sql_text.specs.Plans.{Plan, done, fail, eat, read, expect, first, tail, Begins, Gives, tree, no_tree, no_memory, ends, fails}
-use Rattle.sql_text.specs.Descent.{plan, case_plan, cases_with, primary_with, primary_by, word_plan, arguments_plan, within_plan, test_plan, unranged_plan, rows_plan, key_with, key_plan, query_with, query_plan}
-use Rattle.sql_text.proofs.Steps.{read_on, failed, finished, eaten, left, wanted, not_wanted}
+use Rattle.sql_text.specs.Plans.{Plan, done, fail, eat, read, expect, Begins, Gives, tree, no_tree, no_memory, ends, fails}
+use Rattle.sql_text.specs.Descent.{plan, case_plan, cases_with, primary_with, primary_by, word_plan, arguments_plan, within_plan, test_plan, rows_plan, key_with, key_plan, query_with, query_plan}
+use Rattle.sql_text.proofs.Steps.{read_on, failed, finished, eaten, left}
 
 -- ---- numbers
 

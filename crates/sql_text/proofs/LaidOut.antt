@@ -1,6 +1,5 @@
 -- The text of signs, written one after the other.
-use Rattle.std.proofs.Common.{◌≡◌, ℕ, Bool, true, false, not, ◌&&◌, ◌||◌, if◌then◌else◌, List, [], ◌∷◌, ◌++◌, map, chars, Option, Some, None, refl, ap, sym, ◌∙◌, option_map, append_assoc}
-use Rattle.std.specs.Prelude.{encode_utf8_all}
+use Rattle.std.proofs.Common.{◌≡◌, ℕ, Bool, true, false, not, ◌&&◌, ◌||◌, if◌then◌else◌, List, [], ◌∷◌, ◌++◌, map, Option, Some, None, refl, option_map, append_assoc}
 use Rattle.away_core.specs.Reserved.{calls}
 use Rattle.away_core.specs.Signs.{Sign}
 use Rattle.away_core.specs.Spacing.{Spelled, Written, is_glued, laid, laid_behind, written}

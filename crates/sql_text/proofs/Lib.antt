@@ -34,3 +34,4 @@ pub mod Adding
 pub mod Doubled
 pub mod LaidOut
 pub mod PrintNodes
+pub mod TextSigns

@@ -1,5 +1,5 @@
 -- What a loop has read so far, and what is left of its plan.
-use Rattle.std.proofs.Common.{◌≡◌, ℕ, Bool, true, false, List, [], ◌∷◌, ◌++◌, Option, Some, None, Result, Ok, Err, refl, sym, ◌∙◌, ap, subst, append_assoc, append-nil}
+use Rattle.std.proofs.Common.{◌≡◌, List, [], ◌∷◌, ◌++◌, Option, Some, None, Result, Ok, Err, refl, sym, ap, subst, append_assoc, append-nil}
 use Rattle.away_core.specs.declared.operators.ChainOp.{ChainOp}
 use Rattle.away_core.specs.declared.grammar.Level.{Level}
 use Rattle.away_core.specs.declared.queries.Expr.{Expr}
@@ -10,9 +10,9 @@ use Rattle.away_core.specs.declared.queries.Select.{Select}
 use Rattle.away_core.specs.declared.grammar.Level.TheVariants as l
 use Rattle.away_core.specs.declared.grammar.Mark.TheVariants as m
 use Rattle.away_core.specs.Signs.{Sign, mark}
-use Rattle.away_core.specs.Grammar.{Sort, at, links, list, arms, item, items, from_item, from_items, from_clause, key, keys, order_clause, select, selects, Tree, chained, operands}
+use Rattle.away_core.specs.Grammar.{at, links, list, arms, item, items, from_item, from_items, from_clause, key, keys, order_clause, select, selects, Tree, chained, operands}
 use Rattle.sql_text.specs.declared.refusal.Refusal.{Refusal}
-use Rattle.sql_text.specs.declared.refusal.Refusal.TheVariants.{NoTree, NoMemory}
+use Rattle.sql_text.specs.declared.refusal.Refusal.TheVariants.{NoTree}
 use Rattle.sql_text.specs.Next.{operator_in}
 use Rattle.sql_text.specs.Plans.{Plan, done, read, eat, expect, with, is_some, first, tail, Begins, Runs, ends, fails, takes, eats, leaves, sees, misses, reads, breaks, Gives, tree, no_tree, no_memory}
 use Rattle.sql_text.proofs.Steps.{run_of, read_no}

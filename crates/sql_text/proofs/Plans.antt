@@ -1,6 +1,5 @@
 -- What a plan gives is one thing.
-use Rattle.std.proofs.Common.{◌≡◌, ℕ, Bool, true, false, List, [], ◌∷◌, ◌++◌, ◌⊎◌, inl, inr, Option, Some, None, refl, sym, ◌∙◌, ap, subst}
-use Rattle.away_core.specs.declared.grammar.Mark.{Mark}
+use Rattle.std.proofs.Common.{◌≡◌, true, false, List, ◌∷◌, ◌⊎◌, inl, inr, Option, Some, None, refl, ap, subst}
 use Rattle.away_core.specs.Signs.{Sign, mark}
 use Rattle.sql_text.specs.Plans.{Plan, done, fail, take, eat, look, read, first, tail, Begins, Runs, ends, fails, takes, eats, leaves, sees, misses, reads, breaks}
 

@@ -1,5 +1,5 @@
 -- What the printer adds for a node, by what it adds for the parts.
-use Rattle.std.proofs.Common.{◌≡◌, IsTrue, ℕ, Bool, true, false, not, if◌then◌else◌, List, [], ◌∷◌, ◌++◌, length, map, option_map, Option, Some, None, refl, sym, ap, ◌∙◌, append_assoc, append-nil}
+use Rattle.std.proofs.Common.{◌≡◌, IsTrue, ℕ, Bool, true, false, not, if◌then◌else◌, List, [], ◌∷◌, ◌++◌, map, option_map, Option, Some, None, refl, sym, ap, ◌∙◌, append_assoc, append-nil}
 use Rattle.away_core.specs.declared.grammar.Level.{Level}
 use Rattle.away_core.specs.declared.grammar.Level.TheVariants as l
 use Rattle.away_core.specs.declared.grammar.Mark.{Mark}
@@ -154,27 +154,27 @@ terms_join between (x ∷ z ∷ zs) y = ap (λ b. x ++ (between ++ b)) (terms_jo
 
 pub recursive_signs : {ns : List (List ℕ)} {ss : List Select} (r : Recursive) → ns ≡ (view.out-Recursive r).columns → ss ≡ (view.out-Recursive r).first
     → mark m.With ∷ mark m.Recursive ∷ name (view.out-Recursive r).name ∷ mark m.Open ∷ (names_signs ns ++ mark m.Close ∷ mark m.As ∷ mark m.Open ∷
-        (each_before union (map (select_of printing) ss) ++ (select_of printing (view.out-Recursive r).second ++ mark m.Close ∷ [])))
-      ≡ recursive_of printing r
+    (each_before union (map (select_of printing) ss) ++ (select_of printing (view.out-Recursive r).second ++ mark m.Close ∷ [])))
+    ≡ recursive_of printing r
 recursive_signs {ns = ns} {ss = ss} r h k =
     let o = view.out-Recursive r in
     let term = select_of printing o.second in
     let head : List Sign → List (List ℕ) → List Sign = λ b c. mark m.With ∷ mark m.Recursive ∷ name o.name ∷ mark m.Open ∷ (names_signs c ++ mark m.Close ∷ mark m.As ∷ mark m.Open ∷ b) in
     let terms : each_before union (map (select_of printing) ss) ++ (term ++ mark m.Close ∷ []) ≡ selects_signs (map (select_of printing) o.first ++ term ∷ []) ++ mark m.Close ∷ [] =
-        sym (append_assoc (each_before union (map (select_of printing) ss)) term (mark m.Close ∷ []))
-        ∙ ap (λ b. b ++ mark m.Close ∷ []) (ap (λ b. each_before union (map (select_of printing) b) ++ term) k ∙ sym (terms_join union (map (select_of printing) o.first) term)) in
+    sym (append_assoc (each_before union (map (select_of printing) ss)) term (mark m.Close ∷ []))
+    ∙ ap (λ b. b ++ mark m.Close ∷ []) (ap (λ b. each_before union (map (select_of printing) b) ++ term) k ∙ sym (terms_join union (map (select_of printing) o.first) term)) in
     ap (λ b. head b ns) terms
     ∙ ap (head (selects_signs (map (select_of printing) o.first ++ term ∷ []) ++ mark m.Close ∷ [])) h
     ∙ sym (ap (recursive_of printing) (sym (view.roll-out-Recursive r)) ∙ eq.of_recursive printing o.name o.columns o.first o.second)
 
 pub select_signs : {ls : List Item} {fs : List FromItem} {ks : List Key} (s : Select) → ls ≡ (view.out-Select s).list → fs ≡ (view.out-Select s).from → ks ≡ (view.out-Select s).order
     → mark m.Select ∷ (with_commas (map (item_of printing) ls) ++ (from_signs (map (from_of printing) fs) ++ (where_signs (option_map printed (view.out-Select s).filter)
-        ++ (order_signs (map (key_of printing) ks) ++ limit_signs (option_map printed (view.out-Select s).limit)))))
-      ≡ select_of printing s
+    ++ (order_signs (map (key_of printing) ks) ++ limit_signs (option_map printed (view.out-Select s).limit)))))
+    ≡ select_of printing s
 select_signs {ls = ls} {fs = fs} {ks = ks} s p q r =
     let o = view.out-Select s in
     let all : List Item → List FromItem → List Key → List Sign = λ a b c. mark m.Select ∷ (with_commas (map (item_of printing) a) ++ (from_signs (map (from_of printing) b)
-        ++ (where_signs (option_map printed o.filter) ++ (order_signs (map (key_of printing) c) ++ limit_signs (option_map printed o.limit))))) in
+    ++ (where_signs (option_map printed o.filter) ++ (order_signs (map (key_of printing) c) ++ limit_signs (option_map printed o.limit))))) in
     ap (λ a. all a fs ks) p ∙ ap (λ b. all o.list b ks) q ∙ ap (all o.list o.from) r ∙ sym (eq.select_is printing s)
 
 pub sub_signs : {q r : Query} {lateral : Bool} (s : Source) → s ≡ source.Sub q lateral → r ≡ q

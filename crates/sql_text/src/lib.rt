@@ -28,6 +28,7 @@ pub use laws::what_a_plan_gives_is_read;
 pub use one_tree::a_text_reads_as_one_tree;
 pub use print_laws::{
     printed_expressions_read_back, printed_queries_read_back, printing_reads_back,
+    queries_that_were_read_print_back, signs_of_texts_are_spoken,
 };
 pub use printing::print_query;
 pub use read::{read_expr, read_query, read_schema};

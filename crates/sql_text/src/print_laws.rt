@@ -1,10 +1,11 @@
 //! What holds of the printed text of a query.
 
-ghost use Rattle.std.specs.Prelude.{◌≡◌, List, [], ◌++◌, None};
+ghost use Rattle.std.specs.Prelude.{◌≡◌, ℕ, List, [], ◌++◌, None, IsUtf8};
 ghost use Rattle.away_core.specs.declared.grammar.Level.{Level};
 ghost use Rattle.away_core.specs.declared.queries.Expr.{Expr};
 ghost use Rattle.away_core.specs.declared.queries.Query.{Query};
 ghost use Rattle.away_core.specs.Signs.{Sign, all_say};
+ghost use Rattle.away_core.specs.Texts.{ReadsQuery};
 ghost use Rattle.away_core.specs.Tokens.{Lexeme, Lexes};
 ghost use Rattle.away_core.specs.Grammar.{Reads, at, file};
 ghost use Rattle.away_core.specs.Printing.{placed, printed, query_signs, query_text};
@@ -23,4 +24,14 @@ pub fn printed_queries_read_back()
 /// The text of a query that spoken signs read as has tokens, and what they say reads as the query.
 pub fn printing_reads_back()
     ensures { (ts : List Sign) (q : Query) → AllSpoken ts → Reads file ts q [] → (tokens : List Lexeme) × Lexes 0 (query_text q) tokens None × (all_say tokens ≡ query_signs q) × Reads file (all_say tokens) q [] }
+{}
+
+/// What the tokens of a text say is spoken.
+pub fn signs_of_texts_are_spoken()
+    ensures { (z : List ℕ) (ts : List Lexeme) → IsUtf8 z → Lexes 0 z ts None → AllSpoken (all_say ts) }
+{}
+
+/// A query that some text reads as prints as a text that reads as it.
+pub fn queries_that_were_read_print_back()
+    ensures { (z : List ℕ) (q : Query) → IsUtf8 z → ReadsQuery z q → ReadsQuery (query_text q) q }
 {}

@@ -6,7 +6,7 @@ use std::alloc::{AllocError, Global};
 use std::test::Fail;
 
 /// Texts, and whether a query reads them.
-static QUERIES: [(&str, bool); 62] = [
+pub static QUERIES: [(&str, bool); 62] = [
     ("SELECT a OR b OR c AND d", true),
     ("SELECT NOT a", true),
     ("SELECT NOT NOT a", false),

@@ -7,7 +7,7 @@ use std::alloc::{AllocError, Global};
 use std::test::Fail;
 
 /// What `away compile` writes for the function of the example.
-static WRITTEN: &str =
+pub static WRITTEN: &str =
     "WITH RECURSIVE away_r(away_go, away_fn, away_c0, away_c1, away_res, away_err) AS (SELECT CAST(TRUE AS boolean), CAST(1 \
     AS bigint), CAST($1 AS bigint), CAST($2 AS bigint), CAST(NULL AS bigint), CAST(NULL AS text) UNION ALL SELECT \
     away_s.away_go, away_s.away_fn, away_s.away_c0, away_s.away_c1, away_s.away_res, away_s.away_err FROM away_r, LATERAL \

@@ -1,5 +1,5 @@
-use Rattle.std.proofs.Common.{◌≡◌, ◌≤◌, length, ℕ, ◌+◌, ◌-◌, ◌*◌, ◌<◌, List, ◌++◌}
-use Rattle.away_core.specs.Grammar.{rank, IsChain}
+use Rattle.std.proofs.Common.{◌≤◌, length, ◌+◌, ◌-◌, ◌*◌}
+use Rattle.away_core.specs.Grammar.{rank}
 use Rattle.sql_text.proofs.Loops.{LinksLead, ListLeads, ArmsLead, ItemsLead, FromLead, KeysLead, SelectsLead}
 use Rattle.sql_text.proofs.expressions.+reader.Given as goal
 

@@ -1,4 +1,4 @@
-use Rattle.std.proofs.Common.{◌≡◌, ◌&&◌, false, ap, sym, ◌∙◌}
+use Rattle.std.proofs.Common.{◌≡◌, ◌&&◌, ap, sym, ◌∙◌}
 use Rattle.away_core.specs.Reserved.{calls}
 use Rattle.away_core.specs.Spacing.{is_glued, is_one, is_word_kind}
 use Rattle.away_core.specs.Printing.{spelled}
@@ -14,9 +14,9 @@ glued_by c =
     elim c.if-opens.branch [
       | then-opens w ↦ absurd (cc (w.value-is, c.if-closes.false))
       | else-opens w ↦
-        glued_is (is_one 40 p) (is_one 46 p) (is_one 41 q) (is_one 44 q) (is_one 46 q) (is_word_kind p.kind) (calls p.text) (is_one 40 q)
-            (sym c.opens.ensures ∙ w.if-opens.false) (sym w.closes.ensures ∙ sym w.value-is ∙ c.if-closes.false)
-        ∙ ap (λ b. b && is_one 40 q) (sym c.calls.ensures)
+          glued_is (is_one 40 p) (is_one 46 p) (is_one 41 q) (is_one 44 q) (is_one 46 q) (is_word_kind p.kind) (calls p.text) (is_one 40 q)
+          (sym c.opens.ensures ∙ w.if-opens.false) (sym w.closes.ensures ∙ sym w.value-is ∙ c.if-closes.false)
+          ∙ ap (λ b. b && is_one 40 q) (sym c.calls.ensures)
     ]
 
 pub returns-then-calls : goal.returns-then-calls

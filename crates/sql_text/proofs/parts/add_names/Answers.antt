@@ -1,4 +1,3 @@
-use Rattle.std.proofs.Common.{arith}
 use Rattle.away_core.specs.Printing.{name_alone}
 use Rattle.sql_text.proofs.Adding.{begins, comma_on, commas_end}
 use Rattle.sql_text.proofs.parts.add_names.Goals as goal

@@ -1,4 +1,4 @@
-use Rattle.std.proofs.Common.{◌≡◌, ◌∙◌, ap, inl, inr, sym, refl}
+use Rattle.std.proofs.Common.{ap, inl, inr}
 use Rattle.away_core.specs.Algebra.{from_of, item_of, key_of, select_of}
 use Rattle.away_core.specs.Printing.{printing, with_commas}
 use Rattle.sql_text.proofs.Adding.{as_signs, comma_on, commas_end, then_on, union_on}
@@ -43,12 +43,12 @@ add_inside-returns-in_ok-mark-in-Compare t c =
 pub add_inside-returns-in_ok-mark-in-Between-2 : goal.add_inside-returns-in_ok-mark-in-Between-2
 add_inside-returns-in_ok-mark-in-Between-2 t c =
     as_signs (n.between_signs _ c.in-Between.is c.get-in-Between.ensures c.get-in-Between-2.ensures c.get-in-Between-3.ensures)
-        (then_on c.in_ok-add_expr-in-Between.ensures (then_on c.in_ok-mark_if-in-Between.ensures (then_on c.in_ok-mark-in-Between.ensures (then_on c.in_ok-add_expr-in-Between-2.ensures (then_on c.in_ok-mark-in-Between-2.ensures c.add_expr-in-Between-3.ensures)))))
+    (then_on c.in_ok-add_expr-in-Between.ensures (then_on c.in_ok-mark_if-in-Between.ensures (then_on c.in_ok-mark-in-Between.ensures (then_on c.in_ok-add_expr-in-Between-2.ensures (then_on c.in_ok-mark-in-Between-2.ensures c.add_expr-in-Between-3.ensures)))))
 
 pub add_inside-returns-in_ok-mark-in-OneOf : goal.add_inside-returns-in_ok-mark-in-OneOf
 add_inside-returns-in_ok-mark-in-OneOf t c =
     as_signs (n.one_of_signs _ c.in-OneOf.is c.get-in-OneOf.ensures c.as_slice-in-OneOf.ensures)
-        (then_on c.in_ok-add_expr-in-OneOf.ensures (then_on c.in_ok-mark_if-in-OneOf.ensures (then_on c.in_ok-mark-in-OneOf.ensures c.add_list.ensures)))
+    (then_on c.in_ok-add_expr-in-OneOf.ensures (then_on c.in_ok-mark_if-in-OneOf.ensures (then_on c.in_ok-mark-in-OneOf.ensures c.add_list.ensures)))
 
 pub add_inside-returns-in_ok-add_expr-in-Cast : goal.add_inside-returns-in_ok-add_expr-in-Cast
 add_inside-returns-in_ok-add_expr-in-Cast t c =
@@ -57,7 +57,7 @@ add_inside-returns-in_ok-add_expr-in-Cast t c =
 pub add_inside-returns-in_ok-add_else-in-Cases : goal.add_inside-returns-in_ok-add_else-in-Cases
 add_inside-returns-in_ok-add_else-in-Cases t c =
     as_signs (n.cases_signs _ _ c.in-Cases.is c.as_slice-in-Cases.ensures)
-        (then_on c.in_ok-mark-in-Cases.ensures (then_on c.in_ok-add_arms-in-Cases.ensures (then_on c.in_ok-add_else-in-Cases.ensures c.mark-in-Cases-2.ensures)))
+    (then_on c.in_ok-mark-in-Cases.ensures (then_on c.in_ok-add_arms-in-Cases.ensures (then_on c.in_ok-add_else-in-Cases.ensures c.mark-in-Cases-2.ensures)))
 
 pub add_inside-returns-in_ok-add_function-in-Call : goal.add_inside-returns-in_ok-add_function-in-Call
 add_inside-returns-in_ok-add_function-in-Call t c =
@@ -86,13 +86,13 @@ add_query-returns-in_ok-add_recursive-in-Some t c = as_signs (n.query_with _ c.i
 pub add_recursive-returns : goal.add_recursive-returns
 add_recursive-returns t c =
     as_signs (n.recursive_signs c.args.recursive.now c.as_slice.ensures c.as_slice-2.ensures)
-        (then_on c.in_ok-mark.ensures (then_on c.in_ok-mark-2.ensures (then_on c.in_ok-name.ensures (then_on c.in_ok-mark-3.ensures (then_on c.in_ok-add_names.ensures (then_on c.in_ok-mark-4.ensures (then_on c.in_ok-mark-5.ensures
-            (then_on c.in_ok-mark-6.ensures (then_on c.in_ok-add_terms.ensures (then_on c.in_ok-add_select.ensures c.mark-7.ensures))))))))))
+    (then_on c.in_ok-mark.ensures (then_on c.in_ok-mark-2.ensures (then_on c.in_ok-name.ensures (then_on c.in_ok-mark-3.ensures (then_on c.in_ok-add_names.ensures (then_on c.in_ok-mark-4.ensures (then_on c.in_ok-mark-5.ensures
+    (then_on c.in_ok-mark-6.ensures (then_on c.in_ok-add_terms.ensures (then_on c.in_ok-add_select.ensures c.mark-7.ensures))))))))))
 
 pub add_select-returns : goal.add_select-returns
 add_select-returns t c =
     as_signs (n.select_signs c.args.select.now c.as_slice.ensures c.as_slice-2.ensures c.as_slice-3.ensures)
-        (then_on c.in_ok-mark.ensures (then_on c.in_ok-add_items.ensures (then_on c.in_ok-add_from.ensures (then_on c.in_ok-add_where.ensures (then_on c.in_ok-add_order.ensures c.add_limit.ensures)))))
+    (then_on c.in_ok-mark.ensures (then_on c.in_ok-add_items.ensures (then_on c.in_ok-add_from.ensures (then_on c.in_ok-add_where.ensures (then_on c.in_ok-add_order.ensures c.add_limit.ensures)))))
 
 pub add_source-returns-in_ok-mark_if-in-Sub : goal.add_source-returns-in_ok-mark_if-in-Sub
 add_source-returns-in_ok-mark_if-in-Sub t c = as_signs (n.sub_signs _ c.in-Sub.is c.get.ensures) (then_on c.in_ok-mark_if-in-Sub.ensures c.add_subquery.ensures)

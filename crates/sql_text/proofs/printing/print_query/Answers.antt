@@ -1,4 +1,4 @@
-use Rattle.std.proofs.Common.{◌≡◌, ◌++◌, List, [], None, IfOk, String, Global, ℕ, ap, sym, subst, refl, ◌∙◌, map, string_bytes}
+use Rattle.std.proofs.Common.{◌≡◌, ◌++◌, List, [], None, IfOk, ℕ, ap, sym, subst, refl, ◌∙◌, map, string_bytes}
 use Rattle.std.proofs.lemmas.Result.{IfOk-weaker}
 use Rattle.away_core.specs.declared.queries.Query.{Query}
 use Rattle.away_core.specs.Signs.{Sign, all_say}
@@ -32,5 +32,5 @@ pub returns-clause-reads : goal.returns-clause-reads
 returns-clause-reads c =
     let q = c.args.query.now in
     IfOk-weaker c.laid_out.result (λ text. string_bytes text ≡ query_text q) (λ text. (ts : List Sign) → AllSpoken ts → Reads file ts q [] → ReadsQuery (string_bytes text) q)
-        (λ text is ts spoken reads. reads_again is (text_reads ts q spoken reads))
-        (written (goal.at.returns-clause-reads c).After-laid_out)
+    (λ text is ts spoken reads. reads_again is (text_reads ts q spoken reads))
+    (written (goal.at.returns-clause-reads c).After-laid_out)

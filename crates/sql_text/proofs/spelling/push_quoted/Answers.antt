@@ -1,5 +1,5 @@
-use Rattle.std.proofs.Common.{◌≡◌, ◌∷◌, ◌++◌, [], ◌∙◌, ap, refl, append_assoc, string_bytes}
-use Rattle.away_core.specs.Spellings.{doubled, quoted}
+use Rattle.std.proofs.Common.{◌≡◌, ◌∷◌, ◌++◌, [], ◌∙◌, ap, refl, string_bytes}
+use Rattle.away_core.specs.Spellings.{doubled}
 use Rattle.sql_text.proofs.Doubled.{quotes_assoc, requoted_is}
 use Rattle.sql_text.proofs.spelling.push_quoted.Goals as goal
 
