@@ -3,5 +3,7 @@ pub mod Bodies
 pub mod Headers
 pub mod Plans
 pub mod Stops
+pub mod Counts
+pub mod Refusals
 pub mod WorkedSigns
 pub mod WorkedTokens

@@ -2,6 +2,7 @@
 #![tactic(auto)]
 
 mod laws;
+mod read;
 mod worked;
 
 pub use laws::{
@@ -9,6 +10,7 @@ pub use laws::{
     a_range_ends_with_no_end, plans_of_sql_give_the_same, signs_have_one_tree,
     what_a_plan_gives_is_read, what_is_not_given_is_not_read, what_is_read_is_given,
 };
+pub use read::read_function;
 pub use worked::{
     a_function_with_for_reads, a_function_with_while_reads, end_loop_ends_no_case,
     every_kind_of_statement_reads, words_outside_are_found,

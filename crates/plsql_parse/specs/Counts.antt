@@ -1,0 +1,74 @@
+-- How many variables and how many FOR loops a function has. Its nodes are counted by away_core.
+use Rattle.std.specs.Prelude.{ℕ, ◌+◌, List, length, sum, Option, Some, None}
+use Rattle.away_core.specs.declared.statements.Arm.{Arm}
+use Rattle.away_core.specs.declared.statements.Function.{Function}
+use Rattle.away_core.specs.declared.statements.LoopKind.{LoopKind}
+use Rattle.away_core.specs.declared.statements.LoopKind.TheVariants as k
+use Rattle.away_core.specs.declared.statements.Stmt.{Stmt}
+use Rattle.away_core.specs.declared.statements.Stmt.TheOpen.{Stmt-F, Arm-F}
+use Rattle.away_core.specs.declared.statements.Stmt.TheOpen as st
+use Rattle.away_core.specs.StatementAlgebra.{StatementAlgebra, stmt_of, branch_of}
+
+-- ---- sums over the parts of a statement
+
+abbrev in_else : Option (List ℕ) → ℕ
+in_else None = 0
+in_else (Some body) = sum body
+
+abbrev in_parts : Stmt-F ℕ ℕ → ℕ
+in_parts (st.Block _ _ body _) = sum body
+in_parts (st.If arms other) = sum arms + in_else other
+in_parts (st.Cases arms other) = sum arms + in_else other
+in_parts (st.Loop _ _ body _) = sum body
+in_parts _ = 0
+
+abbrev in_arm : Arm-F ℕ ℕ → ℕ
+in_arm a = sum a.body
+
+-- ---- variables
+
+-- the declarations of a block
+abbrev own_variables : Stmt-F ℕ ℕ → ℕ
+own_variables (st.Block _ decls _ _) = length decls
+own_variables _ = 0
+
+abbrev pub counting_variables : StatementAlgebra
+counting_variables = record { AStmt = ℕ; AnArm = ℕ; stmt = λ s. own_variables s + in_parts s; arm = in_arm }
+
+-- of a statement with what stands in it
+unfoldable pub variables_of : Stmt → ℕ
+variables_of s = stmt_of counting_variables s
+
+-- of an arm with its statements
+unfoldable pub variables_of_arm : Arm → ℕ
+variables_of_arm a = branch_of counting_variables a
+
+-- the parameters, and the declarations of all blocks
+unfoldable pub variables : Function → ℕ
+variables f = length f.params + variables_of f.body
+
+-- ---- loops
+
+abbrev for_loops : LoopKind → ℕ
+for_loops (k.Count _ _ _ _ _) = 1
+for_loops _ = 0
+
+-- a FOR loop is one
+abbrev own_loops : Stmt-F ℕ ℕ → ℕ
+own_loops (st.Loop _ how _ _) = for_loops how
+own_loops _ = 0
+
+abbrev pub counting_loops : StatementAlgebra
+counting_loops = record { AStmt = ℕ; AnArm = ℕ; stmt = λ s. own_loops s + in_parts s; arm = in_arm }
+
+-- of a statement with what stands in it
+unfoldable pub loops_of : Stmt → ℕ
+loops_of s = stmt_of counting_loops s
+
+-- of an arm with its statements
+unfoldable pub loops_of_arm : Arm → ℕ
+loops_of_arm a = branch_of counting_loops a
+
+-- the FOR loops
+unfoldable pub loops : Function → ℕ
+loops f = loops_of f.body

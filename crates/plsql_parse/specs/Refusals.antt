@@ -1,0 +1,84 @@
+-- When a file is read as a function, and what each refusal says.
+use Rattle.std.specs.Prelude.{◌≡◌, ◌≤◌, ◌<◌, ℕ, List, Some, None}
+use Rattle.away_core.specs.declared.statements.Function.{Function}
+use Rattle.away_core.specs.Count.{nodes}
+use Rattle.away_core.specs.FunctionFile.{LexesFile}
+use Rattle.away_core.specs.FunctionGrammar.{ReadsFunction}
+use Rattle.away_core.specs.Nesting.{IsNesting}
+use Rattle.away_core.specs.OutsideWords.{outside_word}
+use Rattle.away_core.specs.Reserved.{folded}
+use Rattle.away_core.specs.Texts.{IsText}
+use Rattle.away_core.specs.Tokens.{Lexeme}
+use Rattle.away_lex.specs.declared.kind.LimitKind.{LimitKind}
+use Rattle.away_lex.specs.declared.kind.LimitKind.TheVariants as limit
+use Rattle.away_lex.specs.declared.kind.ReadRefusal.{ReadRefusal}
+use Rattle.away_lex.specs.declared.kind.ReadRefusal.TheVariants.{NotText, Token, NoTree, Outside, Limit, NoMemory}
+use Rattle.plsql_parse.specs.Counts.{variables, loops}
+
+-- ---- limits
+
+-- the greatest nesting of a body that is read
+abbrev pub most_nesting : ℕ
+most_nesting = 64
+
+abbrev pub most_nodes : ℕ
+most_nodes = 500
+
+abbrev pub most_variables : ℕ
+most_variables = 64
+
+abbrev pub most_loops : ℕ
+most_loops = 64
+
+-- No count of the function exceeds its limit.
+pub record KeepsLimits (f : Function) : Type 0 where
+  pub few_nodes : nodes f ≤ most_nodes
+  pub few_variables : variables f ≤ most_variables
+  pub few_loops : loops f ≤ most_loops
+
+-- ---- tokens
+
+-- The bytes are a text with these two lists of tokens and no bad one, and the body's list nests so deep.
+pub record HasLists (bytes : List ℕ) (outer inner : List Lexeme) (nesting : ℕ) : Type 0 where
+  pub text : IsText bytes
+  pub lists_are : LexesFile bytes outer inner None
+  pub nesting_is : IsNesting inner nesting
+
+-- The bytes are a text with these two lists of tokens and no bad one, and the body's list nests no deeper than is read.
+abbrev pub HasFewTokens : List ℕ → List Lexeme → List Lexeme → Type 0
+HasFewTokens bytes outer inner = (nesting : ℕ) × HasLists bytes outer inner nesting × (nesting ≤ most_nesting)
+
+-- The bytes are a text without a bad token, and the body's list nests no deeper than is read.
+abbrev pub MayBeRead : List ℕ → Type 0
+MayBeRead bytes = (outer : List Lexeme) × ((inner : List Lexeme) × HasFewTokens bytes outer inner)
+
+-- ---- refusals
+
+-- The bytes read as no function.
+abbrev pub ReadsNone : List ℕ → Type 0
+ReadsNone bytes = (f : Function) → ¬ (ReadsFunction bytes f)
+
+-- The token is the first word outside the profile, and this is the word in lower case.
+abbrev pub IsOutside : List Lexeme → List Lexeme → List ℕ → Type 0
+IsOutside outer inner word = (t : Lexeme) × (outside_word outer inner ≡ Some t) × (word ≡ folded t.text)
+
+-- The limit is exceeded by this count, and no limit before it is exceeded.
+abbrev pub Exceeds : LimitKind → List ℕ → ℕ → Type 0
+Exceeds limit.Nesting bytes found = ((outer : List Lexeme) × ((inner : List Lexeme) × HasLists bytes outer inner found)) × (most_nesting < found)
+Exceeds limit.Nodes bytes found = MayBeRead bytes × ((f : Function) × ReadsFunction bytes f × (found ≡ nodes f) × (most_nodes < found))
+Exceeds limit.Variables bytes found =
+    MayBeRead bytes × ((f : Function) × ReadsFunction bytes f × (nodes f ≤ most_nodes) × (found ≡ variables f) × (most_variables < found))
+Exceeds limit.Loops bytes found =
+    MayBeRead bytes
+    × ((f : Function) × ReadsFunction bytes f × (nodes f ≤ most_nodes) × (variables f ≤ most_variables) × (found ≡ loops f) × (most_loops < found))
+
+-- Why no function is read from bytes: the first of these reasons that holds.
+abbrev pub Refuses : List ℕ → ReadRefusal → Type 0
+Refuses bytes NotText = ¬ (IsText bytes)
+Refuses bytes (Token offset) = IsText bytes × ((outer : List Lexeme) × ((inner : List Lexeme) × LexesFile bytes outer inner (Some offset)))
+Refuses bytes NoTree =
+    ReadsNone bytes × ((outer : List Lexeme) × ((inner : List Lexeme) × HasFewTokens bytes outer inner × (outside_word outer inner ≡ None)))
+Refuses bytes (Outside word) =
+    ReadsNone bytes × ((outer : List Lexeme) × ((inner : List Lexeme) × HasFewTokens bytes outer inner × IsOutside outer inner word))
+Refuses bytes (Limit which found) = Exceeds which bytes found
+Refuses bytes NoMemory = Unit {0}
