@@ -49,7 +49,7 @@ variables f = length f.params + variables_of f.body
 
 -- ---- loops
 
-abbrev for_loops : LoopKind → ℕ
+abbrev pub for_loops : LoopKind → ℕ
 for_loops (k.Count _ _ _ _ _) = 1
 for_loops _ = 0
 

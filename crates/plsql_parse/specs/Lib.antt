@@ -5,5 +5,7 @@ pub mod Plans
 pub mod Stops
 pub mod Counts
 pub mod Refusals
+pub mod FileRead
+pub mod HeaderRead
 pub mod WorkedSigns
 pub mod WorkedTokens

@@ -1,7 +1,13 @@
 //! Functions in PL/pgSQL: from text to trees.
 #![tactic(auto)]
 
+mod attributes;
+mod bodies;
+mod counts;
+mod headers;
 mod laws;
+mod next;
+mod outside;
 mod read;
 mod worked;
 
@@ -15,3 +21,6 @@ pub use worked::{
     a_function_with_for_reads, a_function_with_while_reads, end_loop_ends_no_case,
     every_kind_of_statement_reads, words_outside_are_found,
 };
+
+#[cfg(test)]
+mod read_tests;

@@ -1,0 +1,33 @@
+-- What the parts of the reader of a function's header answer.
+use Rattle.std.specs.Prelude.{◌≡◌, ℕ, true, false, List, Result, Ok, Err}
+use Rattle.away_core.specs.declared.statements.Function.{Function}
+use Rattle.away_core.specs.declared.statements.Stmt.{Stmt}
+use Rattle.away_core.specs.FunctionGrammar.{function}
+use Rattle.away_core.specs.Signs.{Sign}
+use Rattle.sql_text.specs.Plans.{Gives, tail}
+use Rattle.sql_text.specs.declared.refusal.Refusal.{Refusal}
+use Rattle.sql_text.specs.declared.refusal.Refusal.TheVariants.{NoTree}
+use Rattle.plsql_parse.specs.declared.headers.Header.{Header}
+use Rattle.plsql_parse.specs.Plans.{any_plan}
+use Rattle.plsql_parse.specs.Sorts.{AnyTree, PartPlan, part, begins_word}
+
+-- ---- words
+
+-- the word stood next and was taken, or it doesn't stand there
+abbrev pub WordExpected : List ℕ → List Sign → Result (Unit {0}) Refusal → List Sign → Type 0
+WordExpected w old (Ok x) new = (begins_word w old ≡ true) × (new ≡ tail old)
+WordExpected w old (Err e) new = (e ≡ NoTree) × (begins_word w old ≡ false)
+
+-- ---- headers
+
+-- the function of a header and a body
+abbrev pub around : Header → Stmt → Function
+around h inside = record { name = h.name; strict = h.strict; params = h.params; result = h.result; body = inside }
+
+abbrev pub answered : Stmt → Result Header Refusal → Result Function Refusal
+answered inside (Ok h) = Ok (around h inside)
+answered inside (Err e) = Err e
+
+-- The plan gives the function of the header, around whichever body it is for.
+abbrev pub HeaderRead : ((inside : Stmt) → PartPlan (function inside)) → List Sign → Result Header Refusal → List Sign → Type 0
+HeaderRead plan old result new = (inside : Stmt) → Gives AnyTree any_plan (part (function inside)) (plan inside) old (answered inside result) new
