@@ -8,7 +8,7 @@ ghost use Rattle.sql_text.specs.Said.{Found};
 ghost use Rattle.plsql_parse.specs.Sorts.{begins_word, string_in};
 
 use away_core::Word;
-use sql_text::{Cursor, Refusal, Sign};
+use sql_text::{Cursor, Refusal, Sign, text_of};
 use std::alloc::Global;
 
 /// Takes the name that is this word, in any case, if it stands next.
@@ -29,14 +29,14 @@ pub(crate) fn eat_word(tokens: &mut Cursor<'_>, word: &str) -> bool
 }
 
 /// Takes what stands next, which has to be a string, and gives the text that it spells.
-pub(crate) fn string(_alloc: Global, tokens: &mut Cursor<'_>) -> Result<Word, Refusal>
+pub(crate) fn string(alloc: Global, tokens: &mut Cursor<'_>) -> Result<Word, Refusal>
     ensures found { Found (string_in (first tokens.old)) result }
     ensures rest { tokens.new ≡ tail tokens.old }
     ensures shrinks { length tokens.new ≤ length tokens.old }
     ensures shorter { IfOk result (λ _. length tokens.new < length tokens.old) }
 {
     match tokens.take() {
-        Some(Sign::Text(_)) => Err(Refusal::NoMemory),
+        Some(Sign::Text(text)) => Ok(text_of(alloc, text)?),
         _ => Err(Refusal::NoTree),
     }
 }
