@@ -34,17 +34,17 @@ block_variables label decls body closing = of_block counting_variables label dec
 
 pub loop_variables : (label : Option (List ℕ)) (kind : LoopKind) (body : List Stmt) (closing : Option (List ℕ)) → variables_of (stmt.Loop label kind body closing) ≡ sum_by variables_of body
 unfolding variables_of
-loop_variables label kind body closing = of_loop counting_variables label kind body closing ∙ ap (λ k. 0 + k) (body_variables body)
+loop_variables label kind body closing = of_loop counting_variables label kind body closing ∙ ap (λ k. k) (body_variables body)
 
 pub if_variables : (arms : List Arm) (other : Option (List Stmt)) → variables_of (stmt.If arms other) ≡ sum_by variables_of_arm arms + in_else variables_of other
 unfolding variables_of
-if_variables arms None = of_if counting_variables arms None ∙ ap (λ k. 0 + (k + 0)) (arms_variables arms)
-if_variables arms (Some body) = of_if counting_variables arms (Some body) ∙ (λ i. 0 + (arms_variables arms i + body_variables body i))
+if_variables arms None = of_if counting_variables arms None ∙ ap (λ k. k + 0) (arms_variables arms)
+if_variables arms (Some body) = of_if counting_variables arms (Some body) ∙ (λ i. arms_variables arms i + body_variables body i)
 
 pub cases_variables : (arms : List Arm) (other : Option (List Stmt)) → variables_of (stmt.Cases arms other) ≡ sum_by variables_of_arm arms + in_else variables_of other
 unfolding variables_of
-cases_variables arms None = of_cases counting_variables arms None ∙ ap (λ k. 0 + (k + 0)) (arms_variables arms)
-cases_variables arms (Some body) = of_cases counting_variables arms (Some body) ∙ (λ i. 0 + (arms_variables arms i + body_variables body i))
+cases_variables arms None = of_cases counting_variables arms None ∙ ap (λ k. k + 0) (arms_variables arms)
+cases_variables arms (Some body) = of_cases counting_variables arms (Some body) ∙ (λ i. arms_variables arms i + body_variables body i)
 
 pub into_variables : (strict : Bool) (targets : List (List ℕ × Option ℕ)) (query : Select) → variables_of (stmt.Into strict targets query) ≡ 0
 unfolding variables_of
@@ -90,7 +90,7 @@ arms_loops arms = sum-map (λ x. branch_of counting_loops x) arms
 
 pub block_loops : (label : Option (List ℕ)) (decls : List Decl) (body : List Stmt) (closing : Option (List ℕ)) → loops_of (stmt.Block label decls body closing) ≡ sum_by loops_of body
 unfolding loops_of
-block_loops label decls body closing = of_block counting_loops label decls body closing ∙ ap (λ k. 0 + k) (body_loops body)
+block_loops label decls body closing = of_block counting_loops label decls body closing ∙ ap (λ k. k) (body_loops body)
 
 pub loop_loops : (label : Option (List ℕ)) (kind : LoopKind) (body : List Stmt) (closing : Option (List ℕ)) → loops_of (stmt.Loop label kind body closing) ≡ for_loops kind + sum_by loops_of body
 unfolding loops_of
@@ -98,13 +98,13 @@ loop_loops label kind body closing = of_loop counting_loops label kind body clos
 
 pub if_loops : (arms : List Arm) (other : Option (List Stmt)) → loops_of (stmt.If arms other) ≡ sum_by loops_of_arm arms + in_else loops_of other
 unfolding loops_of
-if_loops arms None = of_if counting_loops arms None ∙ ap (λ k. 0 + (k + 0)) (arms_loops arms)
-if_loops arms (Some body) = of_if counting_loops arms (Some body) ∙ (λ i. 0 + (arms_loops arms i + body_loops body i))
+if_loops arms None = of_if counting_loops arms None ∙ ap (λ k. k + 0) (arms_loops arms)
+if_loops arms (Some body) = of_if counting_loops arms (Some body) ∙ (λ i. arms_loops arms i + body_loops body i)
 
 pub cases_loops : (arms : List Arm) (other : Option (List Stmt)) → loops_of (stmt.Cases arms other) ≡ sum_by loops_of_arm arms + in_else loops_of other
 unfolding loops_of
-cases_loops arms None = of_cases counting_loops arms None ∙ ap (λ k. 0 + (k + 0)) (arms_loops arms)
-cases_loops arms (Some body) = of_cases counting_loops arms (Some body) ∙ (λ i. 0 + (arms_loops arms i + body_loops body i))
+cases_loops arms None = of_cases counting_loops arms None ∙ ap (λ k. k + 0) (arms_loops arms)
+cases_loops arms (Some body) = of_cases counting_loops arms (Some body) ∙ (λ i. arms_loops arms i + body_loops body i)
 
 pub into_loops : (strict : Bool) (targets : List (List ℕ × Option ℕ)) (query : Select) → loops_of (stmt.Into strict targets query) ≡ 0
 unfolding loops_of

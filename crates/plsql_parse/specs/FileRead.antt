@@ -2,7 +2,7 @@
 use Rattle.std.specs.Prelude.{◌≡◌, ◌<◌, ℕ, List, [], Some, None, Result, Ok, Err}
 use Rattle.away_core.specs.declared.statements.Function.{Function}
 use Rattle.away_core.specs.declared.statements.Stmt.{Stmt}
-use Rattle.away_core.specs.FunctionGrammar.{body}
+use Rattle.away_core.specs.FunctionGrammar.{Part, PartTree, function}
 use Rattle.away_core.specs.FunctionFile.{LexesFile}
 use Rattle.away_core.specs.OutsideWords.{outside_word}
 use Rattle.away_core.specs.Signs.{Sign}
@@ -14,20 +14,25 @@ use Rattle.away_lex.specs.declared.kind.ReadRefusal.TheVariants as refusal
 use Rattle.sql_text.specs.Plans.{Runs}
 use Rattle.sql_text.specs.declared.refusal.Refusal.{Refusal}
 use Rattle.sql_text.specs.declared.refusal.Refusal.TheVariants.{NoTree, NoMemory}
-use Rattle.plsql_parse.specs.Bodies.{body_plan}
-use Rattle.plsql_parse.specs.Plans.{any_plan, FileGives}
+use Rattle.plsql_parse.specs.declared.headers.Header.{Header}
+use Rattle.plsql_parse.specs.HeaderRead.{answered}
+use Rattle.plsql_parse.specs.Plans.{any_plan, part_plan, FileGives}
 use Rattle.plsql_parse.specs.Refusals.{HasLists, IsOutside, CountExceeds, most_nesting}
 use Rattle.plsql_parse.specs.Sorts.{AnyTree, part}
 
--- the plan gives this body, and nothing is left
-abbrev pub GivesBody : List Sign → Stmt → Type 0
-GivesBody ts x = Runs AnyTree any_plan (part body) body_plan ts (Some (x, []))
+-- the part's plan gives this, and nothing is left
+abbrev pub GivesAll : (p : Part) → List Sign → PartTree p → Type 0
+GivesAll p ts x = Runs AnyTree any_plan (part p) (part_plan p) ts (Some (x, []))
 
--- the body that a whole list is, or it is none
-abbrev pub BodyRead : List Sign → Result Stmt Refusal → Type 0
-BodyRead ts (Ok x) = GivesBody ts x
-BodyRead ts (Err NoTree) = (x : Stmt) → ¬ (GivesBody ts x)
-BodyRead ts (Err NoMemory) = Unit {0}
+-- the tree of the part that a whole list is, or it is none
+abbrev pub PartRead : (p : Part) → List Sign → Result (PartTree p) Refusal → Type 0
+PartRead p ts (Ok x) = GivesAll p ts x
+PartRead p ts (Err NoTree) = (x : PartTree p) → ¬ (GivesAll p ts x)
+PartRead p ts (Err NoMemory) = Unit {0}
+
+-- The header that a whole list is, around whichever body, or it is none.
+abbrev pub HeaderIs : List Sign → Result Header Refusal → Type 0
+HeaderIs ts result = (inside : Stmt) → PartRead (function inside) ts (answered inside result)
 
 -- the function that a file's two lists are, or they are none
 abbrev pub FileRead : List Lexeme → List Lexeme → Result Function Refusal → Type 0

@@ -2,17 +2,19 @@
 
 ghost use Rattle.std.specs.Prelude.{◌≡◌, ◌≤◌, ◌<◌, length, IfOk, true, false, codes};
 ghost use Rattle.std.specs.List.{list_any};
+ghost use Rattle.std.specs.Str.{str_eq_ignore_ascii_case};
 ghost use Rattle.away_core.specs.FunctionGrammar as grammar;
 ghost use Rattle.away_core.specs.FunctionGrammar.{attribute_of as an_attribute, attributes};
 ghost use Rattle.away_core.specs.Reserved.{folded};
-ghost use Rattle.sql_text.specs.Plans.{Gives};
+ghost use Rattle.sql_text.specs.Plans.{Gives, first, is_some, tail};
+ghost use Rattle.plsql_parse.specs.HeaderRead.{of_group};
 ghost use Rattle.plsql_parse.specs.Headers.{attribute_mark_plan, attribute_plan, attributes_plan, cost_plan, is_over, language_plan, null_input_plan, parallel_plan, word_plan, word_with};
 ghost use Rattle.plsql_parse.specs.Plans.{any_plan};
-ghost use Rattle.plsql_parse.specs.Sorts.{AnyTree, part};
+ghost use Rattle.plsql_parse.specs.Sorts.{AnyTree, integer_in, part, quote_in};
 
 use crate::headers::expect_word;
 use crate::next::{eat_word, string};
-use away_core::{Attribute, Mark};
+use away_core::{Attribute, Mark, Name};
 use sql_text::{Cursor, Refusal, Sign};
 use sqlite_items::Items;
 use std::alloc::Global;
@@ -47,7 +49,11 @@ fn attribute_of(alloc: Global, tokens: &mut Cursor<'_>) -> Result<Attribute, Ref
     match tokens.take() {
         Some(Sign::Name(word)) => named_attribute(alloc, tokens, word),
         Some(Sign::Mark(mark)) => marked_attribute(tokens, mark),
-        _ => Err(Refusal::NoTree),
+        Some(Sign::Integer(_)) => Err(Refusal::NoTree),
+        Some(Sign::Text(_)) => Err(Refusal::NoTree),
+        Some(Sign::Parameter(_)) => Err(Refusal::NoTree),
+        Some(Sign::Quote(_)) => Err(Refusal::NoTree),
+        None => Err(Refusal::NoTree),
     }
 }
 
@@ -66,16 +72,23 @@ fn named_attribute(
     }
 }
 
+/// Whether it is this word, in any case.
+fn is_word(word: &str, sought: &str) -> bool
+    ensures { result ≡ str_eq_ignore_ascii_case word.now sought.now }
+{
+    word.eq_ignore_ascii_case(sought)
+}
+
 /// The attribute of one word.
 fn one_word(word: &str) -> Option<Attribute>
     ensures { result ≡ grammar.one_word (folded word.now) }
 {
-    if word.eq_ignore_ascii_case("immutable")
-        || word.eq_ignore_ascii_case("stable")
-        || word.eq_ignore_ascii_case("volatile")
+    if is_word(word, "immutable")
+        || is_word(word, "stable")
+        || is_word(word, "volatile")
     {
         Some(Attribute::Volatility)
-    } else if word.eq_ignore_ascii_case("leakproof") {
+    } else if is_word(word, "leakproof") {
         Some(Attribute::Leakproof)
     } else {
         None
@@ -91,16 +104,16 @@ fn longer_attribute(
     ensures found { Gives AnyTree any_plan (part an_attribute) (word_plan (folded word.now)) tokens.old result tokens.new }
     ensures shrinks { length tokens.new ≤ length tokens.old }
 {
-    if word.eq_ignore_ascii_case("language") {
+    if is_word(word, "language") {
         language(alloc, tokens)
-    } else if word.eq_ignore_ascii_case("returns") {
+    } else if is_word(word, "returns") {
         tokens.expect(Mark::Null)?;
         null_input(tokens, true)
-    } else if word.eq_ignore_ascii_case("called") {
+    } else if is_word(word, "called") {
         null_input(tokens, false)
-    } else if word.eq_ignore_ascii_case("parallel") {
-        parallel(tokens)
-    } else if word.eq_ignore_ascii_case("cost") {
+    } else if is_word(word, "parallel") {
+        parallel(alloc, tokens)
+    } else if is_word(word, "cost") {
         cost(tokens)
     } else {
         Err(Refusal::NoTree)
@@ -135,22 +148,23 @@ fn null_input(tokens: &mut Cursor<'_>, strict: bool) -> Result<Attribute, Refusa
 }
 
 /// Behind PARALLEL.
-fn parallel(tokens: &mut Cursor<'_>) -> Result<Attribute, Refusal>
+fn parallel(alloc: Global, tokens: &mut Cursor<'_>) -> Result<Attribute, Refusal>
     ensures found { Gives AnyTree any_plan (part an_attribute) parallel_plan tokens.old result tokens.new }
     ensures shrinks { length tokens.new ≤ length tokens.old }
 {
-    match tokens.take() {
-        Some(Sign::Name(word)) if may_run(word) => Ok(Attribute::Parallel),
-        _ => Err(Refusal::NoTree),
+    let kind = tokens.name(alloc)?;
+    if may_run(&kind) {
+        Ok(Attribute::Parallel)
+    } else {
+        Err(Refusal::NoTree)
     }
 }
 
-fn may_run(word: &str) -> bool
-    ensures { result ≡ grammar.may_run (folded word.now) }
+fn may_run(kind: &Name) -> bool
+    ensures { result ≡ grammar.may_run kind.now }
 {
-    word.eq_ignore_ascii_case("safe")
-        || word.eq_ignore_ascii_case("restricted")
-        || word.eq_ignore_ascii_case("unsafe")
+    let kind = kind.text();
+    kind == "safe" || kind == "restricted" || kind == "unsafe"
 }
 
 /// Behind COST.
@@ -158,10 +172,20 @@ fn cost(tokens: &mut Cursor<'_>) -> Result<Attribute, Refusal>
     ensures found { Gives AnyTree any_plan (part an_attribute) cost_plan tokens.old result tokens.new }
     ensures shrinks { length tokens.new ≤ length tokens.old }
 {
-    match tokens.take() {
-        Some(Sign::Integer(_)) => Ok(Attribute::Cost),
-        _ => Err(Refusal::NoTree),
+    if takes_integer(tokens) {
+        Ok(Attribute::Cost)
+    } else {
+        Err(Refusal::NoTree)
     }
+}
+
+/// Takes what stands next. Whether it is an integer.
+fn takes_integer(tokens: &mut Cursor<'_>) -> bool
+    ensures found { result ≡ is_some (integer_in (first tokens.old)) }
+    ensures rest { tokens.new ≡ tail tokens.old }
+    ensures shrinks { length tokens.new ≤ length tokens.old }
+{
+    matches!(tokens.take(), Some(Sign::Integer(_)))
 }
 
 /// The attribute that this mark begins, from what stands behind it.
@@ -170,10 +194,7 @@ fn marked_attribute(tokens: &mut Cursor<'_>, mark: Mark) -> Result<Attribute, Re
     ensures shrinks { length tokens.new ≤ length tokens.old }
 {
     match mark {
-        Mark::As => match tokens.take() {
-            Some(Sign::Quote(_)) => Ok(Attribute::Body),
-            _ => Err(Refusal::NoTree),
-        },
+        Mark::As => body(tokens),
         Mark::Strict => Ok(Attribute::NullInput(true)),
         Mark::Not => {
             expect_word(tokens, "leakproof")?;
@@ -183,25 +204,78 @@ fn marked_attribute(tokens: &mut Cursor<'_>, mark: Mark) -> Result<Attribute, Re
     }
 }
 
+/// Behind AS.
+fn body(tokens: &mut Cursor<'_>) -> Result<Attribute, Refusal>
+    ensures found { Gives AnyTree any_plan (part an_attribute) (attribute_mark_plan Mark.As) tokens.old result tokens.new }
+    ensures shrinks { length tokens.new ≤ length tokens.old }
+{
+    if takes_quote(tokens) {
+        Ok(Attribute::Body)
+    } else {
+        Err(Refusal::NoTree)
+    }
+}
+
+/// Takes what stands next. Whether it is a dollar quote.
+fn takes_quote(tokens: &mut Cursor<'_>) -> bool
+    ensures found { result ≡ is_some (quote_in (first tokens.old)) }
+    ensures rest { tokens.new ≡ tail tokens.old }
+    ensures shrinks { length tokens.new ≤ length tokens.old }
+{
+    matches!(tokens.take(), Some(Sign::Quote(_)))
+}
+
+/// The groups of attributes.
+#[derive(Clone, Copy)]
+pub enum Group {
+    Language,
+    Body,
+    Volatility,
+    NullInput,
+    Leakproof,
+    Parallel,
+    Cost,
+}
+
 /// Whether a function may have these attributes: LANGUAGE and AS stand once each, and no group stands twice.
 pub fn may_stand(found: &[Attribute]) -> bool
     ensures { result ≡ grammar.may_stand found.now }
 {
-    let (mut language, mut body, mut volatility, mut null_input) = (0, 0, 0, 0);
-    let (mut leakproof, mut parallel, mut cost) = (0, 0, 0);
+    times(Group::Language, found) == 1
+        && times(Group::Body, found) == 1
+        && times(Group::Volatility, found) < 2
+        && times(Group::NullInput, found) < 2
+        && times(Group::Leakproof, found) < 2
+        && times(Group::Parallel, found) < 2
+        && times(Group::Cost, found) < 2
+}
+
+/// How many of the attributes are of the group.
+fn times(group: Group, found: &[Attribute]) -> usize
+    ensures { result ≡ grammar.times (of_group group) found.now }
+{
+    let mut count = 0;
     for attribute in found {
-        match attribute {
-            Attribute::Language => language += 1,
-            Attribute::Body => body += 1,
-            Attribute::Volatility => volatility += 1,
-            Attribute::NullInput(_) => null_input += 1,
-            Attribute::Leakproof => leakproof += 1,
-            Attribute::Parallel => parallel += 1,
-            Attribute::Cost => cost += 1,
+        if is_of(group, *attribute) {
+            count += 1;
         }
     }
-    let once = language == 1 && body == 1;
-    once && volatility < 2 && null_input < 2 && leakproof < 2 && parallel < 2 && cost < 2
+    count
+}
+
+fn is_of(group: Group, attribute: Attribute) -> bool
+    ensures { result ≡ of_group group attribute }
+{
+    match (group, attribute) {
+        (Group::Language, Attribute::Language) => true,
+        (Group::Body, Attribute::Body) => true,
+        (Group::Volatility, Attribute::Volatility) => true,
+        (Group::NullInput, Attribute::NullInput(_)) => true,
+        (Group::Leakproof, Attribute::Leakproof) => true,
+        (Group::Parallel, Attribute::Parallel) => true,
+        (Group::Cost, Attribute::Cost) => true,
+        _ => false,
+    }
 }
 
 /// Whether the attributes make the function strict.

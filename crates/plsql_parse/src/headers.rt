@@ -27,7 +27,7 @@ pub struct Header {
 }
 
 /// The function of a header and a body.
-fn around(header: Header, inside: Boxed<Stmt>) -> Function
+pub fn around(header: Header, inside: Boxed<Stmt>) -> Function
     ensures { result ≡ spec.around header inside }
 {
     Function {
@@ -39,22 +39,8 @@ fn around(header: Header, inside: Boxed<Stmt>) -> Function
     }
 }
 
-/// The function that the tokens begin with, around its body.
-pub fn function_of(
-    alloc: Global,
-    tokens: &mut Cursor<'_>,
-    inside: Boxed<Stmt>,
-) -> Result<Function, Refusal>
-    ensures found { Gives AnyTree any_plan (part (function inside)) (function_plan inside) tokens.old result tokens.new }
-    ensures shrinks { length tokens.new ≤ length tokens.old }
-{
-    match header_of(alloc, tokens) {
-        Ok(header) => Ok(around(header, inside)),
-        Err(refusal) => Err(refusal),
-    }
-}
-
-fn header_of(alloc: Global, tokens: &mut Cursor<'_>) -> Result<Header, Refusal>
+/// The header that the tokens begin with.
+pub fn header_of(alloc: Global, tokens: &mut Cursor<'_>) -> Result<Header, Refusal>
     ensures found { HeaderRead function_plan tokens.old result tokens.new }
     ensures shrinks { length tokens.new ≤ length tokens.old }
 {

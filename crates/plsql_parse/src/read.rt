@@ -1,18 +1,18 @@
 //! The reader of functions.
 
 ghost use Rattle.std.specs.Prelude.{◌≡◌, map, IfOk, IfErr, MatchOption};
-ghost use Rattle.away_core.specs.FunctionGrammar.{ReadsFunction};
+ghost use Rattle.away_core.specs.FunctionGrammar.{ReadsFunction, body, function};
 ghost use Rattle.away_core.specs.Signs.{all_say};
 ghost use Rattle.away_core.specs.Texts.{IsText};
 ghost use Rattle.away_core.specs.Tokens.{AreSpelled};
 ghost use Rattle.away_lex.specs.Lexed.{seen};
 ghost use Rattle.away_lex.specs.declared.kind.ReadRefusal.TheVariants.{Limit};
-ghost use Rattle.plsql_parse.specs.FileRead.{BodyRead, FileRead, RefusesFunction, RefusesLists, RefusesWords};
+ghost use Rattle.plsql_parse.specs.FileRead.{FileRead, HeaderIs, PartRead, RefusesFunction, RefusesLists, RefusesWords};
 ghost use Rattle.plsql_parse.specs.Refusals.{HasFewTokens, KeepsLimits, MayBeRead, Refuses};
 
 use crate::bodies::body_of;
 use crate::counts::counts_of;
-use crate::headers::function_of;
+use crate::headers::{Header, around, header_of};
 use crate::outside::outside_word;
 use away_core::{Function, Stmt};
 use away_lex::{
@@ -90,16 +90,8 @@ fn whole_function(
     requires inner { AreSpelled (map seen inner.now) }
     ensures { FileRead (map seen outer.now) (map seen inner.now) result }
 {
-    let inside = whole_body(alloc, inner)?;
-    let mut left = Cursor::new(outer, 0);
-    match function_of(alloc, &mut left, inside) {
-        Ok(found) => {
-            if left.left() == 0 {
-                Ok(found)
-            } else {
-                Err(Refusal::NoTree)
-            }
-        }
+    match whole_body(alloc, inner) {
+        Ok(inside) => function_around(alloc, outer, inside),
         Err(refusal) => Err(refusal),
     }
 }
@@ -107,7 +99,7 @@ fn whole_function(
 /// The body that the list is, with nothing left of it.
 fn whole_body(alloc: Global, inner: &[Token<'_>]) -> Result<Boxed<Stmt>, Refusal>
     requires { AreSpelled (map seen inner.now) }
-    ensures { BodyRead (all_say (map seen inner.now)) result }
+    ensures { PartRead body (all_say (map seen inner.now)) result }
 {
     let mut left = Cursor::new(inner, 0);
     match body_of(alloc, &mut left) {
@@ -118,6 +110,39 @@ fn whole_body(alloc: Global, inner: &[Token<'_>]) -> Result<Boxed<Stmt>, Refusal
                 Err(Refusal::NoTree)
             }
         }
+        Err(refusal) => Err(refusal),
+    }
+}
+
+/// The header that the list is, with nothing left of it.
+fn whole_header(alloc: Global, outer: &[Token<'_>]) -> Result<Header, Refusal>
+    requires { AreSpelled (map seen outer.now) }
+    ensures { HeaderIs (all_say (map seen outer.now)) result }
+{
+    let mut left = Cursor::new(outer, 0);
+    match header_of(alloc, &mut left) {
+        Ok(header) => {
+            if left.left() == 0 {
+                Ok(header)
+            } else {
+                Err(Refusal::NoTree)
+            }
+        }
+        Err(refusal) => Err(refusal),
+    }
+}
+
+/// The function around this body that the list is.
+fn function_around(
+    alloc: Global,
+    outer: &[Token<'_>],
+    inside: Boxed<Stmt>,
+) -> Result<Function, Refusal>
+    requires { AreSpelled (map seen outer.now) }
+    ensures { PartRead (function inside) (all_say (map seen outer.now)) result }
+{
+    match whole_header(alloc, outer) {
+        Ok(header) => Ok(around(header, inside)),
         Err(refusal) => Err(refusal),
     }
 }

@@ -90,7 +90,7 @@ fn files(rt: HostRuntime) -> Result<(), Fail> {
         (WALK, "walk strict lim Bigint"),
         ("", "X3"),
         ("\u{0}", "X1"),
-        ("CREATE FUNCTION f() RETURNS bigint LANGUAGE plpgsql AS $$BEGIN", "X2 56"),
+        ("CREATE FUNCTION f() RETURNS bigint LANGUAGE plpgsql AS $$BEGIN", "X2 55"),
         ("CREATE FUNCTION f() RETURNS bigint LANGUAGE plpgsql AS $$BEGIN ? END$$", "X2 63"),
         ("CREATE FUNCTION f() RETURNS bigint LANGUAGE plpgsql AS $$BEGIN $a$ $a$ END$$ ?", "X2 77"),
         ("CREATE FUNCTION f() RETURNS bigint LANGUAGE plpgsql AS $$BEGIN $a$ $a$ END$$", "X2 63"),
