@@ -13,3 +13,5 @@ pub mod OneFile
 pub mod Trying
 pub mod Examples
 pub mod Passing
+pub mod BodySteps
+pub mod BodyLoops

@@ -1,7 +1,15 @@
 //! Functions in PL/pgSQL: from text to trees.
 #![tactic(auto)]
 
+mod bodies;
+mod declarations;
+mod expressions;
+mod kinds;
 mod laws;
+mod looks;
+mod next;
+mod simple;
+mod statements;
 mod worked;
 
 pub use laws::{
@@ -13,3 +21,6 @@ pub use worked::{
     a_function_with_for_reads, a_function_with_while_reads, end_loop_ends_no_case,
     every_kind_of_statement_reads, words_outside_are_found,
 };
+
+#[cfg(test)]
+mod body_tests;
