@@ -8,16 +8,16 @@ use Rattle.away_core.specs.declared.statements.Stmt.{Stmt}
 use Rattle.away_core.specs.Signs.{Sign, mark, name, integer, string, parameter, quote}
 use Rattle.away_core.specs.FunctionGrammar.{Part, PartTree, statement, branch, otherwise, loop_opens}
 use Rattle.sql_text.specs.declared.refusal.Refusal.{Refusal}
-use Rattle.sql_text.specs.declared.refusal.Refusal.TheVariants.{NoTree, NoMemory}
-use Rattle.sql_text.specs.Said.{Taken}
+use Rattle.sql_text.specs.declared.refusal.Refusal.TheVariants.{NoTree}
+use Rattle.sql_text.specs.Said.{Taken, Expected}
 use Rattle.sql_text.specs.Next.{name_in}
-use Rattle.sql_text.specs.Plans.{done, fail, eat, look, read, first, tail, Begins, Runs, ends, fails, reads, breaks, Gives, tree, no_tree, no_memory}
+use Rattle.sql_text.specs.Plans.{done, eat, read, expect, first, tail, Begins, reads, breaks, Gives, tree, no_tree, no_memory}
 use Rattle.sql_text.proofs.Plans.{inside}
-use Rattle.sql_text.proofs.Steps.{eaten, left, read_on, taken, looked, overlooked, moved, perhaps_found, perhaps_missed, failed}
-use Rattle.plsql_parse.specs.Sorts.{AnyTree, part, PartPlan, maybe_name, eat_word, begins_word, is_name}
+use Rattle.sql_text.proofs.Steps.{finished, eaten, refused, left, read_on, taken, looked, overlooked, moved, perhaps_found, perhaps_missed, failed}
+use Rattle.plsql_parse.specs.Sorts.{AnyTree, part, PartPlan, maybe_name, eat_word, begins_word}
 use Rattle.plsql_parse.specs.Bodies.{next, marked_plan}
-use Rattle.plsql_parse.specs.Plans.{any_plan, part_plan}
-use Rattle.plsql_parse.specs.Taken.{is_marked, is_loop, is_end, end_plan}
+use Rattle.plsql_parse.specs.Plans.{any_plan}
+use Rattle.plsql_parse.specs.Taken.{is_marked, is_loop, is_end, end_plan, ended_as}
 use Rattle.plsql_parse.proofs.Passing.{opens_past}
 
 -- what the plan of a part gives
@@ -69,6 +69,12 @@ begins_none m.Exit a b c d e f g = absurd (e refl)
 begins_none m.Continue a b c d e f g = absurd (f refl)
 begins_none m.Raise a b c d e f g = absurd (g refl)
 begins_none _ a b c d e f g = failed
+
+-- ---- the end of a statement
+
+pub end_with : (x : Stmt) (r : Result (Unit {0}) Refusal) {ts new : List Sign} → Expected m.Semicolon ts r new → PartGives statement (expect m.Semicolon (done x)) ts (ended_as x r) new
+end_with x (Ok u) h = eaten m.Semicolon h (finished refl)
+end_with x (Err e) h = refused m.Semicolon h
 
 -- ---- arms
 

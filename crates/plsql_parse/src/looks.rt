@@ -95,7 +95,7 @@ pub(crate) fn sees_loop(tokens: &Cursor<'_>) -> bool
 }
 
 fn is_loop(sign: Sign<'_>) -> bool
-    ensures { result ≡ taken.is_loop (said sign) }
+    ensures { result ≡ taken.is_loop (said sign.entry) }
 {
     match sign {
         Sign::Mark(Mark::Loop) => true,
@@ -104,7 +104,7 @@ fn is_loop(sign: Sign<'_>) -> bool
 }
 
 fn is_end(sign: Sign<'_>) -> bool
-    ensures { result ≡ taken.is_end (said sign) }
+    ensures { result ≡ taken.is_end (said sign.entry) }
 {
     match sign {
         Sign::Mark(Mark::End) => true,
