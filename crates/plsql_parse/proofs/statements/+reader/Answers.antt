@@ -111,10 +111,10 @@ if_of-returns-in_err-other-clause-found t c =
 pub if_of-returns-in_err-end_of-clause-found : goal.if_of-returns-in_err-end_of-clause-found
 if_of-returns-in_err-end_of-clause-found t c = 
     let p = err_from_is_err_and c.from_residual-in_err-end_of.result c.from_residual-in_err-end_of.ensures.1 in
-    rw (p.1, p.2) (arms_on {p = elsifs} (λ a more. a ∷ more) (behind_arms s.If m.If) c.in_ok-arms.ensures.found (read_on c.in_ok-other.ensures.found (c.in_err-end_of.ensures _)))
+    rw (p.1, p.2) (arms_on {p = elsifs} (λ a more. a ∷ more) (behind_arms s.If m.If) c.in_ok-arms.ensures.found (read_on c.in_ok-other.ensures.found (c.in_err-end_of.ensures.found _)))
 
 pub if_of-returns-clause-found : goal.if_of-returns-clause-found
-if_of-returns-clause-found t c = arms_on {p = elsifs} (λ a more. a ∷ more) (behind_arms s.If m.If) c.in_ok-arms.ensures.found (read_on c.in_ok-other.ensures.found (c.in_ok-end_of.ensures _))
+if_of-returns-clause-found t c = arms_on {p = elsifs} (λ a more. a ∷ more) (behind_arms s.If m.If) c.in_ok-arms.ensures.found (read_on c.in_ok-other.ensures.found (c.in_ok-end_of.ensures.found _))
 
 pub case_of-returns-in_err-expect-clause-found : goal.case_of-returns-in_err-expect-clause-found
 case_of-returns-in_err-expect-clause-found t c = 
@@ -134,10 +134,10 @@ case_of-returns-in_err-other-clause-found t c =
 pub case_of-returns-in_err-end_of-clause-found : goal.case_of-returns-in_err-end_of-clause-found
 case_of-returns-in_err-end_of-clause-found t c = 
     let p = err_from_is_err_and c.from_residual-in_err-end_of.result c.from_residual-in_err-end_of.ensures.1 in
-    rw (p.1, p.2) (eaten m.When c.in_ok-expect.ensures.found (arms_on {p = whens} (λ a more. a ∷ more) (behind_arms s.Cases m.Case) c.in_ok-arms.ensures.found (read_on c.in_ok-other.ensures.found (c.in_err-end_of.ensures _))))
+    rw (p.1, p.2) (eaten m.When c.in_ok-expect.ensures.found (arms_on {p = whens} (λ a more. a ∷ more) (behind_arms s.Cases m.Case) c.in_ok-arms.ensures.found (read_on c.in_ok-other.ensures.found (c.in_err-end_of.ensures.found _))))
 
 pub case_of-returns-clause-found : goal.case_of-returns-clause-found
-case_of-returns-clause-found t c = eaten m.When c.in_ok-expect.ensures.found (arms_on {p = whens} (λ a more. a ∷ more) (behind_arms s.Cases m.Case) c.in_ok-arms.ensures.found (read_on c.in_ok-other.ensures.found (c.in_ok-end_of.ensures _)))
+case_of-returns-clause-found t c = eaten m.When c.in_ok-expect.ensures.found (arms_on {p = whens} (λ a more. a ∷ more) (behind_arms s.Cases m.Case) c.in_ok-arms.ensures.found (read_on c.in_ok-other.ensures.found (c.in_ok-end_of.ensures.found _)))
 
 pub elsif_arms-returns-in_err-arm_of-clause-found : goal.elsif_arms-returns-in_err-arm_of-clause-found
 elsif_arms-returns-in_err-arm_of-clause-found t c = 
