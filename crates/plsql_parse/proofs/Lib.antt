@@ -17,3 +17,5 @@ pub mod CountLemmas
 pub mod Words
 pub mod WholeFile
 pub mod HeaderLoops
+pub mod BodySteps
+pub mod BodyLoops

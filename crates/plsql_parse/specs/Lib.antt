@@ -2,6 +2,7 @@ pub mod Sorts
 pub mod Bodies
 pub mod Headers
 pub mod Plans
+pub mod Taken
 pub mod Stops
 pub mod Counts
 pub mod Refusals

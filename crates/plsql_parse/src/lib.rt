@@ -4,11 +4,17 @@
 mod attributes;
 mod bodies;
 mod counts;
+mod declarations;
+mod expressions;
 mod headers;
+mod kinds;
 mod laws;
+mod looks;
 mod next;
 mod outside;
 mod read;
+mod simple;
+mod statements;
 mod worked;
 
 pub use laws::{
@@ -22,5 +28,7 @@ pub use worked::{
     every_kind_of_statement_reads, words_outside_are_found,
 };
 
+#[cfg(test)]
+mod body_tests;
 #[cfg(test)]
 mod read_tests;
