@@ -83,9 +83,9 @@ pub text_is : (z w : List ℕ) → IsUtf8 z → list_all (λ b. nat_lt b 128) w 
 text_is z w utf8 plain = elim (cases_Bool (bytes_eq z w)) [
   | inl y ↦ (let same : z ≡ w = (bytes_eq-Decides z w).0 y in ap (λ x. bytes_eq (chars x) w) same ∙ ap (λ x. bytes_eq x w) (chars-IsAscii w (ascii_from w plain)) ∙ sym (ap (λ x. bytes_eq x w) same))
   | inr n ↦ elim (cases_Bool (bytes_eq (chars z) w)) [
-      | inl y ↦ absurd (let same : z ≡ w = sym (encodes-chars z utf8) ∙ ap encodes ((bytes_eq-Decides (chars z) w).0 y) ∙ encodes-IsAscii w (ascii_from w plain) in let yes : bytes_eq z w ≡ true = (bytes_eq-Decides z w).1 same in cc (yes, n))
-      | inr k ↦ k ∙ sym n
-    ]
+    | inl y ↦ absurd (let same : z ≡ w = sym (encodes-chars z utf8) ∙ ap encodes ((bytes_eq-Decides (chars z) w).0 y) ∙ encodes-IsAscii w (ascii_from w plain) in let yes : bytes_eq z w ≡ true = (bytes_eq-Decides z w).1 same in cc (yes, n))
+    | inr k ↦ k ∙ sym n
+  ]
 ]
 
 times_append : (of_group : Attribute → Bool) (xs ys : List Attribute) → times of_group (xs ++ ys) ≡ times of_group xs + times of_group ys

@@ -20,10 +20,7 @@ use sqlite_items::Items;
 use std::alloc::Global;
 
 /// All attributes up to a `;` or the end.
-pub fn attributes_of(
-    alloc: Global,
-    tokens: &mut Cursor<'_>,
-) -> Result<Items<Attribute>, Refusal>
+pub fn attributes_of(alloc: Global, tokens: &mut Cursor<'_>) -> Result<Items<Attribute>, Refusal>
     ensures found { Gives AnyTree any_plan (part attributes) attributes_plan tokens.old result tokens.new }
     ensures shrinks { length tokens.new ≤ length tokens.old }
 {
@@ -58,11 +55,7 @@ fn attribute_of(alloc: Global, tokens: &mut Cursor<'_>) -> Result<Attribute, Ref
 }
 
 /// The attribute that this word begins, from what stands behind it.
-fn named_attribute(
-    alloc: Global,
-    tokens: &mut Cursor<'_>,
-    word: &str,
-) -> Result<Attribute, Refusal>
+fn named_attribute(alloc: Global, tokens: &mut Cursor<'_>, word: &str) -> Result<Attribute, Refusal>
     ensures found { Gives AnyTree any_plan (part an_attribute) (word_with (folded word.now) (grammar.one_word (folded word.now))) tokens.old result tokens.new }
     ensures shrinks { length tokens.new ≤ length tokens.old }
 {
@@ -83,10 +76,7 @@ fn is_word(word: &str, sought: &str) -> bool
 fn one_word(word: &str) -> Option<Attribute>
     ensures { result ≡ grammar.one_word (folded word.now) }
 {
-    if is_word(word, "immutable")
-        || is_word(word, "stable")
-        || is_word(word, "volatile")
-    {
+    if is_word(word, "immutable") || is_word(word, "stable") || is_word(word, "volatile") {
         Some(Attribute::Volatility)
     } else if is_word(word, "leakproof") {
         Some(Attribute::Leakproof)

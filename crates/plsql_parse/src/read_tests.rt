@@ -90,21 +90,66 @@ fn files(rt: HostRuntime) -> Result<(), Fail> {
         (WALK, "walk strict lim Bigint"),
         ("", "X3"),
         ("\u{0}", "X1"),
-        ("CREATE FUNCTION f() RETURNS bigint LANGUAGE plpgsql AS $$BEGIN", "X2 55"),
-        ("CREATE FUNCTION f() RETURNS bigint LANGUAGE plpgsql AS $$BEGIN ? END$$", "X2 63"),
-        ("CREATE FUNCTION f() RETURNS bigint LANGUAGE plpgsql AS $$BEGIN $a$ $a$ END$$ ?", "X2 77"),
-        ("CREATE FUNCTION f() RETURNS bigint LANGUAGE plpgsql AS $$BEGIN $a$ $a$ END$$", "X2 63"),
-        ("create function F(In A int8, b BOOL, c Text) returns TEXT language 'plpgsql' as $$begin return c; end$$ ;", "f a Bigint b Boolean c Text"),
-        ("/**/CREATE/**/FUNCTION--\r\npublic/**/./**/f/**/(/**/)/**/RETURNS/**/text/**/AS/**/$$/**/BEGIN/**/RETURN/**/'a'/**/;/**/END/**/;/**/$$/**/LANGUAGE/**/plpgsql/**/;/**/", "f"),
-        ("CREATE FUNCTION f()\r\nRETURNS bigint\r\nLANGUAGE plpgsql\r\nAS $$\r\nBEGIN\r\nRETURN 1;\r\nEND\r\n$$;\r\n", "f"),
-        ("CREATE FUNCTION other.f() RETURNS bigint LANGUAGE plpgsql AS $$BEGIN RETURN 1; END$$", "X3"),
-        ("CREATE FUNCTION public() RETURNS bigint LANGUAGE plpgsql AS $$BEGIN RETURN 1; END$$", "public"),
-        ("CREATE FUNCTION f(a) RETURNS bigint LANGUAGE plpgsql AS $$BEGIN RETURN 1; END$$", "X3"),
-        ("CREATE FUNCTION f(a bigint,) RETURNS bigint LANGUAGE plpgsql AS $$BEGIN RETURN 1; END$$", "X3"),
-        ("CREATE FUNCTION f(INOUT a bigint) RETURNS bigint LANGUAGE plpgsql AS $$BEGIN RETURN 1; END$$", "X4 inout"),
-        ("CREATE FUNCTION f() RETURNS bigint LANGUAGE plpgsql AS $$BEGIN RETURN 1; END$$;;", "X3"),
-        ("CREATE FUNCTION f() RETURNS bigint LANGUAGE plpgsql AS $$BEGIN RETURN 1; END$$; SELECT 1", "X3"),
-        ("CREATE OR FUNCTION f() RETURNS bigint LANGUAGE plpgsql AS $$BEGIN RETURN 1; END$$", "X3"),
+        (
+            "CREATE FUNCTION f() RETURNS bigint LANGUAGE plpgsql AS $$BEGIN",
+            "X2 55",
+        ),
+        (
+            "CREATE FUNCTION f() RETURNS bigint LANGUAGE plpgsql AS $$BEGIN ? END$$",
+            "X2 63",
+        ),
+        (
+            "CREATE FUNCTION f() RETURNS bigint LANGUAGE plpgsql AS $$BEGIN $a$ $a$ END$$ ?",
+            "X2 77",
+        ),
+        (
+            "CREATE FUNCTION f() RETURNS bigint LANGUAGE plpgsql AS $$BEGIN $a$ $a$ END$$",
+            "X2 63",
+        ),
+        (
+            "create function F(In A int8, b BOOL, c Text) returns TEXT language 'plpgsql' as $$begin return c; end$$ ;",
+            "f a Bigint b Boolean c Text",
+        ),
+        (
+            "/**/CREATE/**/FUNCTION--\r\npublic/**/./**/f/**/(/**/)/**/RETURNS/**/text/**/AS/**/$$/**/BEGIN/**/RETURN/**/'a'/**/;/**/END/**/;/**/$$/**/LANGUAGE/**/plpgsql/**/;/**/",
+            "f",
+        ),
+        (
+            "CREATE FUNCTION f()\r\nRETURNS bigint\r\nLANGUAGE plpgsql\r\nAS $$\r\nBEGIN\r\nRETURN 1;\r\nEND\r\n$$;\r\n",
+            "f",
+        ),
+        (
+            "CREATE FUNCTION other.f() RETURNS bigint LANGUAGE plpgsql AS $$BEGIN RETURN 1; END$$",
+            "X3",
+        ),
+        (
+            "CREATE FUNCTION public() RETURNS bigint LANGUAGE plpgsql AS $$BEGIN RETURN 1; END$$",
+            "public",
+        ),
+        (
+            "CREATE FUNCTION f(a) RETURNS bigint LANGUAGE plpgsql AS $$BEGIN RETURN 1; END$$",
+            "X3",
+        ),
+        (
+            "CREATE FUNCTION f(a bigint,) RETURNS bigint LANGUAGE plpgsql AS $$BEGIN RETURN 1; END$$",
+            "X3",
+        ),
+        (
+            "CREATE FUNCTION f(INOUT a bigint) RETURNS bigint LANGUAGE plpgsql AS $$BEGIN RETURN 1; END$$",
+            "X4 inout",
+        ),
+        (
+            "CREATE FUNCTION f() RETURNS bigint LANGUAGE plpgsql AS $$BEGIN RETURN 1; END$$;;",
+            "X3",
+        ),
+        (
+            "CREATE FUNCTION f() RETURNS bigint LANGUAGE plpgsql AS $$BEGIN RETURN 1; END$$; SELECT 1",
+            "X3",
+        ),
+        (
+            "CREATE OR FUNCTION f() RETURNS bigint LANGUAGE plpgsql AS $$BEGIN RETURN 1; END$$",
+            "X3",
+        ),
     ];
     for (text, wanted) in rows.iter() {
         assert_eq!(rt; answer(rt.alloc(), text)?.as_str(), *wanted, "{text}");
@@ -155,7 +200,11 @@ fn attributes(rt: HostRuntime) -> Result<(), Fail> {
     ];
     for (text, wanted) in rows.iter() {
         let file = with(rt.alloc(), text, "BEGIN RETURN 1; END")?;
-        assert_eq!(rt; answer(rt.alloc(), file.as_str())?.as_str(), *wanted, "{text}");
+        assert_eq!(rt;
+            answer(rt.alloc(), file.as_str())?.as_str(),
+            *wanted,
+            "{text}"
+        );
     }
     Ok(())
 }
@@ -182,10 +231,34 @@ fn limits(rt: HostRuntime) -> Result<(), Fail> {
         ("BEGIN ", "NULL; ", 498, "RETURN 1; END", "f"),
         ("BEGIN ", "NULL; ", 499, "RETURN 1; END", "X5 nodes 501"),
         ("DECLARE ", "a bigint; ", 64, "BEGIN RETURN 1; END", "f"),
-        ("DECLARE ", "a bigint; ", 65, "BEGIN RETURN 1; END", "X5 variables 65"),
-        ("BEGIN ", "FOR i IN 1..2 LOOP END LOOP; ", 64, "RETURN 1; END", "f"),
-        ("BEGIN ", "FOR i IN 1..2 LOOP END LOOP; ", 65, "RETURN 1; END", "X5 loops 65"),
-        ("BEGIN ", "WHILE true LOOP END LOOP; ", 65, "RETURN 1; END", "f"),
+        (
+            "DECLARE ",
+            "a bigint; ",
+            65,
+            "BEGIN RETURN 1; END",
+            "X5 variables 65",
+        ),
+        (
+            "BEGIN ",
+            "FOR i IN 1..2 LOOP END LOOP; ",
+            64,
+            "RETURN 1; END",
+            "f",
+        ),
+        (
+            "BEGIN ",
+            "FOR i IN 1..2 LOOP END LOOP; ",
+            65,
+            "RETURN 1; END",
+            "X5 loops 65",
+        ),
+        (
+            "BEGIN ",
+            "WHILE true LOOP END LOOP; ",
+            65,
+            "RETURN 1; END",
+            "f",
+        ),
         ("BEGIN RETURN ", "(", 65, "1; END", "X5 nesting 66"),
         ("", "BEGIN ", 65, "PERFORM 1;", "X5 nesting 65"),
         ("", "BEGIN ", 64, "PERFORM 1;", "X4 perform"),
@@ -193,7 +266,11 @@ fn limits(rt: HostRuntime) -> Result<(), Fail> {
     ];
     for (front, part, times, back, wanted) in rows.iter() {
         let file = repeated(rt.alloc(), front, part, *times, back)?;
-        assert_eq!(rt; answer(rt.alloc(), file.as_str())?.as_str(), *wanted, "{times} {part}");
+        assert_eq!(rt;
+            answer(rt.alloc(), file.as_str())?.as_str(),
+            *wanted,
+            "{times} {part}"
+        );
     }
     Ok(())
 }

@@ -7,7 +7,7 @@ use Rattle.plsql_parse.proofs.outside.first_outside.Given as goal
 abbrev pub invariant-loop-left : goal.invariant-loop-left
 invariant-loop-left l = record {
   same : first_outside (map seen l.left) ≡ first_outside (map seen l.list);
-  spelled : AreSpelled (map seen l.left)
+  spelled : AreSpelled (map seen l.left);
 }
 
 abbrev pub decreases-loop-left : goal.decreases-loop-left
