@@ -13,3 +13,9 @@ pub mod OneFile
 pub mod Trying
 pub mod Examples
 pub mod Passing
+pub mod CountLemmas
+pub mod Words
+pub mod WholeFile
+pub mod HeaderLoops
+pub mod BodySteps
+pub mod BodyLoops

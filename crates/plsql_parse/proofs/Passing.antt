@@ -14,10 +14,7 @@ use Rattle.away_core.specs.Grammar as g
 use Rattle.away_core.specs.Grammar.{Sort, at, Tree, Reads, operator_of, comparison_of, test_of, literal_of, called, perhaps, qualified, not_null}
 use Rattle.away_core.specs.FunctionGrammar as f
 use Rattle.away_core.specs.FunctionGrammar.{ReadsPart, step, loop_opens, opens_loop}
-
-abbrev is_loop : Sign → Bool
-is_loop (mark m.Loop) = true
-is_loop _ = false
+use Rattle.plsql_parse.specs.Taken.{is_loop, is_end}
 
 -- From the first signs up to the second ones no LOOP stands.
 data Passes : List Sign → List Sign → Type 0 where
@@ -162,15 +159,11 @@ Ended ts rest = (before : List Sign) × (ts ≡ before ++ mark m.End ∷ mark m.
 too_long : (before rest : List Sign) → ¬ (mark m.Loop ∷ rest ≡ before ++ mark m.End ∷ mark m.Loop ∷ rest)
 too_long before rest e = omega (arith, ap length e, length-append before (mark m.End ∷ mark m.Loop ∷ rest))
 
-abbrev is_end : Sign → Bool
-is_end (mark m.End) = true
-is_end _ = false
-
 end_is : (s : Sign) → is_end s ≡ true → s ≡ mark m.End
 end_is (mark m.End) e = refl
 end_is _ e = absurd (cc e)
 
-opens_past : (s : Sign) (ts : List Sign) (behind : Bool) → is_loop s ≡ false → loop_opens (s ∷ ts) behind ≡ loop_opens ts (is_end s)
+pub opens_past : (s : Sign) (ts : List Sign) (behind : Bool) → is_loop s ≡ false → loop_opens (s ∷ ts) behind ≡ loop_opens ts (is_end s)
 opens_past (mark m.Loop) ts behind g = absurd (cc g)
 opens_past (mark m.End) ts behind g = refl
 opens_past _ ts behind g = refl

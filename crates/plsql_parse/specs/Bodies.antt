@@ -5,6 +5,7 @@ use Rattle.away_core.specs.declared.grammar.Mark.TheVariants as m
 use Rattle.away_core.specs.declared.types.Ty.{Ty}
 use Rattle.away_core.specs.declared.queries.Expr.{Expr}
 use Rattle.away_core.specs.declared.statements.Decl.{Decl}
+use Rattle.away_core.specs.declared.statements.LoopKind.{LoopKind}
 use Rattle.away_core.specs.declared.statements.LoopKind.TheVariants as k
 use Rattle.away_core.specs.declared.statements.Raised.{Raised}
 use Rattle.away_core.specs.declared.statements.Raised.TheVariants as r
@@ -76,10 +77,13 @@ begun_plan label ds = read (part statements) (λ ss. expect m.End (maybe_name (�
 abbrev pub block_plan : (label : Option (List ℕ)) → PartPlan (block label)
 block_plan label = eat m.Declare (read (part decls) (λ ds. expect m.Begin (begun_plan label ds))) (expect m.Begin (begun_plan label []))
 
+-- behind LOOP
+abbrev pub repeating_plan : (label : Option (List ℕ)) → LoopKind → PartPlan (repeated label)
+repeating_plan label how =
+    read (part statements) (λ ss. expect m.End (expect m.Loop (maybe_name (λ closing. done (s.Loop label how ss closing)))))
+
 abbrev pub repeated_plan : (label : Option (List ℕ)) → PartPlan (repeated label)
-repeated_plan label =
-    read (part kind) (λ how. expect m.Loop (read (part statements) (λ ss. expect m.End (expect m.Loop
-    (maybe_name (λ closing. done (s.Loop label how ss closing)))))))
+repeated_plan label = read (part kind) (λ how. expect m.Loop (repeating_plan label how))
 
 -- behind IN, and REVERSE where it is written
 abbrev pub counted_plan : List ℕ → Bool → PartPlan kind
@@ -88,9 +92,13 @@ counted_plan n reverse =
     (expression (λ first. expect m.Dots (expression (λ last. read (part step) (λ x. done (k.Count n reverse first last x))))))
     fail
 
+-- behind WHILE
+abbrev pub while_plan : PartPlan kind
+while_plan = look opens_loop (expression (λ x. done (k.While x))) fail
+
 abbrev pub kind_plan : PartPlan kind
 kind_plan =
-    eat m.While (look opens_loop (expression (λ x. done (k.While x))) fail)
+    eat m.While while_plan
     (eat m.For (a_name (λ n. expect m.In (eat m.Reverse (counted_plan n true) (counted_plan n false)))) (done k.Plain))
 
 abbrev pub step_plan : PartPlan step
@@ -100,6 +108,10 @@ step_plan = eat m.By (expression (λ x. done (Some x))) (done None)
 
 abbrev pub value_plan : List ℕ → PartPlan statement
 value_plan n = expression (λ x. expect m.Semicolon (done (s.Assign n None x)))
+
+-- behind the name that is assigned to
+abbrev pub assigned_plan : List ℕ → PartPlan statement
+assigned_plan n = eat m.Assign (value_plan n) (expect m.Equal (value_plan n))
 
 abbrev pub branch_plan : PartPlan branch
 branch_plan = expression (λ x. expect m.Then (read (part statements) (λ ss. done (record { test = x; body = ss }))))
@@ -111,8 +123,12 @@ elsif_plan = read (part branch) (λ a. read (part elsifs) (λ more. done (a ∷ 
 abbrev pub elsifs_plan : PartPlan elsifs
 elsifs_plan = eat m.Elsif elsif_plan (eat m.Elseif elsif_plan (done []))
 
+-- behind WHEN
+abbrev pub when_plan : PartPlan whens
+when_plan = read (part branch) (λ a. read (part whens) (λ more. done (a ∷ more)))
+
 abbrev pub whens_plan : PartPlan whens
-whens_plan = eat m.When (read (part branch) (λ a. read (part whens) (λ more. done (a ∷ more)))) (done [])
+whens_plan = eat m.When when_plan (done [])
 
 abbrev pub otherwise_plan : PartPlan otherwise
 otherwise_plan = eat m.Else (read (part statements) (λ ss. done (Some ss))) (done None)
@@ -162,7 +178,7 @@ marked_plan m.Raise = raise_plan
 marked_plan _ = fail
 
 abbrev pub statement_by : Option Sign → PartPlan statement
-statement_by (Some (name n)) = eat m.Assign (value_plan n) (expect m.Equal (value_plan n))
+statement_by (Some (name n)) = assigned_plan n
 statement_by (Some (mark sign)) = marked_plan sign
 statement_by _ = fail
 

@@ -27,13 +27,13 @@ in_arm a = sum a.body
 
 -- ---- variables
 
--- the declarations of a block
-abbrev own_variables : Stmt-F ℕ ℕ → ℕ
-own_variables (st.Block _ decls _ _) = length decls
-own_variables _ = 0
+-- the declarations of a block, beside those of its parts
+abbrev variables_in : Stmt-F ℕ ℕ → ℕ
+variables_in (st.Block _ decls body _) = length decls + sum body
+variables_in other = in_parts other
 
 abbrev pub counting_variables : StatementAlgebra
-counting_variables = record { AStmt = ℕ; AnArm = ℕ; stmt = λ s. own_variables s + in_parts s; arm = in_arm }
+counting_variables = record { AStmt = ℕ; AnArm = ℕ; stmt = variables_in; arm = in_arm }
 
 -- of a statement with what stands in it
 unfoldable pub variables_of : Stmt → ℕ
@@ -49,17 +49,17 @@ variables f = length f.params + variables_of f.body
 
 -- ---- loops
 
-abbrev for_loops : LoopKind → ℕ
+abbrev pub for_loops : LoopKind → ℕ
 for_loops (k.Count _ _ _ _ _) = 1
 for_loops _ = 0
 
--- a FOR loop is one
-abbrev own_loops : Stmt-F ℕ ℕ → ℕ
-own_loops (st.Loop _ how _ _) = for_loops how
-own_loops _ = 0
+-- a FOR loop is one, beside those of its parts
+abbrev loops_in : Stmt-F ℕ ℕ → ℕ
+loops_in (st.Loop _ how body _) = for_loops how + sum body
+loops_in other = in_parts other
 
 abbrev pub counting_loops : StatementAlgebra
-counting_loops = record { AStmt = ℕ; AnArm = ℕ; stmt = λ s. own_loops s + in_parts s; arm = in_arm }
+counting_loops = record { AStmt = ℕ; AnArm = ℕ; stmt = loops_in; arm = in_arm }
 
 -- of a statement with what stands in it
 unfoldable pub loops_of : Stmt → ℕ

@@ -2,8 +2,11 @@ pub mod Sorts
 pub mod Bodies
 pub mod Headers
 pub mod Plans
+pub mod Taken
 pub mod Stops
 pub mod Counts
 pub mod Refusals
+pub mod FileRead
+pub mod HeaderRead
 pub mod WorkedSigns
 pub mod WorkedTokens

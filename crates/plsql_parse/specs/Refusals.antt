@@ -62,15 +62,17 @@ ReadsNone bytes = (f : Function) → ¬ (ReadsFunction bytes f)
 abbrev pub IsOutside : List Lexeme → List Lexeme → List ℕ → Type 0
 IsOutside outer inner word = (t : Lexeme) × (outside_word outer inner ≡ Some t) × (word ≡ folded t.text)
 
--- The limit is exceeded by this count, and no limit before it is exceeded.
+-- This count of the function exceeds its limit, and no count before it exceeds its own.
+abbrev pub CountExceeds : Function → LimitKind → ℕ → Type 0
+CountExceeds f limit.Nesting found = ⊥
+CountExceeds f limit.Nodes found = (found ≡ nodes f) × (most_nodes < found)
+CountExceeds f limit.Variables found = (nodes f ≤ most_nodes) × (found ≡ variables f) × (most_variables < found)
+CountExceeds f limit.Loops found = (nodes f ≤ most_nodes) × (variables f ≤ most_variables) × (found ≡ loops f) × (most_loops < found)
+
+-- The nesting of the body's list exceeds its limit, or a count of the function that the bytes read as does.
 abbrev pub Exceeds : LimitKind → List ℕ → ℕ → Type 0
 Exceeds limit.Nesting bytes found = ((outer : List Lexeme) × ((inner : List Lexeme) × HasLists bytes outer inner found)) × (most_nesting < found)
-Exceeds limit.Nodes bytes found = MayBeRead bytes × ((f : Function) × ReadsFunction bytes f × (found ≡ nodes f) × (most_nodes < found))
-Exceeds limit.Variables bytes found =
-    MayBeRead bytes × ((f : Function) × ReadsFunction bytes f × (nodes f ≤ most_nodes) × (found ≡ variables f) × (most_variables < found))
-Exceeds limit.Loops bytes found =
-    MayBeRead bytes
-    × ((f : Function) × ReadsFunction bytes f × (nodes f ≤ most_nodes) × (variables f ≤ most_variables) × (found ≡ loops f) × (most_loops < found))
+Exceeds which bytes found = MayBeRead bytes × ((f : Function) × ReadsFunction bytes f × CountExceeds f which found)
 
 -- Why no function is read from bytes: the first of these reasons that holds.
 abbrev pub Refuses : List ℕ → ReadRefusal → Type 0

@@ -1,8 +1,20 @@
 //! Functions in PL/pgSQL: from text to trees.
 #![tactic(auto)]
 
+mod attributes;
+mod bodies;
+mod counts;
+mod declarations;
+mod expressions;
+mod headers;
+mod kinds;
 mod laws;
+mod looks;
+mod next;
+mod outside;
 mod read;
+mod simple;
+mod statements;
 mod worked;
 
 pub use laws::{
@@ -15,3 +27,8 @@ pub use worked::{
     a_function_with_for_reads, a_function_with_while_reads, end_loop_ends_no_case,
     every_kind_of_statement_reads, words_outside_are_found,
 };
+
+#[cfg(test)]
+mod body_tests;
+#[cfg(test)]
+mod read_tests;

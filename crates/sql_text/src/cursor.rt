@@ -51,6 +51,13 @@ impl<'a> Cursor<'a> {
         Cursor { list, at }
     }
 
+    /// The same place, to look ahead from.
+    pub fn ahead(&self) -> Cursor<'a>
+        ensures { result ≡ self.now }
+    {
+        Cursor::new(self.list, self.at)
+    }
+
     /// How many tokens are left.
     pub fn left(&self) -> usize
         ensures { result ≡ length self.now }

@@ -33,7 +33,7 @@ pub use print_laws::{
 pub use printing::print_query;
 pub use read::{read_expr, read_query, read_schema};
 pub use refusal::Refusal;
-pub use signs::Sign;
+pub use signs::{Sign, text_of};
 
 #[cfg(test)]
 mod print_tests;

@@ -1,0 +1,118 @@
+//! How many nodes, variables and loops a function has.
+
+ghost use Rattle.std.specs.Prelude.{◌≡◌, ◌+◌, sum_by, IfSome};
+ghost use Rattle.away_core.specs.Count as core;
+ghost use Rattle.plsql_parse.specs.Counts as spec;
+
+use away_core::{Arm, Function, LoopKind, Stmt};
+
+/// Counts of a function or of a part of it.
+#[derive(Clone, Copy)]
+pub struct Counts {
+    pub nodes: u64,
+    /// Parameters and declarations.
+    pub variables: u64,
+    /// FOR loops.
+    pub loops: u64,
+}
+
+/// The counts with so many more of each, if they fit.
+fn plus(counts: Counts, nodes: u64, variables: u64, loops: u64) -> Option<Counts>
+    ensures nodes { IfSome result (λ sum. sum.nodes ≡ counts.nodes + nodes) }
+    ensures variables { IfSome result (λ sum. sum.variables ≡ counts.variables + variables) }
+    ensures loops { IfSome result (λ sum. sum.loops ≡ counts.loops + loops) }
+{
+    Some(Counts {
+        nodes: counts.nodes.checked_add(nodes)?,
+        variables: counts.variables.checked_add(variables)?,
+        loops: counts.loops.checked_add(loops)?,
+    })
+}
+
+fn for_loops(kind: &LoopKind) -> u64
+    ensures { result ≡ spec.for_loops kind.now }
+{
+    match kind {
+        LoopKind::Count { .. } => 1,
+        _ => 0,
+    }
+}
+
+/// The counts with those of a statement and of what stands in it.
+#[cycle(count)]
+#[tactic(auto, using(away_core::proofs::CountLemmas::node_rules, crate::proofs::CountLemmas::count_rules))]
+fn with_statement(before: Counts, s: &Stmt) -> Option<Counts>
+    ensures nodes { IfSome result (λ sum. sum.nodes ≡ before.nodes + core.nodes_of s.now) }
+    ensures variables { IfSome result (λ sum. sum.variables ≡ before.variables + spec.variables_of s.now) }
+    ensures loops { IfSome result (λ sum. sum.loops ≡ before.loops + spec.loops_of s.now) }
+{
+    let counts = plus(before, 1, 0, 0)?;
+    match s {
+        Stmt::Block { decls, body, .. } => {
+            let declared = decls.len() as u64;
+            with_statements(plus(counts, declared, declared, 0)?, body.as_slice())
+        }
+        Stmt::If(arms, other) | Stmt::Cases(arms, other) => {
+            let counts = with_arms(counts, arms.as_slice())?;
+            match other {
+                None => Some(counts),
+                Some(body) => with_statements(plus(counts, 1, 0, 0)?, body.as_slice()),
+            }
+        }
+        Stmt::Loop { kind, body, .. } => {
+            with_statements(plus(counts, 0, 0, for_loops(kind))?, body.as_slice())
+        }
+        Stmt::Into { targets, .. } => plus(counts, targets.len() as u64, 0, 0),
+        Stmt::Assign(_, _, _)
+        | Stmt::Exit(_, _)
+        | Stmt::Continue(_, _)
+        | Stmt::Return(_)
+        | Stmt::Raise(_)
+        | Stmt::Nothing => Some(counts),
+    }
+}
+
+#[cycle(count)]
+#[tactic(auto, using(away_core::proofs::CountLemmas::node_rules, crate::proofs::CountLemmas::count_rules))]
+fn with_statements(before: Counts, list: &[Stmt]) -> Option<Counts>
+    ensures nodes { IfSome result (λ sum. sum.nodes ≡ before.nodes + sum_by core.nodes_of list.now) }
+    ensures variables { IfSome result (λ sum. sum.variables ≡ before.variables + sum_by spec.variables_of list.now) }
+    ensures loops { IfSome result (λ sum. sum.loops ≡ before.loops + sum_by spec.loops_of list.now) }
+{
+    let mut counts = before;
+    for i in 0..list.len() {
+        counts = with_statement(counts, &list[i])?;
+    }
+    Some(counts)
+}
+
+#[cycle(count)]
+#[tactic(auto, using(away_core::proofs::CountLemmas::node_rules, crate::proofs::CountLemmas::count_rules))]
+fn with_arms(before: Counts, list: &[Arm]) -> Option<Counts>
+    ensures nodes { IfSome result (λ sum. sum.nodes ≡ before.nodes + sum_by core.nodes_of_arm list.now) }
+    ensures variables { IfSome result (λ sum. sum.variables ≡ before.variables + sum_by spec.variables_of_arm list.now) }
+    ensures loops { IfSome result (λ sum. sum.loops ≡ before.loops + sum_by spec.loops_of_arm list.now) }
+{
+    let mut counts = before;
+    for i in 0..list.len() {
+        let arm = plus(counts, 1, 0, 0)?;
+        counts = with_statements(arm, list[i].body.as_slice())?;
+    }
+    Some(counts)
+}
+
+/// The counts of a function, if they fit.
+#[tactic(auto, unfolding(away_core::specs::Count::nodes, crate::specs::Counts::variables, crate::specs::Counts::loops))]
+pub fn counts_of(f: &Function) -> Option<Counts>
+    ensures nodes { IfSome result (λ sum. sum.nodes ≡ core.nodes f.now) }
+    ensures variables { IfSome result (λ sum. sum.variables ≡ spec.variables f.now) }
+    ensures loops { IfSome result (λ sum. sum.loops ≡ spec.loops f.now) }
+{
+    let params = f.params.len() as u64;
+    let before = Counts {
+        nodes: params,
+        variables: params,
+        loops: 0,
+    };
+    with_statement(before, &f.body)
+}

@@ -1,0 +1,32 @@
+//! Expressions among statements.
+
+ghost use Rattle.std.specs.Prelude.{◌≡◌, ◌≤◌, length};
+ghost use Rattle.away_core.specs.declared.grammar.Level.TheVariants.{Or};
+ghost use Rattle.away_core.specs.Grammar.{at};
+ghost use Rattle.sql_text.specs.Plans.{Gives};
+ghost use Rattle.plsql_parse.specs.Sorts.{AnyTree, sql};
+ghost use Rattle.plsql_parse.specs.Plans.{any_plan};
+
+use away_core::{Expr, Level};
+use sql_text::{Cursor, Refusal, expression};
+use sqlite_items::Boxed;
+use std::alloc::Global;
+
+/// An expression.
+pub(crate) fn value_of(alloc: Global, tokens: &mut Cursor<'_>) -> Result<Boxed<Expr>, Refusal>
+    ensures found { Gives AnyTree any_plan (sql (at Or)) (any_plan (sql (at Or))) tokens.old result tokens.new }
+    ensures shrinks { length tokens.new ≤ length tokens.old }
+{
+    let found = expression(alloc, tokens, Level::Or)?;
+    Ok(Boxed::new(alloc, found)?)
+}
+
+/// The expression out of its box.
+pub(crate) fn unboxed(expr: Option<Boxed<Expr>>) -> Option<Expr>
+    ensures { result ≡ expr }
+{
+    match expr {
+        Some(expr) => Some(expr.into_inner()),
+        None => None,
+    }
+}
