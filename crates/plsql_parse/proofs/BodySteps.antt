@@ -89,16 +89,16 @@ pub arms_on : {p : Part} (cons : Arm → PartTree p → PartTree p) (plan : Part
 arms_on {p = p} cons plan {arms = arms} {middle = middle} {new = new} {r = r} (tree d) e =
     elim (inside d) [
       | inl v ↦ elim (inside v.3) [
-          | inl w ↦ (
-              let same : Some (arms, middle) ≡ Some (cons v.0 w.0, w.1) = inside w.3 in
-              let pair : (arms, middle) ≡ (cons v.0 w.0, w.1) = some_same same in
-              let all : arms ≡ cons v.0 w.0 = ap (λ p. p.0) pair in
-              let rest : middle ≡ w.1 = ap (λ p. p.1) pair in
-              read_on {f = λ a. read (part p) (λ more. plan (cons a more))} (tree v.2)
-              (read_on {f = λ more. plan (cons v.0 more)} (tree w.2)
-              (subst (λ ts. PartGives statement (plan (cons v.0 w.0)) ts r new) rest (subst (λ arms. PartGives statement (plan arms) middle r new) all e))))
-          | inr w ↦ absurd (let none : Some (arms, middle) ≡ None = w.1 in cc none)
-        ]
+        | inl w ↦ (
+            let same : Some (arms, middle) ≡ Some (cons v.0 w.0, w.1) = inside w.3 in
+            let pair : (arms, middle) ≡ (cons v.0 w.0, w.1) = some_same same in
+            let all : arms ≡ cons v.0 w.0 = ap (λ p. p.0) pair in
+            let rest : middle ≡ w.1 = ap (λ p. p.1) pair in
+            read_on {f = λ a. read (part p) (λ more. plan (cons a more))} (tree v.2)
+            (read_on {f = λ more. plan (cons v.0 more)} (tree w.2)
+            (subst (λ ts. PartGives statement (plan (cons v.0 w.0)) ts r new) rest (subst (λ arms. PartGives statement (plan arms) middle r new) all e))))
+        | inr w ↦ absurd (let none : Some (arms, middle) ≡ None = w.1 in cc none)
+      ]
       | inr v ↦ absurd (let none : Some (arms, middle) ≡ None = v.1 in cc none)
     ]
 
@@ -109,9 +109,9 @@ pub arms_no : {p : Part} (cons : Arm → PartTree p → PartTree p) (plan : Part
 arms_no cons plan (no_tree d) =
     elim (inside d) [
       | inl v ↦ elim (inside v.3) [
-          | inl w ↦ absurd (let some : None ≡ Some (cons v.0 w.0, w.1) = inside w.3 in cc some)
-          | inr w ↦ no_tree (reads v.2 (breaks w.0))
-        ]
+        | inl w ↦ absurd (let some : None ≡ Some (cons v.0 w.0, w.1) = inside w.3 in cc some)
+        | inr w ↦ no_tree (reads v.2 (breaks w.0))
+      ]
       | inr v ↦ no_tree (breaks v.0)
     ]
 arms_no cons plan no_memory = no_memory

@@ -51,7 +51,10 @@ static ROWS: [(&str, &str); 59] = [
     ("BEGIN IF a NULL; END IF; END", "-"),
     ("BEGIN IF a THEN ELSE ELSIF b THEN END IF; END", "-"),
     ("BEGIN IF a THEN END; END", "-"),
-    ("BEGIN CASE WHEN a THEN WHEN b THEN NULL; END CASE; END", " case++"),
+    (
+        "BEGIN CASE WHEN a THEN WHEN b THEN NULL; END CASE; END",
+        " case++",
+    ),
     ("BEGIN CASE WHEN a THEN ELSE END CASE; END", " case+ else"),
     ("BEGIN CASE a WHEN 1 THEN END CASE; END", "-"),
     ("BEGIN CASE ELSE END CASE; END", "-"),
@@ -60,7 +63,10 @@ static ROWS: [(&str, &str); 59] = [
     ("BEGIN <<l>> LOOP END LOOP l; END", " <<l>> loop :l"),
     ("BEGIN LOOP END; END", "-"),
     ("BEGIN WHILE a < 1 LOOP END LOOP; END", " while"),
-    ("BEGIN WHILE (CASE WHEN a THEN b END) LOOP END LOOP; END", " while"),
+    (
+        "BEGIN WHILE (CASE WHEN a THEN b END) LOOP END LOOP; END",
+        " while",
+    ),
     ("BEGIN WHILE CASE WHEN a THEN b END LOOP END LOOP; END", "-"),
     ("BEGIN WHILE LOOP END LOOP; END", "-"),
     ("BEGIN FOR i IN 1..2 LOOP END LOOP; END", " for i"),
@@ -69,8 +75,14 @@ static ROWS: [(&str, &str); 59] = [
         " for i reverse by",
     ),
     ("BEGIN FOR i IN 1 LOOP END LOOP; END", "-"),
-    ("BEGIN FOR i IN 1..CASE WHEN a THEN b END LOOP END LOOP; END", "-"),
-    ("BEGIN EXIT; EXIT l; EXIT l WHEN a; EXIT WHEN a; END", " exit exit l exit l when exit when"),
+    (
+        "BEGIN FOR i IN 1..CASE WHEN a THEN b END LOOP END LOOP; END",
+        "-",
+    ),
+    (
+        "BEGIN EXIT; EXIT l; EXIT l WHEN a; EXIT WHEN a; END",
+        " exit exit l exit l when exit when",
+    ),
     (
         "BEGIN CONTINUE; CONTINUE l; CONTINUE l WHEN a; CONTINUE WHEN a; END",
         " continue continue l continue l when continue when",
@@ -217,7 +229,10 @@ fn kind_word(kind: &LoopKind) -> &'static str {
 
 fn add_count(shown: &mut String, kind: &LoopKind) -> Result<(), AllocError> {
     if let LoopKind::Count {
-        var, reverse, step, ..
+        var,
+        reverse,
+        step,
+        ..
     } = kind
     {
         shown.push_str(" ")?;
@@ -282,7 +297,10 @@ fn add_raised(shown: &mut String, raised: &Raised) -> Result<(), AllocError> {
 #[test]
 fn texts_and_their_bodies(rt: HostRuntime) -> Result<(), Fail> {
     for (text, wanted) in ROWS.iter() {
-        assert_eq!(rt; (*text, shown(rt.alloc(), text)?.as_str()), (*text, *wanted));
+        assert_eq!(rt;
+            (*text, shown(rt.alloc(), text)?.as_str()),
+            (*text, *wanted)
+        );
     }
     Ok(())
 }

@@ -67,11 +67,7 @@ fn statement_of(alloc: Global, tokens: &mut Cursor<'_>) -> Result<Stmt, Refusal>
 
 /// A block or a loop behind its label.
 #[cycle(reader)]
-fn labelled(
-    alloc: Global,
-    tokens: &mut Cursor<'_>,
-    label: Option<Name>,
-) -> Result<Stmt, Refusal>
+fn labelled(alloc: Global, tokens: &mut Cursor<'_>, label: Option<Name>) -> Result<Stmt, Refusal>
     ensures found { Gives AnyTree any_plan (part statement) (labelled_plan label) tokens.old result tokens.new }
     ensures shrinks { length tokens.new ≤ length tokens.old }
     ensures shorter { IfOk result (λ _. length tokens.new < length tokens.old) }

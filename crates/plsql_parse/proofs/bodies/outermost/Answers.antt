@@ -7,7 +7,7 @@ use Rattle.plsql_parse.proofs.BodySteps.{eat_by}
 use Rattle.plsql_parse.proofs.bodies.outermost.Goals as goal
 
 pub returns-in_err-found-clause-found : goal.returns-in_err-found-clause-found
-returns-in_err-found-clause-found c = 
+returns-in_err-found-clause-found c =
     let p = err_from_is_err_and c.from_residual.result c.from_residual.ensures.1 in
     rw (p.1, p.2) (read_no c.in_err-found.ensures.found)
 

@@ -7,7 +7,7 @@ use Rattle.plsql_parse.proofs.BodySteps.{eat_by}
 use Rattle.plsql_parse.proofs.declarations.decl_of.Goals as goal
 
 pub returns-in_err-name-clause-found : goal.returns-in_err-name-clause-found
-returns-in_err-name-clause-found c = 
+returns-in_err-name-clause-found c =
     let p = err_from_is_err_and c.from_residual.result c.from_residual.ensures.1 in
     rw (p.1, p.2) (not_wanted name_in _ c.in_err-name.field-0.0 c.in_err-name.ensures.found)
 

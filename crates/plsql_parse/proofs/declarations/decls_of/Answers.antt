@@ -6,12 +6,12 @@ use Rattle.plsql_parse.proofs.BodyLoops.{decls_more, decls_end, decls_fail}
 use Rattle.plsql_parse.proofs.declarations.decls_of.Goals as goal
 
 pub returns-in_err-decl_of-clause-found : goal.returns-in_err-decl_of-clause-found
-returns-in_err-decl_of-clause-found c = 
+returns-in_err-decl_of-clause-found c =
     let p = err_from_is_err_and c.from_residual.result c.from_residual.ensures.1 in
     rw (p.1, p.2) (decls_fail _ c.loop-alloc.invariant.begun (sym c.loop-alloc-test.ensures) c.in_err-decl_of.ensures.found)
 
 pub returns-in_err-push-clause-found : goal.returns-in_err-push-clause-found
-returns-in_err-push-clause-found c = 
+returns-in_err-push-clause-found c =
     let p = err_from_is_err_and c.from_residual-in_err-push.result c.from_residual-in_err-push.ensures.1 in
     rw (p.1, p.2) (no_memory)
 

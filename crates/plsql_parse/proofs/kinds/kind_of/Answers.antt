@@ -12,7 +12,7 @@ pub returns-then-eat-clause-found : goal.returns-then-eat-clause-found
 returns-then-eat-clause-found c = eaten m.While c.if-eat.ensures.yes (c.repeated_while.ensures.found)
 
 pub returns-in_err-new-clause-found : goal.returns-in_err-new-clause-found
-returns-in_err-new-clause-found c = 
+returns-in_err-new-clause-found c =
     let p = err_from_is_err_and c.from_residual.result c.from_residual.ensures.1 in
     rw (p.1, p.2) (no_memory)
 
@@ -20,12 +20,12 @@ pub returns-then-not-eat-clause-found : goal.returns-then-not-eat-clause-found
 returns-then-not-eat-clause-found c = rw c.in_ok-new.ensures (left m.While c.if-eat.ensures.no (left m.For c.if-not-eat.ensures.no (finished refl)))
 
 pub returns-in_err-name-clause-found : goal.returns-in_err-name-clause-found
-returns-in_err-name-clause-found c = 
+returns-in_err-name-clause-found c =
     let p = err_from_is_err_and c.from_residual-in_err-name.result c.from_residual-in_err-name.ensures.1 in
     rw (p.1, p.2) (left m.While c.if-eat.ensures.no (eaten m.For c.if-not-eat.ensures.yes (not_wanted name_in _ c.in_err-name.field-0.0 c.in_err-name.ensures.found)))
 
 pub returns-in_err-expect-clause-found : goal.returns-in_err-expect-clause-found
-returns-in_err-expect-clause-found c = 
+returns-in_err-expect-clause-found c =
     let p = err_from_is_err_and c.from_residual-in_err-expect.result c.from_residual-in_err-expect.ensures.1 in
     rw (p.1, p.2) (left m.While c.if-eat.ensures.no (eaten m.For c.if-not-eat.ensures.yes (wanted name_in _ c.in_ok-name.ensures.found c.in_ok-name.ensures.rest (refused m.In c.in_err-expect.ensures.found))))
 

@@ -8,12 +8,12 @@ pub returns-then-not-sees_loop-clause-found : goal.returns-then-not-sees_loop-cl
 returns-then-not-sees_loop-clause-found c = overlooked (sym c.if-not-sees_loop.ensures) failed
 
 pub returns-in_err-test-clause-found : goal.returns-in_err-test-clause-found
-returns-in_err-test-clause-found c = 
+returns-in_err-test-clause-found c =
     let p = err_from_is_err_and c.from_residual.result c.from_residual.ensures.1 in
     rw (p.1, p.2) (looked (sym c.if-not-sees_loop.ensures) (read_no c.in_err-test.ensures.found))
 
 pub returns-in_err-new-clause-found : goal.returns-in_err-new-clause-found
-returns-in_err-new-clause-found c = 
+returns-in_err-new-clause-found c =
     let p = err_from_is_err_and c.from_residual-in_err-new.result c.from_residual-in_err-new.ensures.1 in
     rw (p.1, p.2) (no_memory)
 

@@ -7,7 +7,7 @@ pub returns-then-eat-clause-found : goal.returns-then-eat-clause-found
 returns-then-eat-clause-found c = eaten m.Assign c.if-eat.ensures.yes (c.assigned.ensures.found)
 
 pub returns-in_err-expect-clause-found : goal.returns-in_err-expect-clause-found
-returns-in_err-expect-clause-found c = 
+returns-in_err-expect-clause-found c =
     let p = err_from_is_err_and c.from_residual.result c.from_residual.ensures.1 in
     rw (p.1, p.2) (left m.Assign c.if-eat.ensures.no (refused m.Equal c.in_err-expect.ensures.found))
 

@@ -9,17 +9,17 @@ use Rattle.plsql_parse.proofs.BodySteps.{maybe_named}
 use Rattle.plsql_parse.proofs.simple.go_on.Goals as goal
 
 pub returns-in_err-label-clause-found : goal.returns-in_err-label-clause-found
-returns-in_err-label-clause-found c = 
+returns-in_err-label-clause-found c =
     let p = err_from_is_err_and c.from_residual.result c.from_residual.ensures.1 in
     rw (p.1, p.2) (no_memory)
 
 pub returns-in_err-condition-clause-found : goal.returns-in_err-condition-clause-found
-returns-in_err-condition-clause-found c = 
+returns-in_err-condition-clause-found c =
     let p = err_from_is_err_and c.from_residual-in_err-condition.result c.from_residual-in_err-condition.ensures.1 in
     rw (p.1, p.2) (maybe_named (λ label. left_plan (s.Continue label)) _ c.in_ok-label.ensures.found (read_no c.in_err-condition.ensures.found))
 
 pub returns-in_err-expect-clause-found : goal.returns-in_err-expect-clause-found
-returns-in_err-expect-clause-found c = 
+returns-in_err-expect-clause-found c =
     let p = err_from_is_err_and c.from_residual-in_err-expect.result c.from_residual-in_err-expect.ensures.1 in
     rw (p.1, p.2) (maybe_named (λ label. left_plan (s.Continue label)) _ c.in_ok-label.ensures.found (read_on c.in_ok-condition.ensures.found (refused m.Semicolon c.in_err-expect.ensures.found)))
 

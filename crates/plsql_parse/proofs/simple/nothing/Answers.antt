@@ -5,7 +5,7 @@ use Rattle.sql_text.proofs.Steps.{finished, eaten, refused}
 use Rattle.plsql_parse.proofs.simple.nothing.Goals as goal
 
 pub returns-in_err-expect-clause-found : goal.returns-in_err-expect-clause-found
-returns-in_err-expect-clause-found c = 
+returns-in_err-expect-clause-found c =
     let p = err_from_is_err_and c.from_residual.result c.from_residual.ensures.1 in
     rw (p.1, p.2) (refused m.Semicolon c.in_err-expect.ensures.found)
 
