@@ -45,9 +45,13 @@ $function$
 /// The name, the strictness and the parameters of the function that a text reads as, or what it is refused for.
 fn answer(alloc: Global, text: &str) -> Result<String, AllocError> {
     match read_function(alloc, text.as_bytes()) {
-        Ok(f) => signature(alloc, &f),
-        Err(refusal) => code(alloc, &refusal),
+        Ok(f) => shown(alloc, f),
+        Err(refusal) => code(alloc, refusal),
     }
+}
+
+fn shown(alloc: Global, f: Function) -> Result<String, AllocError> {
+    signature(alloc, &f)
 }
 
 fn signature(alloc: Global, f: &Function) -> Result<String, AllocError> {
@@ -61,7 +65,7 @@ fn signature(alloc: Global, f: &Function) -> Result<String, AllocError> {
     Ok(text)
 }
 
-fn code(alloc: Global, refusal: &ReadRefusal) -> Result<String, AllocError> {
+fn code(alloc: Global, refusal: ReadRefusal) -> Result<String, AllocError> {
     match refusal {
         ReadRefusal::NotText => String::from_str(alloc, "X1"),
         ReadRefusal::Token { offset } => format!(in alloc; "X2 {offset}"),
