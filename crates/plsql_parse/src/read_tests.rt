@@ -3,6 +3,7 @@
 use crate::read::read_function;
 use away_core::Function;
 use away_lex::{LimitKind, ReadRefusal};
+use sqlite_items::Boxed;
 use std::alloc::{AllocError, Global};
 use std::test::Fail;
 
@@ -51,7 +52,8 @@ fn answer(alloc: Global, text: &str) -> Result<String, AllocError> {
 }
 
 fn shown(alloc: Global, f: Function) -> Result<String, AllocError> {
-    signature(alloc, &f)
+    let f = Boxed::new(alloc, f)?;
+    signature(alloc, f.get())
 }
 
 fn signature(alloc: Global, f: &Function) -> Result<String, AllocError> {

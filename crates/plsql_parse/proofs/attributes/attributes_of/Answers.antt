@@ -6,12 +6,12 @@ use Rattle.plsql_parse.proofs.HeaderLoops.{attributes_more, attributes_end, attr
 use Rattle.plsql_parse.proofs.attributes.attributes_of.Goals as goal
 
 pub returns-in_err-attribute_of-clause-found : goal.returns-in_err-attribute_of-clause-found
-returns-in_err-attribute_of-clause-found c = 
+returns-in_err-attribute_of-clause-found c =
     let p = err_from_is_err_and c.from_residual.result c.from_residual.ensures.1 in
     rw (p.1, p.2) (attributes_fail _ c.loop-alloc.invariant.begun (sym c.loop-alloc-test.ensures) c.in_err-attribute_of.ensures.found)
 
 pub returns-in_err-push-clause-found : goal.returns-in_err-push-clause-found
-returns-in_err-push-clause-found c = 
+returns-in_err-push-clause-found c =
     let p = err_from_is_err_and c.from_residual-in_err-push.result c.from_residual-in_err-push.ensures.1 in
     rw (p.1, p.2) (no_memory)
 

@@ -10,7 +10,7 @@ pub returns-then-eat_word-clause-found : goal.returns-then-eat_word-clause-found
 returns-then-eat_word-clause-found c = word_eaten (codes "plpgsql") c.if-eat_word.ensures.yes (finished refl)
 
 pub returns-in_err-name-clause-found : goal.returns-in_err-name-clause-found
-returns-in_err-name-clause-found c = 
+returns-in_err-name-clause-found c =
     let p = err_from_is_err_and c.from_residual.result c.from_residual.ensures.1 in
     rw (p.1, p.2) (word_left (codes "plpgsql") c.if-eat_word.ensures.no (not_wanted string_in _ c.in_err-name.field-0.0 c.in_err-name.ensures.found))
 

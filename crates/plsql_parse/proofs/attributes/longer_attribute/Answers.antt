@@ -6,7 +6,7 @@ use Rattle.away_core.specs.declared.grammar.Mark.TheVariants as m
 use Rattle.plsql_parse.proofs.attributes.longer_attribute.Goals as goal
 
 pub returns-in_err-expect-clause-found : goal.returns-in_err-expect-clause-found
-returns-in_err-expect-clause-found c = 
+returns-in_err-expect-clause-found c =
     let p = err_from_is_err_and c.from_residual.result c.from_residual.ensures.1 in
     rw (p.1, p.2) (else_on _ (sym c.if-is_word.ensures) (then_on _ (sym c.if-is_word-2.ensures) (refused m.Null c.in_err-expect.ensures.found)))
 

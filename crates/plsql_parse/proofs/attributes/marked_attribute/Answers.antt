@@ -6,7 +6,7 @@ use Rattle.plsql_parse.proofs.Words.{word_eaten, word_refused, no_attribute}
 use Rattle.plsql_parse.proofs.attributes.marked_attribute.Goals as goal
 
 pub returns-in_err-expect_word-in-Not-clause-found : goal.returns-in_err-expect_word-in-Not-clause-found
-returns-in_err-expect_word-in-Not-clause-found c = 
+returns-in_err-expect_word-in-Not-clause-found c =
     let p = err_from_is_err_and c.from_residual.result c.from_residual.ensures.1 in
     rw (p.1, p.2, c.in-Not.is) (word_refused (codes "leakproof") c.in_err-expect_word-in-Not.ensures.found)
 

@@ -6,7 +6,7 @@ use Rattle.plsql_parse.proofs.Words.{then_on, else_on}
 use Rattle.plsql_parse.proofs.attributes.parallel.Goals as goal
 
 pub returns-in_err-kind-clause-found : goal.returns-in_err-kind-clause-found
-returns-in_err-kind-clause-found c = 
+returns-in_err-kind-clause-found c =
     let p = err_from_is_err_and c.from_residual.result c.from_residual.ensures.1 in
     rw (p.1, p.2) (not_wanted name_in _ c.in_err-kind.field-0.0 c.in_err-kind.ensures.found)
 

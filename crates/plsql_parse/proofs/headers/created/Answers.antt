@@ -4,7 +4,7 @@ use Rattle.plsql_parse.proofs.Words.{word_eaten, word_refused}
 use Rattle.plsql_parse.proofs.headers.created.Goals as goal
 
 pub returns-in_err-expect_word-clause-found : goal.returns-in_err-expect_word-clause-found
-returns-in_err-expect_word-clause-found c = 
+returns-in_err-expect_word-clause-found c =
     let p = err_from_is_err_and c.from_residual.result c.from_residual.ensures.1 in
     rw (p.1, p.2) (λ inside. word_refused (codes "function") c.in_err-expect_word.ensures.found)
 

@@ -12,22 +12,22 @@ use Rattle.away_core.specs.declared.grammar.Mark.TheVariants as m
 use Rattle.plsql_parse.proofs.headers.named.Goals as goal
 
 pub returns-in_err-params-clause-found : goal.returns-in_err-params-clause-found
-returns-in_err-params-clause-found c = 
+returns-in_err-params-clause-found c =
     let p = err_from_is_err_and c.from_residual.result c.from_residual.ensures.1 in
     rw (p.1, p.2) (λ inside. read_no c.in_err-params.ensures.found)
 
 pub returns-in_err-expect_word-clause-found : goal.returns-in_err-expect_word-clause-found
-returns-in_err-expect_word-clause-found c = 
+returns-in_err-expect_word-clause-found c =
     let p = err_from_is_err_and c.from_residual-in_err-expect_word.result c.from_residual-in_err-expect_word.ensures.1 in
     rw (p.1, p.2) (λ inside. read_on c.in_ok-params.ensures.found (word_refused (codes "returns") c.in_err-expect_word.ensures.found))
 
 pub returns-in_err-result-clause-found : goal.returns-in_err-result-clause-found
-returns-in_err-result-clause-found c = 
+returns-in_err-result-clause-found c =
     let p = err_from_is_err_and c.from_residual-in_err-result.result c.from_residual-in_err-result.ensures.1 in
     rw (p.1, p.2) (λ inside. read_on c.in_ok-params.ensures.found (word_eaten (codes "returns") c.in_ok-expect_word.ensures.found (not_wanted type_in _ c.in_err-result.field-0.0 c.in_err-result.ensures.found)))
 
 pub returns-in_err-found-clause-found : goal.returns-in_err-found-clause-found
-returns-in_err-found-clause-found c = 
+returns-in_err-found-clause-found c =
     let p = err_from_is_err_and c.from_residual-in_err-found.result c.from_residual-in_err-found.ensures.1 in
     rw (p.1, p.2) (λ inside. read_on c.in_ok-params.ensures.found (word_eaten (codes "returns") c.in_ok-expect_word.ensures.found (wanted type_in _ c.in_ok-result.ensures.found c.in_ok-result.ensures.rest (read_no c.in_err-found.ensures.found))))
 

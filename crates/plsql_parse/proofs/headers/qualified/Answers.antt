@@ -7,7 +7,7 @@ use Rattle.away_core.specs.declared.grammar.Mark.TheVariants as m
 use Rattle.plsql_parse.proofs.headers.qualified.Goals as goal
 
 pub returns-in_err-first-clause-found : goal.returns-in_err-first-clause-found
-returns-in_err-first-clause-found c = 
+returns-in_err-first-clause-found c =
     let p = err_from_is_err_and c.from_residual.result c.from_residual.ensures.1 in
     rw (p.1, p.2) (λ inside. not_wanted name_in _ c.in_err-first.field-0.0 c.in_err-first.ensures.found)
 
@@ -18,7 +18,7 @@ pub returns-then-not-eat-clause-found : goal.returns-then-not-eat-clause-found
 returns-then-not-eat-clause-found c = λ inside. wanted name_in _ c.in_ok-first.ensures.found c.in_ok-first.ensures.rest (then_on _ (sym c.if-not-is_public.ensures) (left m.Dot c.if-not-eat.ensures.no (c.named-then-not-eat.ensures.found inside)))
 
 pub returns-in_err-name-clause-found : goal.returns-in_err-name-clause-found
-returns-in_err-name-clause-found c = 
+returns-in_err-name-clause-found c =
     let p = err_from_is_err_and c.from_residual-in_err-name.result c.from_residual-in_err-name.ensures.1 in
     rw (p.1, p.2) (λ inside. wanted name_in _ c.in_ok-first.ensures.found c.in_ok-first.ensures.rest (then_on _ (sym c.if-not-is_public.ensures) (eaten m.Dot c.if-not-eat.ensures.yes (not_wanted name_in _ c.in_err-name.field-0.0 c.in_err-name.ensures.found))))
 
