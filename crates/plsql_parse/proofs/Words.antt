@@ -37,15 +37,8 @@ word_left w h d = overlooked h.0 (moved h.1 d)
 pub word_refused : {p : Part} {a : PartPlan p} {ts new : List Sign} {e : Refusal} (w : List ℕ) → (e ≡ NoTree) × (begins_word w ts ≡ false) → Gives AnyTree any_plan (part p) (expect_word w a) ts (Err e) new
 word_refused {p = p} {a = a} {ts = ts} {new = new} w h = subst (λ e. Gives AnyTree any_plan (part p) (expect_word w a) ts (Err e) new) (sym h.0) (overlooked h.1 failed)
 
--- ---- where a plan goes on either way
+-- ---- by a test
 
--- the same plan, whether the mark stood there or not
-pub eaten_or_left : {p : Part} {a : PartPlan p} {ts now new : List Sign} {r : Result (PartTree p) Refusal} (m : Mark) (found : Bool) → OnTrue found (ts ≡ mark m ∷ now) → OnFalse found ((now ≡ ts) × ¬ (Begins ts m))
-    → Gives AnyTree any_plan (part p) a now r new → Gives AnyTree any_plan (part p) (eat m a a) ts r new
-eaten_or_left m true h g d = eaten m h d
-eaten_or_left m false h g d = left m g d
-
--- by a test
 pub then_on : {p : Part} {a : PartPlan p} (b : PartPlan p) {ts new : List Sign} {r : Result (PartTree p) Refusal} {test : Bool} → test ≡ true → Gives AnyTree any_plan (part p) a ts r new → Gives AnyTree any_plan (part p) (if test then a else b) ts r new
 then_on {p = p} {a = a} b {ts = ts} {new = new} {r = r} h d = subst (λ test. Gives AnyTree any_plan (part p) (if test then a else b) ts r new) (sym h) d
 

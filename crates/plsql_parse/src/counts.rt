@@ -16,17 +16,19 @@ pub struct Counts {
     pub loops: u64,
 }
 
-/// The counts with so many more of each, if they fit.
-fn plus(counts: Counts, nodes: u64, variables: u64, loops: u64) -> Option<Counts>
-    ensures nodes { IfSome result (λ sum. sum.nodes ≡ counts.nodes + nodes) }
-    ensures variables { IfSome result (λ sum. sum.variables ≡ counts.variables + variables) }
-    ensures loops { IfSome result (λ sum. sum.loops ≡ counts.loops + loops) }
-{
-    Some(Counts {
-        nodes: counts.nodes.checked_add(nodes)?,
-        variables: counts.variables.checked_add(variables)?,
-        loops: counts.loops.checked_add(loops)?,
-    })
+impl Counts {
+    /// The counts with so many more of each, if they fit.
+    fn plus(self, nodes: u64, variables: u64, loops: u64) -> Option<Counts>
+        ensures nodes { IfSome result (λ sum. sum.nodes ≡ self.nodes + nodes) }
+        ensures variables { IfSome result (λ sum. sum.variables ≡ self.variables + variables) }
+        ensures loops { IfSome result (λ sum. sum.loops ≡ self.loops + loops) }
+    {
+        Some(Counts {
+            nodes: self.nodes.checked_add(nodes)?,
+            variables: self.variables.checked_add(variables)?,
+            loops: self.loops.checked_add(loops)?,
+        })
+    }
 }
 
 fn for_loops(kind: &LoopKind) -> u64
@@ -46,23 +48,23 @@ fn with_statement(before: Counts, s: &Stmt) -> Option<Counts>
     ensures variables { IfSome result (λ sum. sum.variables ≡ before.variables + spec.variables_of s.now) }
     ensures loops { IfSome result (λ sum. sum.loops ≡ before.loops + spec.loops_of s.now) }
 {
-    let counts = plus(before, 1, 0, 0)?;
+    let counts = before.plus(1, 0, 0)?;
     match s {
         Stmt::Block { decls, body, .. } => {
             let declared = decls.len() as u64;
-            with_statements(plus(counts, declared, declared, 0)?, body.as_slice())
+            with_statements(counts.plus(declared, declared, 0)?, body.as_slice())
         }
         Stmt::If(arms, other) | Stmt::Cases(arms, other) => {
             let counts = with_arms(counts, arms.as_slice())?;
             match other {
                 None => Some(counts),
-                Some(body) => with_statements(plus(counts, 1, 0, 0)?, body.as_slice()),
+                Some(body) => with_statements(counts.plus(1, 0, 0)?, body.as_slice()),
             }
         }
         Stmt::Loop { kind, body, .. } => {
-            with_statements(plus(counts, 0, 0, for_loops(kind))?, body.as_slice())
+            with_statements(counts.plus(0, 0, for_loops(kind))?, body.as_slice())
         }
-        Stmt::Into { targets, .. } => plus(counts, targets.len() as u64, 0, 0),
+        Stmt::Into { targets, .. } => counts.plus(targets.len() as u64, 0, 0),
         Stmt::Assign(_, _, _)
         | Stmt::Exit(_, _)
         | Stmt::Continue(_, _)
@@ -95,7 +97,7 @@ fn with_arms(before: Counts, list: &[Arm]) -> Option<Counts>
 {
     let mut counts = before;
     for i in 0..list.len() {
-        let arm = plus(counts, 1, 0, 0)?;
+        let arm = counts.plus(1, 0, 0)?;
         counts = with_statements(arm, list[i].body.as_slice())?;
     }
     Some(counts)

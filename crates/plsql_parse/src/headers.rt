@@ -26,16 +26,18 @@ pub struct Header {
     pub result: Ty,
 }
 
-/// The function of a header and a body.
-pub fn around(header: Header, inside: Boxed<Stmt>) -> Function
-    ensures { result ≡ spec.around header inside }
-{
-    Function {
-        name: header.name,
-        strict: header.strict,
-        params: header.params,
-        result: header.result,
-        body: inside.into_inner(),
+impl Header {
+    /// The function with this body.
+    pub fn around(self, inside: Boxed<Stmt>) -> Function
+        ensures { result ≡ spec.around self inside }
+    {
+        Function {
+            name: self.name,
+            strict: self.strict,
+            params: self.params,
+            result: self.result,
+            body: inside.into_inner(),
+        }
     }
 }
 

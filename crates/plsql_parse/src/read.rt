@@ -12,7 +12,7 @@ ghost use Rattle.plsql_parse.specs.Refusals.{HasFewTokens, KeepsLimits, MayBeRea
 
 use crate::bodies::body_of;
 use crate::counts::counts_of;
-use crate::headers::{Header, around, header_of};
+use crate::headers::{Header, header_of};
 use crate::outside::outside_word;
 use away_core::{Function, Stmt};
 use away_lex::{
@@ -142,7 +142,7 @@ fn function_around(
     ensures { PartRead (function inside) (all_say (map seen outer.now)) result }
 {
     match whole_header(alloc, outer) {
-        Ok(header) => Ok(around(header, inside)),
+        Ok(header) => Ok(header.around(inside)),
         Err(refusal) => Err(refusal),
     }
 }

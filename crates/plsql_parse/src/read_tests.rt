@@ -3,6 +3,7 @@
 use crate::read::read_function;
 use away_core::Function;
 use away_lex::{LimitKind, ReadRefusal};
+use sqlite_items::Boxed;
 use std::alloc::{AllocError, Global};
 use std::test::Fail;
 
@@ -45,9 +46,14 @@ $function$
 /// The name, the strictness and the parameters of the function that a text reads as, or what it is refused for.
 fn answer(alloc: Global, text: &str) -> Result<String, AllocError> {
     match read_function(alloc, text.as_bytes()) {
-        Ok(f) => signature(alloc, &f),
-        Err(refusal) => code(alloc, &refusal),
+        Ok(f) => shown(alloc, f),
+        Err(refusal) => code(alloc, refusal),
     }
+}
+
+fn shown(alloc: Global, f: Function) -> Result<String, AllocError> {
+    let f = Boxed::new(alloc, f)?;
+    signature(alloc, f.get())
 }
 
 fn signature(alloc: Global, f: &Function) -> Result<String, AllocError> {
@@ -61,7 +67,7 @@ fn signature(alloc: Global, f: &Function) -> Result<String, AllocError> {
     Ok(text)
 }
 
-fn code(alloc: Global, refusal: &ReadRefusal) -> Result<String, AllocError> {
+fn code(alloc: Global, refusal: ReadRefusal) -> Result<String, AllocError> {
     match refusal {
         ReadRefusal::NotText => String::from_str(alloc, "X1"),
         ReadRefusal::Token { offset } => format!(in alloc; "X2 {offset}"),

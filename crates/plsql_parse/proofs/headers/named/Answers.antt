@@ -3,8 +3,11 @@ use Rattle.std.specs.Prelude.{codes}
 use Rattle.std.proofs.lemmas.Result.{err_from_is_err_and}
 use Rattle.away_core.specs.FunctionGrammar.{may_stand}
 use Rattle.sql_text.specs.Next.{type_in}
+use Rattle.sql_text.specs.Plans.{done}
+use Rattle.plsql_parse.specs.Headers.{function_with}
+use Rattle.plsql_parse.proofs.BodySteps.{eat_by}
 use Rattle.sql_text.proofs.Steps.{finished, read_on, read_no, wanted, not_wanted, failed}
-use Rattle.plsql_parse.proofs.Words.{word_eaten, word_refused, eaten_or_left, then_on, else_on}
+use Rattle.plsql_parse.proofs.Words.{word_eaten, word_refused, then_on, else_on}
 use Rattle.away_core.specs.declared.grammar.Mark.TheVariants as m
 use Rattle.plsql_parse.proofs.headers.named.Goals as goal
 
@@ -32,4 +35,4 @@ pub returns-then-not-may_stand-clause-found : goal.returns-then-not-may_stand-cl
 returns-then-not-may_stand-clause-found c = λ inside. read_on c.in_ok-params.ensures.found (word_eaten (codes "returns") c.in_ok-expect_word.ensures.found (wanted type_in _ c.in_ok-result.ensures.found c.in_ok-result.ensures.rest (read_on c.in_ok-found.ensures.found (else_on _ (ap may_stand (sym c.as_slice.ensures) ∙ sym c.if-not-may_stand.ensures) (failed)))))
 
 pub returns-clause-found : goal.returns-clause-found
-returns-clause-found c = rw (c.makes_strict-strict.ensures, c.as_slice-2.ensures) (λ inside. read_on c.in_ok-params.ensures.found (word_eaten (codes "returns") c.in_ok-expect_word.ensures.found (wanted type_in _ c.in_ok-result.ensures.found c.in_ok-result.ensures.rest (read_on c.in_ok-found.ensures.found (then_on _ (ap may_stand (sym c.as_slice.ensures) ∙ sym c.if-not-may_stand.ensures) (eaten_or_left m.Semicolon c.eat.result c.eat.ensures.yes c.eat.ensures.no (finished refl)))))))
+returns-clause-found c = rw (c.makes_strict-strict.ensures, c.as_slice-2.ensures) (λ inside. read_on c.in_ok-params.ensures.found (word_eaten (codes "returns") c.in_ok-expect_word.ensures.found (wanted type_in _ c.in_ok-result.ensures.found c.in_ok-result.ensures.rest (read_on c.in_ok-found.ensures.found (then_on _ (ap may_stand (sym c.as_slice.ensures) ∙ sym c.if-not-may_stand.ensures) (eat_by m.Semicolon (λ w. done (function_with inside c.args.name c.in_ok-params.params c.in_ok-result.result c.in_ok-found.found)) c.eat.result c.eat.ensures.yes c.eat.ensures.no (finished refl)))))))
