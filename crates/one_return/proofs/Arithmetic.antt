@@ -1,7 +1,6 @@
 -- Whether an expression is of integers, names, sums, differences and products, by its parts.
-use Rattle.std.proofs.Common.{◌≡◌, refl, ap, ◌∙◌, ℕ, ℤ, pos, negsuc, Bool, true, false, ◌&&◌, List, [], ◌∷◌, map, Option}
+use Rattle.std.proofs.Common.{◌≡◌, refl, ℕ, pos, negsuc, Bool, true, false, ◌&&◌, List, map, Option}
 use Rattle.away_core.specs.declared.types.Ty.{Ty}
-use Rattle.away_core.specs.declared.grammar.Level.{Level}
 use Rattle.away_core.specs.declared.operators.ChainOp.{ChainOp}
 use Rattle.away_core.specs.declared.operators.CmpOp.{CmpOp}
 use Rattle.away_core.specs.declared.operators.IsTest.{IsTest}
@@ -10,7 +9,7 @@ use Rattle.away_core.specs.declared.queries.Query.{Query}
 use Rattle.away_core.specs.declared.queries.Expr.{Expr}
 use Rattle.away_core.specs.declared.queries.Expr.TheVariants as expr
 use Rattle.away_core.proofs.Equations as eq
-use Rattle.one_return.specs.Form.{arithmetic_only, arithmetic, judged, are_of_one_level, are_links, joins}
+use Rattle.one_return.specs.Form.{arithmetic_only, arithmetic, judged, are_of_one_level}
 
 pub of_natural : (n : ℕ) → arithmetic (expr.Int (pos n)) ≡ true
 unfolding arithmetic

@@ -1,7 +1,6 @@
 -- The steps of placing an expression in its query.
-use Rattle.std.proofs.Common.{◌≡◌, refl, sym, ap, ◌∙◌, subst, ◌<◌, ◌&&◌, ◌||◌, ◌++◌, ◌∷◌, [], ℕ, Bool, true, false, List, map, length, None, Result, Ok, Err, IfOk, arith}
+use Rattle.std.proofs.Common.{◌≡◌, refl, sym, ap, ◌∙◌, subst, ◌<◌, ◌&&◌, ◌++◌, ◌∷◌, [], ℕ, Bool, true, false, List, map, length, Result, Ok, Err, IfOk, arith}
 use Rattle.away_core.specs.declared.grammar.Level.{Level}
-use Rattle.away_core.specs.declared.grammar.Level.TheVariants as l
 use Rattle.away_core.specs.declared.operators.ChainOp.{ChainOp}
 use Rattle.away_core.specs.declared.queries.Expr.{Expr}
 use Rattle.away_core.specs.declared.queries.Expr.TheVariants as expr
@@ -66,7 +65,7 @@ unknown_by_first variables v e links is h = subst (IsUnknown variables) (sym is)
 
 pub unknown_by_link : (variables : List (List ℕ)) (v e : Expr) (links : List (ChainOp × Expr)) → v ≡ expr.Chain e links → HasUnknown variables links → IsUnknown variables v
 unknown_by_link variables v e links is h =
-    subst (IsUnknown variables) (sym is ) (subst (λ ls. IsUnknown variables (expr.Chain e ls)) (sym h.parts) (λ schema. chain_unknown_link schema variables e h.front h.op h.operand h.more (h.unknown schema)))
+    subst (IsUnknown variables) (sym is) (subst (λ ls. IsUnknown variables (expr.Chain e ls)) (sym h.parts) (λ schema. chain_unknown_link schema variables e h.front h.op h.operand h.more (h.unknown schema)))
 
 -- ---- the whole
 

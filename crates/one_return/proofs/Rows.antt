@@ -4,7 +4,7 @@ use Rattle.away_core.specs.declared.grammar.Level.{Level}
 use Rattle.away_core.specs.declared.operators.ChainOp.{ChainOp}
 use Rattle.away_core.specs.declared.queries.Expr.{Expr}
 use Rattle.one_return.specs.Form.{joins}
-use Rattle.one_return.specs.Places.{Part, value, links, Tree, Places, last, another}
+use Rattle.one_return.specs.Places.{value, links, Places, last, another}
 use Rattle.one_return.specs.Placing.{LinksStandAs, StandsAs}
 
 -- the links so far, of which there may be none

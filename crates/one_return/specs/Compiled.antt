@@ -1,6 +1,5 @@
 -- What a function answers whose body is one RETURN, and that a text is a query with the same answers.
-use Rattle.std.specs.Prelude.{◌≡◌, ◌<◌, ◌^◌, ℕ, false, List, [], ◌∷◌, length, map, Some, None}
-use Rattle.away_core.specs.declared.types.Ty.{Ty}
+use Rattle.std.specs.Prelude.{◌≡◌, ℕ, false, List, map, Some}
 use Rattle.away_core.specs.declared.queries.Expr.{Expr}
 use Rattle.away_core.specs.declared.queries.Query.{Query}
 use Rattle.away_core.specs.declared.schemas.Schema.{Schema}

@@ -1,6 +1,6 @@
 -- The functions that are compiled: `BEGIN RETURN e; END` over parameters of type bigint, e being integers below 2^63, names, and sums, differences and
 -- products of these.
-use Rattle.std.specs.Prelude.{◌≡◌, ◌≤◌, ℕ, pos, negsuc, Bool, true, false, not, ◌&&◌, ◌||◌, List, [], ◌∷◌, length, map, None, bytes_eq, nat_eq, codes}
+use Rattle.std.specs.Prelude.{◌≡◌, ◌≤◌, ℕ, pos, Bool, true, false, not, ◌&&◌, ◌||◌, List, [], ◌∷◌, length, map, None, bytes_eq, nat_eq, codes}
 use Rattle.std.specs.List.{list_any, starts_with}
 use Rattle.away_core.specs.declared.types.Ty.{Ty}
 use Rattle.away_core.specs.declared.types.Ty.TheVariants as ty

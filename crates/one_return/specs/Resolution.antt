@@ -1,6 +1,6 @@
 -- A tree with what its names stand for in their place: columns by select, item and place, variables by slot, and tables by their places. There is none
 -- where a name isn't known. (PostgreSQL manual, Column References; FROM clause; LATERAL Subqueries; WITH Queries.)
-use Rattle.std.specs.Prelude.{ℕ, Bool, true, false, if◌then◌else◌, List, [], ◌∷◌, ◌++◌, map, Option, Some, None, decimal}
+use Rattle.std.specs.Prelude.{ℕ, if◌then◌else◌, List, [], ◌∷◌, ◌++◌, map, Option, Some, None, decimal}
 use Rattle.away_core.specs.declared.operators.ChainOp.{ChainOp}
 use Rattle.away_core.specs.declared.queries.Expr.{Expr}
 use Rattle.away_core.specs.declared.queries.Expr.TheVariants as expr

@@ -1,5 +1,5 @@
 -- What the names at a place stand for: the variables of a function, the columns of the FROM items of the enclosing selects, and the tables.
-use Rattle.std.specs.Prelude.{ℕ, suc, ◌+◌, nat_lt, Bool, true, false, if◌then◌else◌, List, [], ◌∷◌, map, length, Option, Some, None, option_map, bytes_eq}
+use Rattle.std.specs.Prelude.{ℕ, suc, nat_lt, Bool, false, if◌then◌else◌, List, [], ◌∷◌, map, length, Option, Some, None, option_map, bytes_eq}
 use Rattle.away_core.specs.declared.queries.Col.{Col}
 use Rattle.away_core.specs.declared.queries.Expr.{Expr}
 use Rattle.away_core.specs.declared.queries.Expr.TheVariants as expr

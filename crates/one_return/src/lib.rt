@@ -3,9 +3,9 @@
 
 mod compiler;
 mod form;
+mod laws;
 mod names;
 mod placing;
-mod laws;
 mod refusal;
 mod template;
 mod trees;

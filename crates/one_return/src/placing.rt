@@ -101,11 +101,7 @@ fn literal_of(alloc: Global, value: i64) -> Result<Boxed<Expr>, CompileError>
 }
 
 /// The working table's column of a parameter.
-fn reference(
-    alloc: Global,
-    params: &[(Name, Ty)],
-    name: &Name,
-) -> Result<Boxed<Expr>, CompileError>
+fn reference(alloc: Global, params: &[(Name, Ty)], name: &Name) -> Result<Boxed<Expr>, CompileError>
     ensures ok { IfOk result (λ x. StandsAs (names_in params.now) (expr.Named name.now) x) }
     ensures err { IfErr result (Unplaced (IsUnknown (names_in params.now) (expr.Named name.now))) }
 {

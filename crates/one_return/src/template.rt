@@ -170,11 +170,7 @@ fn finished(alloc: Global, params: &[(Name, Ty)]) -> Result<Items<Item>, NoMemor
 }
 
 /// Adds NULL of each parameter's type.
-fn add_nulls(
-    alloc: Global,
-    list: &mut Items<Item>,
-    params: &[(Name, Ty)],
-) -> Result<(), NoMemory>
+fn add_nulls(alloc: Global, list: &mut Items<Item>, params: &[(Name, Ty)]) -> Result<(), NoMemory>
     ensures { OnOk result (list.new ≡ list.old ++ map tree.item (map tree.null_of (types_of params.now))) }
 {
     for param in params {

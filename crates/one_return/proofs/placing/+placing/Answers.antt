@@ -1,10 +1,10 @@
-use Rattle.std.proofs.Common.{rules, ◌≡◌, ◌<◌, ◌+◌, ◌++◌, ◌∷◌, ◌∙◌, [], ℕ, List, true, sym, subst, ap, map, take, drop, length, w64, to_z, of_z, arith}
+use Rattle.std.proofs.Common.{rules, ◌≡◌, ◌+◌, ◌++◌, ◌∷◌, ◌∙◌, [], ℕ, List, true, sym, subst, ap, map, take, drop, w64, to_z, of_z, arith}
 use Rattle.std.proofs.lemmas.Grind.{common_steps}
 use Rattle.std.proofs.lemmas.Result.{err_from_is_err_and}
 use Rattle.away_core.specs.declared.queries.Expr.{the_lemmas}
 use Rattle.away_core.specs.declared.queries.Expr.TheVariants as expr
-use Rattle.one_return.specs.Form.{arithmetic, are_links, are_of_one_level, judged, names_in}
-use Rattle.one_return.specs.Placing.{StandsAs, LinksStandAs, IsUnknown, HasUnknown, Unplaced}
+use Rattle.one_return.specs.Form.{arithmetic, are_of_one_level, judged, names_in}
+use Rattle.one_return.specs.Placing.{StandsAs, LinksStandAs, IsUnknown, HasUnknown}
 use Rattle.one_return.proofs.PlacingSteps.{first_is_of_form, links_are_of_form, link_is_of_form, unplaced_by, unknown_by_first, unknown_by_link, chain_stands, has_unknown, ok_by}
 use Rattle.one_return.proofs.Rows.{Row, none, row_more, row_whole}
 use Rattle.one_return.proofs.placing.+placing.Goals as goal
@@ -16,8 +16,8 @@ pub placed-returns-in_err-first-in-Chain-clause-err : goal.placed-returns-in_err
 placed-returns-in_err-first-in-Chain-clause-err t c =
     let p = err_from_is_err_and c.from_residual.result c.from_residual.ensures.1 in
     rw (p.1, p.2) (unplaced_by (IsUnknown (names_in c.args.params.now) c.get.result.now) (IsUnknown (names_in c.args.params.now) c.args.value.now)
-        (λ h. unknown_by_first (names_in c.args.params.now) c.args.value.now c.in-Chain.first c.in-Chain.links c.in-Chain.is (subst (IsUnknown (names_in c.args.params.now)) c.get.ensures h))
-        c.in_err-first-in-Chain.field-0.0 c.in_err-first-in-Chain.ensures.err)
+    (λ h. unknown_by_first (names_in c.args.params.now) c.args.value.now c.in-Chain.first c.in-Chain.links c.in-Chain.is (subst (IsUnknown (names_in c.args.params.now)) c.get.ensures h))
+    c.in_err-first-in-Chain.field-0.0 c.in_err-first-in-Chain.ensures.err)
 
 pub placed-level_of-level-requires : goal.placed-level_of-level-requires
 placed-level_of-level-requires t c =
@@ -27,8 +27,8 @@ pub placed-returns-in_err-links-in-Chain-clause-err : goal.placed-returns-in_err
 placed-returns-in_err-links-in-Chain-clause-err t c =
     let p = err_from_is_err_and c.from_residual-in_err-links-in-Chain.result c.from_residual-in_err-links-in-Chain.ensures.1 in
     rw (p.1, p.2) (unplaced_by (HasUnknown (names_in c.args.params.now) c.as_slice-in-Chain.result.now) (IsUnknown (names_in c.args.params.now) c.args.value.now)
-        (λ h. unknown_by_link (names_in c.args.params.now) c.args.value.now c.in-Chain.first c.in-Chain.links c.in-Chain.is (subst (HasUnknown (names_in c.args.params.now)) c.as_slice-in-Chain.ensures h))
-        c.in_err-links-in-Chain.field-0.0 c.in_err-links-in-Chain.ensures.err)
+    (λ h. unknown_by_link (names_in c.args.params.now) c.args.value.now c.in-Chain.first c.in-Chain.links c.in-Chain.is (subst (HasUnknown (names_in c.args.params.now)) c.as_slice-in-Chain.ensures h))
+    c.in_err-links-in-Chain.field-0.0 c.in_err-links-in-Chain.ensures.err)
 
 pub placed-returns-in-Int-clause-ok : goal.placed-returns-in-Int-clause-ok
 placed-returns-in-Int-clause-ok t c =
@@ -36,7 +36,7 @@ placed-returns-in-Int-clause-ok t c =
     let n = to_z w64 (of_z w64 c.in-Int.literal) in
     let same : n ≡ c.in-Int.literal = first_of (search rules, grind (arith, common_steps)) in
     ok_by c.literal_of.result (λ x. (names : List (List ℕ)) → StandsAs names (expr.Int n) x) (StandsAs variables c.args.value.now)
-        (λ x h. subst (λ e. StandsAs variables e x) (ap expr.Int same ∙ sym c.in-Int.is) (h variables)) c.literal_of.ensures.ok
+    (λ x h. subst (λ e. StandsAs variables e x) (ap expr.Int same ∙ sym c.in-Int.is) (h variables)) c.literal_of.ensures.ok
 
 pub placed-returns-in-Named-clause-err : goal.placed-returns-in-Named-clause-err
 placed-returns-in-Named-clause-err t c = rw c.in-Named.is c.reference.ensures.err
@@ -48,7 +48,7 @@ placed-returns-in_ok-new-in-Chain-clause-ok t c =
     let first : StandsAs variables c.in-Chain.first c.in_ok-first-in-Chain.first = subst (λ e. StandsAs variables e c.in_ok-first-in-Chain.first) c.get.ensures c.in_ok-first-in-Chain.ensures.ok in
     let rest : LinksStandAs variables level c.in-Chain.links c.in_ok-links-in-Chain.links = subst (λ ls. LinksStandAs variables level ls c.in_ok-links-in-Chain.links) c.as_slice-in-Chain.ensures c.in_ok-links-in-Chain.ensures.ok in
     subst (StandsAs variables c.args.value.now) (sym c.in_ok-new-in-Chain.ensures)
-        (chain_stands variables level c.args.value.now c.in-Chain.first c.in_ok-first-in-Chain.first c.in-Chain.links c.in_ok-links-in-Chain.links c.in-Chain.is first rest)
+    (chain_stands variables level c.args.value.now c.in-Chain.first c.in_ok-first-in-Chain.first c.in-Chain.links c.in_ok-links-in-Chain.links c.in-Chain.is first rest)
 
 pub placed_links-loop-link-init : goal.placed_links-loop-link-init
 placed_links-loop-link-init t c = (c.requires.fit, subst (Row (names_in c.args.params.now) c.args.level []) (sym c.new-all.ensures) none)
@@ -61,7 +61,7 @@ placed_links-returns-in_err-operand-clause-err t c =
     let whole : ls ≡ take i ls ++ (c.link-item.result ∷ drop (i + 1) ls) = grind (arith, common_steps) in
     let p = err_from_is_err_and c.from_residual.result c.from_residual.ensures.1 in
     rw (p.1, p.2) (unplaced_by (IsUnknown variables c.link-item.result.1) (HasUnknown variables ls)
-        (λ h. has_unknown variables ls (take i ls) c.link-item.result (drop (i + 1) ls) whole h) c.in_err-operand.field-0.0 c.in_err-operand.ensures.err)
+    (λ h. has_unknown variables ls (take i ls) c.link-item.result (drop (i + 1) ls) whole h) c.in_err-operand.field-0.0 c.in_err-operand.ensures.err)
 
 pub placed_links-loop-link-preserved : goal.placed_links-loop-link-preserved
 placed_links-loop-link-preserved t c =

@@ -1,7 +1,5 @@
-use Rattle.std.proofs.Common.{rules, ◌≡◌, ◌+◌, ◌++◌, ◌∷◌, ◌∙◌, [], ap, sym, map, take, length, arith}
+use Rattle.std.proofs.Common.{rules, ◌≡◌, ◌+◌, ◌++◌, ◌∷◌, [], ap, take, length, arith}
 use Rattle.std.proofs.lemmas.Grind.{common_steps}
-use Rattle.away_core.specs.declared.queries.Expr.TheVariants as expr
-use Rattle.sql_meaning.specs.Trees.{item}
 use Rattle.one_return.proofs.Lists.{one_more_item}
 use Rattle.one_return.proofs.template.add_arguments.Goals as goal
 

@@ -1,4 +1,4 @@
-use Rattle.std.proofs.Common.{◌≡◌, ◌++◌, map, length, take}
+use Rattle.std.proofs.Common.{◌≡◌, ◌++◌, map, take}
 use Rattle.sql_meaning.specs.Template.{arguments}
 use Rattle.sql_meaning.specs.Trees.{item}
 use Rattle.one_return.specs.Form.{types_of}

@@ -1,4 +1,4 @@
-use Rattle.std.proofs.Common.{◌≡◌, ◌≤◌, ◌++◌, map, length, take}
+use Rattle.std.proofs.Common.{◌≡◌, ◌++◌, map, take}
 use Rattle.sql_meaning.specs.Trees.{item, null_of}
 use Rattle.one_return.specs.Form.{types_of}
 use Rattle.one_return.proofs.template.add_nulls.Given as goal
