@@ -1,7 +1,7 @@
 -- Signs that are added one after the other, and what a loop over a list adds.
 use Rattle.std.proofs.Common.{◌≡◌, ◌≤◌, ◌<◌, ℕ, zero, suc, ◌+◌, Bool, true, false, if◌then◌else◌, nat_lt, List, [], ◌∷◌, ◌++◌, length, drop, get_or, map, Result, Ok, Err, refl, sym, ap, ◌∙◌, subst, append_assoc, append-nil, arith}
 use Rattle.std.proofs.lemmas.Bool.Decides.{nat_tests}
-use Rattle.std.proofs.lemmas.List.{drop_all, drop_more, length-map}
+use Rattle.std.proofs.lemmas.List.{drop_all, length-map}
 use Rattle.away_core.specs.declared.errors.NoMemory.{NoMemory}
 use Rattle.away_core.specs.declared.grammar.Mark.TheVariants as m
 use Rattle.away_core.specs.Signs.{Sign, mark}
@@ -18,12 +18,6 @@ then_on {r = Err e} h k = record { all = tt }
 -- the same signs
 pub as_signs : {s t a c : List Sign} {r : Result (Unit {0}) NoMemory} → s ≡ t → Adds s a r c → Adds t a r c
 as_signs {a = a} {c = c} {r = r} e h = subst (λ s. Adds s a r c) e h
-
-pub no_memory : {s a c : List Sign} {e : NoMemory} → Adds s a (Err e) c
-no_memory = record { all = tt }
-
-pub nothing_on : {a : List Sign} {u : Unit {0}} → Adds [] a (Ok u) a
-nothing_on {a = a} = record { all = sym (append-nil a) }
 
 -- ---- loops
 
@@ -124,14 +118,3 @@ union_on f xs i x is lt h k g j =
 pub unions_end : {A : Type 0} (f : A → List Sign) (xs : List A) (i : ℕ) {before now : List Sign} {u : Unit {0}} → length xs ≤ i
     → UnionsLead f xs before i now → Adds (selects_signs (map f xs)) before (Ok u) now
 unions_end f xs i le h = ends (turned (none_left union f xs i le) h)
-
--- ---- lists without signs between
-
--- what is left of a list, one element further
-pub rest_on : {A : Type 0} (F : List A → List Sign) (xs : List A) (i : ℕ) (x : A) {all before now : List Sign} → x ≡ get_or xs i x → i < length xs
-    → Leads all before (F (drop i xs)) now → Leads all before (F (x ∷ drop (i + 1) xs)) now
-rest_on F xs i x is lt h = turned (ap F (drop_more xs i x lt ∙ ap (λ y. y ∷ drop (i + 1) xs) (sym is))) h
-
-pub rest_ends : {A : Type 0} (F : List A → List Sign) (xs : List A) (i : ℕ) {all before now : List Sign} → length xs ≤ i
-    → Leads all before (F (drop i xs)) now → Leads all before (F []) now
-rest_ends F xs i le h = turned (ap F (drop_all i xs le)) h

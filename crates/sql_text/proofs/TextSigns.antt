@@ -1,13 +1,13 @@
 -- What the tokens of a text say is spoken.
-use Rattle.std.proofs.Common.{◌≡◌, ◌≤◌, ◌<◌, ◌^◌, ◌+◌, ℕ, suc, Bool, true, false, ◌||◌, ◌==◌, eqb, if◌then◌else◌, List, [], ◌∷◌, ◌++◌, length, take, drop, get_or, map, Option, Some, None, inl, inr, refl, sym, ap, ◌∙◌, subst, arith, append_assoc, append-nil, bytes_eq, chars}
-use Rattle.std.specs.Prelude.{IsUtf8, encode_utf8_all}
+use Rattle.std.proofs.Common.{◌≡◌, ◌<◌, ◌+◌, ℕ, suc, Bool, true, false, ◌||◌, ◌==◌, if◌then◌else◌, List, [], ◌∷◌, ◌++◌, length, drop, get_or, map, Option, Some, None, inl, inr, refl, sym, ap, ◌∙◌, subst, arith, append_assoc, bytes_eq, chars}
+use Rattle.std.specs.Prelude.{IsUtf8}
 use Rattle.std.specs.List.{list_all, list_any}
 use Rattle.std.specs.Char.{to_ascii_lowercase}
 use Rattle.std.specs.Str.{str_eq_ignore_ascii_case}
 use Rattle.std.proofs.lemmas.Bool.{cases_Bool}
 use Rattle.std.proofs.lemmas.Bool.Decides.{nat_tests}
 use Rattle.std.proofs.lemmas.List.{length-append, length-map}
-use Rattle.std.proofs.lemmas.Str.{IsUtf8-append, IsUtf8-drop, IsUtf8-take, IsUtf8-from_is_utf8, IsCharBoundary-after_ascii, IsCharBoundary-before_ascii, encode_ascii, encodes-chars, scalars-chars}
+use Rattle.std.proofs.lemmas.Str.{IsUtf8-append, IsUtf8-drop, IsUtf8-take, IsCharBoundary-after_ascii, IsCharBoundary-before_ascii, encode_ascii, encodes-chars, scalars-chars}
 use Rattle.std.proofs.Math.Seq.{take-append_seam}
 use Rattle.away_core.specs.declared.grammar.Mark.{Mark}
 use Rattle.away_core.specs.declared.tokens.TokenKind.{TokenKind}
@@ -15,7 +15,7 @@ use Rattle.away_core.specs.declared.tokens.TokenKind.TheVariants.{Word, Integer,
 use Rattle.away_core.specs.Words.{IsWord}
 use Rattle.away_core.specs.Spellings.{byte, is_start, goes_on, IsNameText, IsString, Spells, doubled, number, symbols}
 use Rattle.away_core.specs.Reserved.{folded, is_reserved, reserved}
-use Rattle.away_core.specs.Signs.{mark, name, string, quote, Entry, reserved_words, spelled_symbols, first_mark, word_mark, symbol_mark, mark_or, says_by, all_say, undoubled, between_quotes}
+use Rattle.away_core.specs.Signs.{name, string, quote, Entry, reserved_words, spelled_symbols, first_mark, word_mark, symbol_mark, mark_or, says_by, all_say, undoubled, between_quotes}
 use Rattle.away_core.specs.Tokens.{Lexeme, Lexes, ends, skips, token, stops}
 use Rattle.away_lex.proofs.Runs.{and_left, and_right}
 use Rattle.sql_text.specs.Spoken.{Spoken, AllSpoken}

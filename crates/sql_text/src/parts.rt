@@ -14,6 +14,7 @@ use crate::operators::{test_mark, type_name};
 use crate::pieces::Pieces;
 use away_core::{IsTest, Mark, Name, NoMemory, Source, Ty};
 
+/// Adds AS and a name.
 pub fn add_alias<'a>(pieces: &mut Pieces<'a>, alias: &'a Name) -> Result<(), NoMemory>
     ensures { Adds (sign.mark m.As ∷ sign.name alias.now ∷ []) pieces.old result pieces.new }
 {
@@ -53,6 +54,7 @@ pub fn add_columns<'a>(pieces: &mut Pieces<'a>, columns: &'a [Name]) -> Result<(
     pieces.mark(Mark::Close)
 }
 
+/// Adds names with commas between them.
 pub fn add_names<'a>(pieces: &mut Pieces<'a>, names: &'a [Name]) -> Result<(), NoMemory>
     ensures { Adds (spec.names_signs names.now) pieces.old result pieces.new }
 {
@@ -75,6 +77,7 @@ pub fn add_integer(pieces: &mut Pieces<'_>, number: i64) -> Result<(), NoMemory>
     }
 }
 
+/// Adds a column by an alias and its name.
 pub fn add_dotted<'a>(
     pieces: &mut Pieces<'a>,
     alias: &'a Name,
@@ -87,6 +90,7 @@ pub fn add_dotted<'a>(
     pieces.name(name)
 }
 
+/// Adds the cast of a parameter to its type.
 pub fn add_parameter(pieces: &mut Pieces<'_>, number: u32, ty: Ty) -> Result<(), NoMemory>
     ensures { Adds (printed (e.Param number ty)).signs pieces.old result pieces.new }
 {
@@ -147,6 +151,7 @@ fn function_mark(name: &Name) -> Option<Mark>
     }
 }
 
+/// Adds the call that counts rows.
 pub fn add_count(pieces: &mut Pieces<'_>) -> Result<(), NoMemory>
     ensures { Adds (printed e.CountRows).signs pieces.old result pieces.new }
 {
