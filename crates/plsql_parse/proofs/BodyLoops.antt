@@ -1,5 +1,5 @@
 -- What a loop of the reader of bodies has read so far, and what is left of its plan.
-use Rattle.std.proofs.Common.{◌≡◌, true, false, List, [], ◌∷◌, ◌++◌, ◌⊎◌, inl, inr, Option, Some, None, Result, Ok, Err, refl, sym, ap, subst, append_assoc, append-nil}
+use Rattle.std.proofs.Common.{◌≡◌, true, false, List, [], ◌∷◌, ◌++◌, ◌⊎◌, inl, inr, Option, Some, None, Ok, Err, refl, sym, ap, subst, append_assoc, append-nil}
 use Rattle.away_core.specs.declared.grammar.Mark.TheVariants as m
 use Rattle.away_core.specs.declared.statements.Arm.{Arm}
 use Rattle.away_core.specs.declared.statements.Decl.{Decl}
@@ -7,7 +7,7 @@ use Rattle.away_core.specs.declared.statements.Stmt.{Stmt}
 use Rattle.away_core.specs.Signs.{Sign, mark}
 use Rattle.away_core.specs.FunctionGrammar.{decl, decls, statement, statements, branch, elsifs, whens}
 use Rattle.sql_text.specs.declared.refusal.Refusal.{Refusal}
-use Rattle.sql_text.specs.Plans.{done, eat, read, Begins, Runs, ends, eats, leaves, sees, misses, reads, breaks, Gives, tree, no_tree, no_memory}
+use Rattle.sql_text.specs.Plans.{done, eat, read, Begins, ends, eats, leaves, sees, misses, reads, breaks, tree, no_tree, no_memory}
 use Rattle.sql_text.proofs.Steps.{run_of}
 use Rattle.sql_text.proofs.Loops.{behind}
 use Rattle.plsql_parse.specs.Sorts.{part, is_name}

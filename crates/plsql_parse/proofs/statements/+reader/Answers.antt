@@ -1,4 +1,4 @@
-use Rattle.std.proofs.Common.{rules, ◌≤◌, ◌∷◌, sym, refl, arith}
+use Rattle.std.proofs.Common.{rules, ◌∷◌, sym, refl, arith}
 use Rattle.std.proofs.lemmas.Grind.{common_steps}
 use Rattle.std.proofs.lemmas.Result.{err_from_is_err_and}
 use Rattle.away_core.specs.declared.grammar.Mark.TheVariants as m
@@ -6,7 +6,7 @@ use Rattle.away_core.specs.declared.statements.Stmt.TheVariants as s
 use Rattle.away_core.specs.FunctionGrammar.{elsifs, whens}
 use Rattle.sql_text.specs.Next.{name_in}
 use Rattle.sql_text.specs.Plans.{done, no_memory}
-use Rattle.sql_text.proofs.Steps.{finished, eaten, left, read_on, read_no, taken, wanted, not_wanted, looked, overlooked, refused, failed, moved}
+use Rattle.sql_text.proofs.Steps.{finished, eaten, left, read_on, read_no, taken, wanted, not_wanted, looked, overlooked, refused, failed}
 use Rattle.plsql_parse.proofs.BodySteps.{maybe_named, begins_none, behind_arms, arms_on, arms_no}
 use Rattle.plsql_parse.proofs.BodyLoops.{statements_more, statements_end, statements_fail, elsifs_more, elsifs_end, elsifs_fail, whens_more, whens_end, whens_fail}
 use Rattle.plsql_parse.proofs.statements.+reader.Goals as goal
