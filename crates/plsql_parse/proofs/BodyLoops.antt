@@ -29,10 +29,6 @@ decls_on : {x : Decl} {ts : List Sign} (o : Option (List Decl × List Sign)) →
 decls_on None d = breaks d
 decls_on (Some p) d = reads d ends
 
-pub decls_begin : (old : List Sign) → DeclsLead old [] old
-decls_begin old None d = d
-decls_begin old (Some p) d = d
-
 pub decls_more : {old now new : List Sign} {x : Decl} (found : List Decl) → DeclsLead old found now → is_name now ≡ true → PartGives decl decl_plan now (Ok x) new → DeclsLead old (found ++ x ∷ []) new
 decls_more {old = old} {x = x} found lead h d o r = subst (λ o. PartRuns decls decls_plan old o) (behind_both found x o) (lead (behind (x ∷ []) o) (sees h (reads (run_of d) (decls_on o r))))
 
@@ -53,10 +49,6 @@ statements_on : {x : Stmt} {ts : List Sign} (o : Option (List Stmt × List Sign)
 statements_on None d = breaks d
 statements_on (Some p) d = reads d ends
 
-pub statements_begin : (old : List Sign) → StatementsLead old [] old
-statements_begin old None d = d
-statements_begin old (Some p) d = d
-
 pub statements_more : {old now new : List Sign} {x : Stmt} (found : List Stmt) → StatementsLead old found now → next closes now ≡ false → PartGives statement statement_plan now (Ok x) new → StatementsLead old (found ++ x ∷ []) new
 statements_more {old = old} {x = x} found lead h d o r = subst (λ o. PartRuns statements statements_plan old o) (behind_both found x o) (lead (behind (x ∷ []) o) (misses h (reads (run_of d) (statements_on o r))))
 
@@ -76,10 +68,6 @@ ElsifsLead old found now = (o : Option (List Arm × List Sign)) → PartRuns els
 elsifs_on : {a : Arm} {ts : List Sign} (o : Option (List Arm × List Sign)) → PartRuns elsifs elsifs_plan ts o → PartRuns elsifs (read (part elsifs) (λ more. done (a ∷ more))) ts (behind (a ∷ []) o)
 elsifs_on None d = breaks d
 elsifs_on (Some p) d = reads d ends
-
-pub elsifs_begin : (old : List Sign) → ElsifsLead old [] old
-elsifs_begin old None d = d
-elsifs_begin old (Some p) d = d
 
 elsifs_goes : {old now middle new : List Sign} {a : Arm} (found : List Arm) → ElsifsLead old found now → PartGives branch branch_plan now (Ok a) middle
     → ((o : Option (List Arm × List Sign)) → PartRuns elsifs elsif_plan new o → PartRuns elsifs elsifs_plan middle o) → ElsifsLead old (found ++ a ∷ []) new
@@ -115,10 +103,6 @@ WhensLead old found now = (o : Option (List Arm × List Sign)) → PartRuns when
 whens_on : {a : Arm} {ts : List Sign} (o : Option (List Arm × List Sign)) → PartRuns whens whens_plan ts o → PartRuns whens (read (part whens) (λ more. done (a ∷ more))) ts (behind (a ∷ []) o)
 whens_on None d = breaks d
 whens_on (Some p) d = reads d ends
-
-pub whens_begin : (old : List Sign) → WhensLead old [] old
-whens_begin old None d = d
-whens_begin old (Some p) d = d
 
 whens_goes : {old now middle new : List Sign} {a : Arm} (found : List Arm) → WhensLead old found now → PartGives branch branch_plan now (Ok a) middle
     → ((o : Option (List Arm × List Sign)) → PartRuns whens when_plan new o → PartRuns whens whens_plan middle o) → WhensLead old (found ++ a ∷ []) new

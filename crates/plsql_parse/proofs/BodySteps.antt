@@ -5,7 +5,7 @@ use Rattle.away_core.specs.declared.grammar.Mark.{Mark}
 use Rattle.away_core.specs.declared.grammar.Mark.TheVariants as m
 use Rattle.away_core.specs.declared.statements.Arm.{Arm}
 use Rattle.away_core.specs.declared.statements.Stmt.{Stmt}
-use Rattle.away_core.specs.Signs.{Sign, mark, name, integer, string, parameter, quote}
+use Rattle.away_core.specs.Signs.{Sign, mark}
 use Rattle.away_core.specs.FunctionGrammar.{Part, PartTree, statement, branch, otherwise, loop_opens}
 use Rattle.sql_text.specs.declared.refusal.Refusal.{Refusal}
 use Rattle.sql_text.specs.declared.refusal.Refusal.TheVariants.{NoTree}
@@ -15,9 +15,9 @@ use Rattle.sql_text.specs.Plans.{done, eat, read, expect, first, tail, Begins, r
 use Rattle.sql_text.proofs.Plans.{inside}
 use Rattle.sql_text.proofs.Steps.{finished, eaten, refused, left, read_on, taken, looked, overlooked, moved, perhaps_found, perhaps_missed, failed}
 use Rattle.plsql_parse.specs.Sorts.{AnyTree, part, PartPlan, maybe_name, eat_word, begins_word}
-use Rattle.plsql_parse.specs.Bodies.{next, marked_plan}
+use Rattle.plsql_parse.specs.Bodies.{marked_plan}
 use Rattle.plsql_parse.specs.Plans.{any_plan}
-use Rattle.plsql_parse.specs.Taken.{is_marked, is_loop, is_end, end_plan, ended_as}
+use Rattle.plsql_parse.specs.Taken.{is_loop, is_end, end_plan, ended_as}
 use Rattle.plsql_parse.proofs.Passing.{opens_past}
 
 -- what the plan of a part gives
@@ -26,17 +26,6 @@ PartGives p = Gives AnyTree any_plan (part p)
 
 some_same : {A : Type 0} {a b : A} → Some a ≡ Some b → a ≡ b
 some_same {a = a} e = ap (λ o. elim o [ None ↦ a | Some v ↦ v ]) e
-
--- ---- what stands next
-
-pub next_is : (test : Mark → Bool) (ts : List Sign) → is_marked test (first ts) ≡ next test ts
-next_is test [] = refl
-next_is test (mark sign ∷ ts) = refl
-next_is test (name n ∷ ts) = refl
-next_is test (integer n ∷ ts) = refl
-next_is test (string z ∷ ts) = refl
-next_is test (parameter i ∷ ts) = refl
-next_is test (quote z ∷ ts) = refl
 
 -- ---- by whether something was taken
 

@@ -1,5 +1,5 @@
 -- What the reader of bodies takes, and what it makes of it.
-use Rattle.std.specs.Prelude.{ℕ, Bool, true, false, List, Option, Some, Result, Ok, Err}
+use Rattle.std.specs.Prelude.{ℕ, Bool, true, false, List, Result, Ok, Err}
 use Rattle.away_core.specs.declared.grammar.Mark.{Mark}
 use Rattle.away_core.specs.declared.grammar.Mark.TheVariants as m
 use Rattle.away_core.specs.declared.queries.Expr.{Expr}
@@ -15,11 +15,6 @@ use Rattle.plsql_parse.specs.Sorts.{AnyTree, part, PartPlan}
 use Rattle.plsql_parse.specs.Plans.{any_plan}
 
 -- ---- what stands next
-
--- by the mark that stands next, if one does
-abbrev pub is_marked : (Mark → Bool) → Option Sign → Bool
-is_marked test (Some (mark sign)) = test sign
-is_marked test _ = false
 
 abbrev pub is_loop : Sign → Bool
 is_loop (mark m.Loop) = true

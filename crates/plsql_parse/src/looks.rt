@@ -2,7 +2,6 @@
 
 ghost use Rattle.std.specs.Prelude.{◌≡◌};
 ghost use Rattle.away_core.specs.FunctionGrammar.{opens_loop};
-ghost use Rattle.sql_text.specs.Plans.{first};
 ghost use Rattle.sql_text.specs.Said.{said};
 ghost use Rattle.plsql_parse.specs.Sorts.{is_name};
 ghost use Rattle.plsql_parse.specs.Bodies as plan;
