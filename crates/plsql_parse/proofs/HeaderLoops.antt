@@ -3,7 +3,7 @@ use Rattle.std.proofs.Common.{◌≡◌, ℕ, true, false, List, [], ◌∷◌, 
 use Rattle.away_core.specs.declared.grammar.Attribute.{Attribute}
 use Rattle.away_core.specs.declared.grammar.Mark.TheVariants as m
 use Rattle.away_core.specs.declared.types.Ty.{Ty}
-use Rattle.away_core.specs.FunctionGrammar.{Part, PartTree, parameter, parameters, attribute_of, attributes}
+use Rattle.away_core.specs.FunctionGrammar.{parameter, parameters, attribute_of, attributes}
 use Rattle.away_core.specs.Signs.{Sign, mark}
 use Rattle.sql_text.specs.declared.refusal.Refusal.{Refusal}
 use Rattle.sql_text.specs.Plans.{done, read, eat, Begins, Runs, ends, eats, leaves, sees, misses, reads, breaks, Gives, tree, no_tree, no_memory}

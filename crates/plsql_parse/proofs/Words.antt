@@ -6,19 +6,18 @@ use Rattle.std.proofs.lemmas.Slice.Eq.{bytes_eq-Decides}
 use Rattle.std.proofs.lemmas.Str.{chars-IsAscii, encodes-IsAscii, encodes-chars}
 use Rattle.std.proofs.lemmas.Str.Ascii.{IsAscii-cons, IsAscii-nil}
 use Rattle.std.specs.List.{list_all}
-use Rattle.std.specs.Bool.{OnTrue, OnFalse}
 use Rattle.std.specs.Prelude.{IsAscii, IsUtf8}
 use lib.Utf8.{encodes}
 use Rattle.away_core.specs.declared.grammar.Attribute.{Attribute}
 use Rattle.away_core.specs.declared.grammar.Mark.TheVariants as m
 use Rattle.away_core.specs.declared.grammar.Mark.{Mark}
 use Rattle.away_core.specs.FunctionGrammar.{Part, PartTree, attribute_of, times}
-use Rattle.away_core.specs.Signs.{Sign, mark}
+use Rattle.away_core.specs.Signs.{Sign}
 use Rattle.away_lex.proofs.Runs.{and_left, and_right}
 use Rattle.sql_text.specs.declared.refusal.Refusal.{Refusal}
 use Rattle.sql_text.specs.declared.refusal.Refusal.TheVariants.{NoTree}
-use Rattle.sql_text.specs.Plans.{eat, want, first, tail, is_some, Begins, Gives}
-use Rattle.sql_text.proofs.Steps.{eaten, left, looked, overlooked, taken, moved, failed, wanted, unwanted}
+use Rattle.sql_text.specs.Plans.{want, first, tail, is_some, Gives}
+use Rattle.sql_text.proofs.Steps.{looked, overlooked, taken, moved, failed, wanted, unwanted}
 use Rattle.plsql_parse.specs.Headers.{attribute_mark_plan}
 use Rattle.plsql_parse.specs.Plans.{any_plan}
 use Rattle.plsql_parse.specs.Sorts.{AnyTree, PartPlan, part, begins_word, eat_word, expect_word}
