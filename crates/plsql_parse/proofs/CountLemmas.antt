@@ -1,6 +1,6 @@
 -- The variables and the loops of a statement, by its parts.
 use Rattle.std.proofs.Common.{◌≡◌, ℕ, ◌+◌, List, length, Option, Some, None, sum, sum_by, Bool, refl, ap, ◌∙◌, map}
-use Rattle.std.proofs.lemmas.List.Sums.{sum-map, sum_by_more}
+use Rattle.std.proofs.lemmas.List.Sums.{sum-map, sum_by_more, sum_by_more_le}
 use Rattle.away_core.specs.declared.queries.Expr.{Expr}
 use Rattle.away_core.specs.declared.queries.Select.{Select}
 use Rattle.away_core.specs.declared.statements.Arm.{Arm}
@@ -138,4 +138,4 @@ pub arm_loops : (x : Arm) → loops_of_arm x ≡ sum_by loops_of x.body
 unfolding loops_of_arm
 arm_loops x = body_loops x.body
 
-pub ruleset count_rules = (block_variables, loop_variables, if_variables, cases_variables, into_variables, assign_variables, exit_variables, continue_variables, return_variables, raise_variables, nothing_variables, arm_variables, block_loops, loop_loops, if_loops, cases_loops, into_loops, assign_loops, exit_loops, continue_loops, return_loops, raise_loops, nothing_loops, arm_loops, sum_by_more)
+pub ruleset count_rules = (block_variables, loop_variables, if_variables, cases_variables, into_variables, assign_variables, exit_variables, continue_variables, return_variables, raise_variables, nothing_variables, arm_variables, block_loops, loop_loops, if_loops, cases_loops, into_loops, assign_loops, exit_loops, continue_loops, return_loops, raise_loops, nothing_loops, arm_loops, sum_by_more, sum_by_more_le)

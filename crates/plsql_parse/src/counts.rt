@@ -1,6 +1,6 @@
 //! How many nodes, variables and loops a function has.
 
-ghost use Rattle.std.specs.Prelude.{◌≡◌, ◌+◌, sum_by, IfSome};
+ghost use Rattle.std.specs.Prelude.{◌≡◌, ◌≤◌, ◌+◌, ◌^◌, sum_by, IfNone, IfSome};
 ghost use Rattle.away_core.specs.Count as core;
 ghost use Rattle.plsql_parse.specs.Counts as spec;
 
@@ -17,11 +17,12 @@ pub struct Counts {
 }
 
 impl Counts {
-    /// The counts with so many more of each, if they fit.
+    /// The counts with so many more of each, where each fits into 64 bits.
     fn plus(self, nodes: u64, variables: u64, loops: u64) -> Option<Counts>
         ensures nodes { IfSome result (λ sum. sum.nodes ≡ self.nodes + nodes) }
         ensures variables { IfSome result (λ sum. sum.variables ≡ self.variables + variables) }
         ensures loops { IfSome result (λ sum. sum.loops ≡ self.loops + loops) }
+        ensures full { IfNone result (2 ^ 64 ≤ (self.nodes + nodes) + (self.variables + variables) + (self.loops + loops)) }
     {
         Some(Counts {
             nodes: self.nodes.checked_add(nodes)?,
@@ -47,30 +48,31 @@ fn with_statement(before: Counts, s: &Stmt) -> Option<Counts>
     ensures nodes { IfSome result (λ sum. sum.nodes ≡ before.nodes + core.nodes_of s.now) }
     ensures variables { IfSome result (λ sum. sum.variables ≡ before.variables + spec.variables_of s.now) }
     ensures loops { IfSome result (λ sum. sum.loops ≡ before.loops + spec.loops_of s.now) }
+    ensures full { IfNone result (2 ^ 64 ≤ (before.nodes + core.nodes_of s.now) + (before.variables + spec.variables_of s.now) + (before.loops + spec.loops_of s.now)) }
 {
-    let counts = before.plus(1, 0, 0)?;
     match s {
         Stmt::Block { decls, body, .. } => {
             let declared = decls.len() as u64;
-            with_statements(counts.plus(declared, declared, 0)?, body.as_slice())
+            let counts = before.plus(1, 0, 0)?.plus(declared, declared, 0)?;
+            with_statements(counts, body.as_slice())
         }
         Stmt::If(arms, other) | Stmt::Cases(arms, other) => {
-            let counts = with_arms(counts, arms.as_slice())?;
+            let counts = with_arms(before.plus(1, 0, 0)?, arms.as_slice())?;
             match other {
                 None => Some(counts),
                 Some(body) => with_statements(counts.plus(1, 0, 0)?, body.as_slice()),
             }
         }
         Stmt::Loop { kind, body, .. } => {
-            with_statements(counts.plus(0, 0, for_loops(kind))?, body.as_slice())
+            with_statements(before.plus(1, 0, for_loops(kind))?, body.as_slice())
         }
-        Stmt::Into { targets, .. } => counts.plus(targets.len() as u64, 0, 0),
+        Stmt::Into { targets, .. } => before.plus(1, 0, 0)?.plus(targets.len() as u64, 0, 0),
         Stmt::Assign(_, _, _)
         | Stmt::Exit(_, _)
         | Stmt::Continue(_, _)
         | Stmt::Return(_)
         | Stmt::Raise(_)
-        | Stmt::Nothing => Some(counts),
+        | Stmt::Nothing => before.plus(1, 0, 0),
     }
 }
 
@@ -80,6 +82,7 @@ fn with_statements(before: Counts, list: &[Stmt]) -> Option<Counts>
     ensures nodes { IfSome result (λ sum. sum.nodes ≡ before.nodes + sum_by core.nodes_of list.now) }
     ensures variables { IfSome result (λ sum. sum.variables ≡ before.variables + sum_by spec.variables_of list.now) }
     ensures loops { IfSome result (λ sum. sum.loops ≡ before.loops + sum_by spec.loops_of list.now) }
+    ensures full { IfNone result (2 ^ 64 ≤ (before.nodes + sum_by core.nodes_of list.now) + (before.variables + sum_by spec.variables_of list.now) + (before.loops + sum_by spec.loops_of list.now)) }
 {
     let mut counts = before;
     for i in 0..list.len() {
@@ -94,21 +97,23 @@ fn with_arms(before: Counts, list: &[Arm]) -> Option<Counts>
     ensures nodes { IfSome result (λ sum. sum.nodes ≡ before.nodes + sum_by core.nodes_of_arm list.now) }
     ensures variables { IfSome result (λ sum. sum.variables ≡ before.variables + sum_by spec.variables_of_arm list.now) }
     ensures loops { IfSome result (λ sum. sum.loops ≡ before.loops + sum_by spec.loops_of_arm list.now) }
+    ensures full { IfNone result (2 ^ 64 ≤ (before.nodes + sum_by core.nodes_of_arm list.now) + (before.variables + sum_by spec.variables_of_arm list.now) + (before.loops + sum_by spec.loops_of_arm list.now)) }
 {
     let mut counts = before;
     for i in 0..list.len() {
-        let arm = counts.plus(1, 0, 0)?;
-        counts = with_statements(arm, list[i].body.as_slice())?;
+        let body = list[i].body.as_slice();
+        counts = with_statements(counts.plus(1, 0, 0)?, body)?;
     }
     Some(counts)
 }
 
-/// The counts of a function, if they fit.
+/// The counts of a function, where each fits into 64 bits.
 #[tactic(auto, unfolding(away_core::specs::Count::nodes, crate::specs::Counts::variables, crate::specs::Counts::loops))]
 pub fn counts_of(f: &Function) -> Option<Counts>
     ensures nodes { IfSome result (λ sum. sum.nodes ≡ core.nodes f.now) }
     ensures variables { IfSome result (λ sum. sum.variables ≡ spec.variables f.now) }
     ensures loops { IfSome result (λ sum. sum.loops ≡ spec.loops f.now) }
+    ensures full { IfNone result (2 ^ 64 ≤ core.nodes f.now + spec.variables f.now + spec.loops f.now) }
 {
     let params = f.params.len() as u64;
     let before = Counts {

@@ -1,6 +1,6 @@
 //! The reader of what stands around a function's body (PostgreSQL manual, CREATE FUNCTION).
 
-ghost use Rattle.std.specs.Prelude.{◌≡◌, ◌≤◌, ◌<◌, length, IfOk, bytes_eq, codes};
+ghost use Rattle.std.specs.Prelude.{◌≡◌, ◌≤◌, ◌<◌, length, IfOk};
 ghost use Rattle.away_core.specs.FunctionGrammar.{function, parameter, parameters, signature};
 ghost use Rattle.away_core.specs.Reserved.{folded};
 ghost use Rattle.sql_text.specs.Plans.{Gives};
@@ -13,7 +13,7 @@ ghost use Rattle.plsql_parse.specs.Sorts.{AnyTree, part, qualified_name};
 use crate::attributes::{attributes_of, makes_strict, may_stand};
 use crate::next::eat_word;
 use away_core::{Function, Mark, Name, Stmt, Ty};
-use sql_text::{Cursor, Refusal};
+use sql_text::{Cursor, Refusal, is_public};
 use sqlite_items::{Boxed, Items};
 use std::alloc::Global;
 
@@ -137,12 +137,6 @@ fn parameter_of(alloc: Global, tokens: &mut Cursor<'_>) -> Result<(Name, Ty), Re
     let name = tokens.name(alloc)?;
     let ty = tokens.type_name()?;
     Ok((name, ty))
-}
-
-fn is_public(name: &Name) -> bool
-    ensures { result ≡ bytes_eq name.now (codes "public") }
-{
-    name.text() == "public"
 }
 
 /// Takes the name that is this word, in any case, which has to stand next.

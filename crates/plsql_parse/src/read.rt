@@ -1,9 +1,8 @@
 //! The reader of functions.
 
-ghost use Rattle.std.specs.Prelude.{◌≡◌, map, IfOk, IfErr, MatchOption};
+ghost use Rattle.std.specs.Prelude.{◌≡◌, map, IfOk, IfErr};
 ghost use Rattle.away_core.specs.FunctionGrammar.{ReadsFunction, body, function};
 ghost use Rattle.away_core.specs.Signs.{all_say};
-ghost use Rattle.away_core.specs.Texts.{IsText};
 ghost use Rattle.away_core.specs.Tokens.{AreSpelled};
 ghost use Rattle.away_lex.specs.Lexed.{seen};
 ghost use Rattle.away_lex.specs.declared.kind.ReadRefusal.TheVariants.{Limit};
@@ -18,7 +17,7 @@ use away_core::{Function, Stmt};
 use away_lex::{
     FunctionTokens, LimitKind, ReadRefusal, Token, TokensRefusal, folded, function_tokens, nesting,
 };
-use sql_text::{Cursor, Refusal};
+use sql_text::{Cursor, Refusal, as_text};
 use sqlite_items::Boxed;
 use std::alloc::Global;
 
@@ -50,7 +49,7 @@ fn lists_of<'a>(alloc: Global, bytes: &'a [u8]) -> Result<FunctionTokens<'a>, Re
     ensures ok { IfOk result (λ lists. HasFewTokens bytes.now (map seen lists.outer.items) (map seen lists.body.items)) }
     ensures err { IfErr result (RefusesLists bytes.now) }
 {
-    let Some(text) = text_of(bytes) else {
+    let Some(text) = as_text(bytes) else {
         return Err(ReadRefusal::NotText);
     };
     match function_tokens(alloc, text) {
@@ -64,19 +63,6 @@ fn lists_of<'a>(alloc: Global, bytes: &'a [u8]) -> Result<FunctionTokens<'a>, Re
         }
         Err(TokensRefusal::Bad { offset }) => Err(ReadRefusal::Token { offset }),
         Err(TokensRefusal::NoMemory) => Err(ReadRefusal::NoMemory),
-    }
-}
-
-/// The bytes as text: UTF-8 without U+0000.
-fn text_of(bytes: &[u8]) -> Option<&str>
-    ensures { MatchOption result (¬ (IsText bytes.now)) (λ text. IsText bytes.now × (text.now ≡ bytes.now)) }
-{
-    if bytes.contains(&0) {
-        return None;
-    }
-    match str::from_utf8(bytes) {
-        Ok(text) => Some(text),
-        Err(_) => None,
     }
 }
 

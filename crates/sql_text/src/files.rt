@@ -7,9 +7,9 @@ ghost use Rattle.sql_text.specs.Descent as descent;
 ghost use Rattle.sql_text.specs.Descent.{plan, file_plan, file_with, recursive_plan};
 
 use crate::cursor::Cursor;
-use crate::expressions::{query_of, selects_of};
 use crate::leaves::may_join;
 use crate::refusal::Refusal;
+use crate::selects::{query_of, selects_of};
 use crate::tables::names_of;
 use away_core::{Mark, Query, Recursive, Select};
 use sqlite_items::Items;

@@ -1,7 +1,7 @@
 //! The parts of trees that hold no tree of their own sort.
 
 ghost use Rattle.std.specs.Prelude.{◌≡◌, IfOk, ◌^◌, ◌<◌, pos, true, false, None};
-ghost use Rattle.away_core.specs.Grammar.{IsChain, Tree, at, operands, chained, literal_of, called};
+ghost use Rattle.away_core.specs.Grammar.{IsChain, Tree, at, chained, literal_of, called};
 ghost use Rattle.away_core.specs.Grammar as spec;
 ghost use Rattle.sql_text.specs.Descent as descent;
 ghost use Rattle.sql_text.specs.Said.{Found, Numbered};
@@ -10,26 +10,6 @@ use crate::refusal::Refusal;
 use away_core::{ChainOp, Expr, Item, Key, Level, Mark, Name, Query, Select, name};
 use sqlite_items::{Boxed, Items};
 use std::alloc::Global;
-
-/// The level of the operands of a level.
-pub fn inner(level: Level) -> Level
-    ensures { result ≡ operands level }
-{
-    match level {
-        Level::Or => Level::And,
-        Level::And => Level::Not,
-        Level::Not => Level::Is,
-        Level::Is => Level::Compare,
-        Level::Compare => Level::Range,
-        Level::Range => Level::Concat,
-        Level::Concat => Level::Sum,
-        Level::Sum => Level::Product,
-        Level::Product => Level::Sign,
-        Level::Sign => Level::Cast,
-        Level::Cast => Level::Primary,
-        Level::Primary => Level::Primary,
-    }
-}
 
 /// The operand alone, or the chain that it begins.
 pub fn chain_of(first: Boxed<Expr>, more: Items<(ChainOp, Expr)>) -> Expr

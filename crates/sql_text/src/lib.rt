@@ -12,11 +12,13 @@ mod one_tree;
 mod operators;
 mod parts;
 mod pieces;
+mod primaries;
 mod print_laws;
 mod printing;
 mod read;
 mod refusal;
 mod schemas;
+mod selects;
 mod signs;
 mod spelling;
 mod tables;
@@ -31,9 +33,9 @@ pub use print_laws::{
     queries_that_were_read_print_back, signs_of_texts_are_spoken,
 };
 pub use printing::print_query;
-pub use read::{read_expr, read_query, read_schema};
+pub use read::{as_text, read_expr, read_query, read_schema};
 pub use refusal::Refusal;
-pub use signs::{Sign, text_of};
+pub use signs::{Sign, is_public, text_of};
 
 #[cfg(test)]
 mod print_tests;

@@ -86,7 +86,7 @@ fn tokens_of<'a>(alloc: Global, bytes: &'a [u8]) -> Result<Vec<Token<'a>>, ReadR
     ensures ok { IfOk result (λ list. HasFewTokens bytes.now (map seen list.items)) }
     ensures err { IfErr result (RefusesTokens bytes.now) }
 {
-    let Some(text) = text_of(bytes) else {
+    let Some(text) = as_text(bytes) else {
         return Err(ReadRefusal::NotText);
     };
     match tokens(alloc, text) {
@@ -105,7 +105,7 @@ fn tokens_of<'a>(alloc: Global, bytes: &'a [u8]) -> Result<Vec<Token<'a>>, ReadR
 }
 
 /// The bytes as text: UTF-8 without U+0000.
-fn text_of(bytes: &[u8]) -> Option<&str>
+pub fn as_text(bytes: &[u8]) -> Option<&str>
     ensures { MatchOption result (¬ (IsText bytes.now)) (λ text. IsText bytes.now × (text.now ≡ bytes.now)) }
 {
     if bytes.contains(&0) {

@@ -3,7 +3,7 @@ use Rattle.std.proofs.lemmas.Result.{err_from_is_err_and}
 use Rattle.away_core.specs.declared.grammar.Mark.TheVariants as m
 use Rattle.sql_text.specs.Next.{type_in, parameter_in}
 use Rattle.sql_text.proofs.Steps.{finished, eaten, wanted, not_wanted, refused}
-use Rattle.sql_text.proofs.expressions.typed_parameter.Goals as goal
+use Rattle.sql_text.proofs.primaries.typed_parameter.Goals as goal
 
 pub returns-in_err-number-clause-found : goal.returns-in_err-number-clause-found
 returns-in_err-number-clause-found c =

@@ -3,7 +3,7 @@ use Rattle.std.proofs.lemmas.Result.{err_from_is_err_and}
 use Rattle.away_core.specs.declared.grammar.Mark.TheVariants as m
 use Rattle.sql_text.proofs.Steps.{finished, eaten, refused}
 use Rattle.sql_text.proofs.Cases.{rows_counted, rows_refused}
-use Rattle.sql_text.proofs.expressions.rows_of.Goals as goal
+use Rattle.sql_text.proofs.primaries.rows_of.Goals as goal
 
 pub returns-then-not-is_count-clause-found : goal.returns-then-not-is_count-clause-found
 returns-then-not-is_count-clause-found c = rows_refused c.args.name.now _ _ (c.if-not-is_count.ensures)
