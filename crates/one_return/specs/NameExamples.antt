@@ -45,6 +45,15 @@ t_k = expr.Dotted (codes "t") (codes "k")
 abbrev pub x_k : Expr
 x_k = expr.Dotted (codes "x") (codes "k")
 
+abbrev pub x_v : Expr
+x_v = expr.Dotted (codes "x") (codes "v")
+
+abbrev pub k : Expr
+k = expr.Named (codes "k")
+
+abbrev pub v : Expr
+v = expr.Named (codes "v")
+
 -- SELECT t.k FROM t
 abbrev pub rows_of_t : Select
 rows_of_t = select (t_k ∷ []) (from_t [] ∷ []) None

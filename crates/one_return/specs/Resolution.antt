@@ -17,7 +17,7 @@ use Rattle.away_core.specs.declared.queries.Expr.TheOpen as ex
 use Rattle.away_core.specs.declared.queries.Expr.TheViews.{roll-Item, roll-FromItem, roll-Key, roll-Select, roll-Recursive, roll-Query}
 use Rattle.away_core.specs.declared.schemas.Schema.{Schema}
 use Rattle.away_core.specs.Algebra.{Algebra, expr_of, query_of}
-use Rattle.one_return.specs.Scope.{Seen, Place, Scope, inside, over_schema, without, with_table, named, dotted}
+use Rattle.one_return.specs.Scope.{Seen, Place, Scope, inside, over_schema, without, with_table, named, dotted, column_alone}
 
 -- ---- what may not be there
 
@@ -40,23 +40,23 @@ perhaps_by f (Some x) = then_by (f x) (λ y. Some (Some y))
 abbrev pub By : Type 0 → Type 0
 By A = Scope → Option A
 
--- an expression, and the column's name where it is one alone
+-- an expression, and the column's name where it is one alone, which a variable isn't
 pub record ExprBy : Type 0 where
-  pub plain : Option (List ℕ)
+  pub plain : By (List ℕ)
   pub it : By Expr
 
 -- an item of a list, and the name of its column
 pub record ItemBy : Type 0 where
-  pub name : Option (List ℕ)
+  pub name : By (List ℕ)
   pub it : By Item
 
 -- a select or a query, and the names of its columns
 pub record SelectBy : Type 0 where
-  pub names : List (Option (List ℕ))
+  pub names : Scope → List (Option (List ℕ))
   pub it : By Select
 
 pub record QueryBy : Type 0 where
-  pub names : List (Option (List ℕ))
+  pub names : Scope → List (Option (List ℕ))
   pub it : By Query
 
 -- what an item takes its rows from, the item's list of columns, and the names of its columns
@@ -86,7 +86,7 @@ pub record RecursiveBy : Type 0 where
 -- ---- expressions
 
 abbrev pub unnamed : By Expr → ExprBy
-unnamed it = record { plain = None; it = it }
+unnamed it = record { plain = λ scope. None; it = it }
 
 abbrev pub link_by : Scope → ChainOp × ExprBy → Option (ChainOp × Expr)
 link_by scope link = then_by (link.1.it scope) (λ e. Some (link.0, e))
@@ -99,8 +99,8 @@ expr_by (ex.Int n) = unnamed (λ scope. Some (expr.Int n))
 expr_by (ex.Str t) = unnamed (λ scope. Some (expr.Str t))
 expr_by (ex.Bool v) = unnamed (λ scope. Some (expr.Bool v))
 expr_by ex.Null = unnamed (λ scope. Some expr.Null)
-expr_by (ex.Named name) = record { plain = Some name; it = λ scope. named scope name }
-expr_by (ex.Dotted alias name) = record { plain = Some name; it = λ scope. dotted scope alias name }
+expr_by (ex.Named name) = record { plain = λ scope. column_alone scope name; it = λ scope. named scope name }
+expr_by (ex.Dotted alias name) = record { plain = λ scope. Some name; it = λ scope. dotted scope alias name }
 expr_by (ex.Slot i) = unnamed (λ scope. Some (expr.Slot i))
 expr_by (ex.Column c) = unnamed (λ scope. Some (expr.Column c))
 expr_by (ex.Param i t) = unnamed (λ scope. Some (expr.Param i t))
@@ -136,7 +136,8 @@ table_is name place = record { it = source.Table name; columns = decimal place.n
 abbrev pub source_by : Source-F ExprBy SourceBy FromBy ItemBy (By Key) QueryBy RecursiveBy SelectBy → SourceBy
 source_by (ex.Table name) columns before scope = then_by (scope.table name) (λ place. Some (table_is name place))
 source_by (ex.Sub q lateral) columns before scope =
-    then_by (q.it (inside (if lateral then before else []) scope)) (λ x. Some (record { it = source.Sub x lateral; columns = columns; names = names_or columns q.names }))
+    let there = inside (if lateral then before else []) scope in
+    then_by (q.it there) (λ x. Some (record { it = source.Sub x lateral; columns = columns; names = names_or columns (q.names there) }))
 
 abbrev pub from_is : List ℕ → SourceIs → FromIs
 from_is alias s = record { it = roll-FromItem (record { source = s.it; alias = alias; columns = s.columns }); seen = record { alias = alias; columns = s.names } }
@@ -156,7 +157,7 @@ item_name None plain = plain
 item_name (Some alias) plain = Some alias
 
 abbrev pub item_by : Item-F ExprBy SourceBy FromBy ItemBy (By Key) QueryBy RecursiveBy SelectBy → ItemBy
-item_by i = record { name = item_name i.alias i.expr.plain; it = λ scope. then_by (i.expr.it scope) (λ x. Some (roll-Item (record { expr = x; alias = i.alias }))) }
+item_by i = record { name = λ scope. item_name i.alias (i.expr.plain scope); it = λ scope. then_by (i.expr.it scope) (λ x. Some (roll-Item (record { expr = x; alias = i.alias }))) }
 
 abbrev pub key_by : Key-F ExprBy SourceBy FromBy ItemBy (By Key) QueryBy RecursiveBy SelectBy → By Key
 key_by k scope = then_by (k.expr.it scope) (λ x. Some (roll-Key (record { expr = x; descending = k.descending })))
@@ -169,8 +170,13 @@ select_over s scope from =
     then_by (perhaps_by (λ e. e.it (inside [] scope)) s.limit) (λ limit.
     Some (roll-Select (record { list = list; from = map (λ x. x.it) from; filter = filter; order = order; limit = limit }))))))
 
+-- the names of the columns of the list, where there is what FROM stands for
+abbrev pub names_over : List ItemBy → Scope → Option (List FromIs) → List (Option (List ℕ))
+names_over list scope None = []
+names_over list scope (Some from) = map (λ i. i.name (inside (map (λ x. x.seen) from) scope)) list
+
 abbrev pub select_by : Select-F ExprBy SourceBy FromBy ItemBy (By Key) QueryBy RecursiveBy SelectBy → SelectBy
-select_by s = record { names = map (λ i. i.name) s.list; it = λ scope. then_by (froms_by s.from [] scope) (select_over s scope) }
+select_by s = record { names = λ scope. names_over s.list scope (froms_by s.from [] scope); it = λ scope. then_by (froms_by s.from [] scope) (select_over s scope) }
 
 -- ---- queries
 
@@ -185,9 +191,13 @@ recursive_by r =
     }
 
 -- a query has the column names of its first select
-abbrev pub first_names : List SelectBy → List (Option (List ℕ))
-first_names [] = []
-first_names (s ∷ more) = s.names
+abbrev pub first_names : List SelectBy → Scope → List (Option (List ℕ))
+first_names [] scope = []
+first_names (s ∷ more) scope = s.names scope
+
+abbrev pub with_names : Option RecursiveBy → List SelectBy → Scope → List (Option (List ℕ))
+with_names None selects scope = first_names selects scope
+with_names (Some r) selects scope = first_names selects (with_table r.name r.columns scope)
 
 abbrev pub selects_by : List SelectBy → Option Recursive → By Query
 selects_by selects recursive scope = then_by (each_by (λ s. s.it scope) selects) (λ xs. Some (roll-Query (record { recursive = recursive; selects = xs })))
@@ -197,7 +207,7 @@ with_by None selects scope = selects_by selects None scope
 with_by (Some r) selects scope = then_by (r.it scope) (λ x. selects_by selects (Some x) (with_table r.name r.columns scope))
 
 abbrev pub query_by : Query-F ExprBy SourceBy FromBy ItemBy (By Key) QueryBy RecursiveBy SelectBy → QueryBy
-query_by q = record { names = first_names q.selects; it = with_by q.recursive q.selects }
+query_by q = record { names = with_names q.recursive q.selects; it = with_by q.recursive q.selects }
 
 abbrev pub resolving : Algebra
 resolving =
@@ -211,7 +221,7 @@ resolving =
       ARecursive = RecursiveBy;
       ASelect = SelectBy;
       no_expr = unnamed (λ scope. None);
-      no_query = record { names = []; it = λ scope. None };
+      no_query = record { names = λ scope. []; it = λ scope. None };
       expr = expr_by;
       source = source_by;
       from = from_by;

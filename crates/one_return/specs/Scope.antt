@@ -116,3 +116,7 @@ named scope name = if is_ambiguous (by_name name) scope.frames then None else on
 -- What an alias with a column's name stands for.
 abbrev pub dotted : Scope → List ℕ → List ℕ → Option Expr
 dotted scope alias name = option_map (λ c. expr.Column c) (nearest (by_alias alias name) 0 scope.frames)
+
+-- The name, where it alone is a column.
+abbrev pub column_alone : Scope → List ℕ → Option (List ℕ)
+column_alone scope name = option_map (λ c. name) (nearest (by_name name) 0 scope.frames)

@@ -13,8 +13,8 @@ ghost use Rattle.one_return.specs.Examples.{
   sum_and_product,
   two_bigints,
 };
-ghost use Rattle.one_return.specs.NameExamples.{beside, nested, of_itself, one_table, t_k, x_k};
-ghost use Rattle.one_return.specs.Resolution.{resolved};
+ghost use Rattle.one_return.specs.NameExamples.{beside, k, nested, of_itself, one_table, t_k, v, x_k, x_v};
+ghost use Rattle.one_return.specs.Resolution.{resolved, resolved_value};
 ghost use Rattle.one_return.specs.Scope.{dotted, named};
 ghost use Rattle.one_return.specs.Written.{written};
 
@@ -30,11 +30,15 @@ pub fn a_name_stands_for_what_is_nearest()
     ensures unknown { named nested (codes "z") ≡ None }
 {}
 
-/// A subquery sees the items before it where it is LATERAL, and none of its FROM where it isn't. A column of its list that is written as one has that name.
+/// A subquery sees the items before it where it is LATERAL, and none of its FROM where it isn't. A column of its list that is written as one has that name,
+/// and one that is a variable has none.
 /// The first term of a recursive table sees neither it nor a table that it hides.
 pub fn an_item_sees_what_stands_before_it()
     ensures lateral { resolved one_table (beside true x_k [] t_k) ≡ Some (beside true (col 0 1 0) (codes "0" ∷ codes "k" ∷ []) (col 1 0 0)) }
+    ensures by_its_name { resolved one_table (beside true x_k [] k) ≡ Some (beside true (col 0 1 0) (codes "0" ∷ codes "k" ∷ []) (col 1 0 0)) }
     ensures plain { resolved one_table (beside false x_k [] t_k) ≡ None }
+    ensures variable { resolved_value one_table (codes "v" ∷ []) v ≡ Some (expr.Slot 0) }
+    ensures of_a_variable { resolved_value one_table (codes "v" ∷ []) (expr.Scalar (beside false x_v [] v)) ≡ None }
     ensures first_term { resolved one_table of_itself ≡ None }
 {}
 
