@@ -2,8 +2,7 @@
 
 ghost use Rattle.std.specs.Prelude.{◌≡◌, IfOk};
 
-use crate::errors::NoMemory;
-use crate::words::Name;
+use away_values::{Name, NoMemory};
 use sqlite_items::Items;
 use std::alloc::Global;
 

@@ -2,21 +2,19 @@
 
 ghost use Rattle.std.specs.Prelude.{◌≡◌, IfOk};
 
-use crate::errors::NoMemory;
-use crate::schemas::{ColumnSchema, Schema, TableSchema};
+use away_trees::{ColumnSchema, Schema, TableSchema};
+use away_values::NoMemory;
 use sqlite_items::Items;
 use std::alloc::Global;
 
-impl ColumnSchema {
-    pub fn copy(&self, alloc: Global) -> Result<ColumnSchema, NoMemory>
-        ensures { IfOk result (λ r. r ≡ self.now) }
-    {
-        Ok(ColumnSchema {
-            name: self.name.copy(alloc)?,
-            ty: self.ty,
-            not_null: self.not_null,
-        })
-    }
+pub(crate) fn copy_column(value: &ColumnSchema, alloc: Global) -> Result<ColumnSchema, NoMemory>
+    ensures { IfOk result (λ r. r ≡ value.now) }
+{
+    Ok(ColumnSchema {
+        name: value.name.copy(alloc)?,
+        ty: value.ty,
+        not_null: value.not_null,
+    })
 }
 
 fn copy_columns(list: &[ColumnSchema], alloc: Global) -> Result<Items<ColumnSchema>, NoMemory>
@@ -24,20 +22,18 @@ fn copy_columns(list: &[ColumnSchema], alloc: Global) -> Result<Items<ColumnSche
 {
     let mut all = Items::new(alloc);
     for i in 0..list.len() {
-        all.push(list[i].copy(alloc)?)?;
+        all.push(copy_column(&list[i], alloc)?)?;
     }
     Ok(all)
 }
 
-impl TableSchema {
-    pub fn copy(&self, alloc: Global) -> Result<TableSchema, NoMemory>
-        ensures { IfOk result (λ r. r ≡ self.now) }
-    {
-        Ok(TableSchema {
-            name: self.name.copy(alloc)?,
-            columns: copy_columns(self.columns.as_slice(), alloc)?,
-        })
-    }
+pub(crate) fn copy_table_schema(value: &TableSchema, alloc: Global) -> Result<TableSchema, NoMemory>
+    ensures { IfOk result (λ r. r ≡ value.now) }
+{
+    Ok(TableSchema {
+        name: value.name.copy(alloc)?,
+        columns: copy_columns(value.columns.as_slice(), alloc)?,
+    })
 }
 
 fn copy_table_schemas(list: &[TableSchema], alloc: Global) -> Result<Items<TableSchema>, NoMemory>
@@ -45,17 +41,15 @@ fn copy_table_schemas(list: &[TableSchema], alloc: Global) -> Result<Items<Table
 {
     let mut all = Items::new(alloc);
     for i in 0..list.len() {
-        all.push(list[i].copy(alloc)?)?;
+        all.push(copy_table_schema(&list[i], alloc)?)?;
     }
     Ok(all)
 }
 
-impl Schema {
-    pub fn copy(&self, alloc: Global) -> Result<Schema, NoMemory>
-        ensures { IfOk result (λ r. r ≡ self.now) }
-    {
-        Ok(Schema {
-            tables: copy_table_schemas(self.tables.as_slice(), alloc)?,
-        })
-    }
+pub(crate) fn copy_schema(value: &Schema, alloc: Global) -> Result<Schema, NoMemory>
+    ensures { IfOk result (λ r. r ≡ value.now) }
+{
+    Ok(Schema {
+        tables: copy_table_schemas(value.tables.as_slice(), alloc)?,
+    })
 }

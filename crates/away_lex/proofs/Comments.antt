@@ -1,7 +1,7 @@
 -- The comments that the code finds are those of the definition.
 use Rattle.std.proofs.Common.{◌≡◌, ℕ, zero, suc, ◌+◌, ◌-◌, ◌≤◌, true, false, ◌&&◌, eqb, List, [], ◌∷◌, ◌++◌, length, take, Option, Some, refl, sym, ap, ◌∙◌, subst, arith, length-append, append_assoc, inl, inr}
 use Rattle.std.proofs.lemmas.Bool.{cases_Bool, eqb-true}
-use Rattle.away_core.specs.Tokens.{is_opening, is_closing, ClosesComment, closes, other, nests}
+use Rattle.away_grammar.specs.Tokens.{is_comment_opening, is_comment_closing, ClosesComment, closes, other, nests}
 use Rattle.away_lex.specs.Pieces.{comment_len, plus}
 use Rattle.away_lex.proofs.Steps.{plus_plus, comment_on, comment_down, comment_up, comment_end}
 use Rattle.away_lex.proofs.Apart.{plus_some}
@@ -17,7 +17,7 @@ behind (suc d) r = comment_len d r
 abbrev Found : List ℕ → Type 0
 Found s = (d : ℕ) (r : List ℕ) → comment_len d (s ++ r) ≡ plus (length s) (behind d r)
 
-other_found : (d b c : ℕ) (z r : List ℕ) → is_closing b c ≡ false → is_opening b c ≡ false → comment_len d ((c ∷ z) ++ r) ≡ plus (length (c ∷ z)) (behind d r)
+other_found : (d b c : ℕ) (z r : List ℕ) → is_comment_closing b c ≡ false → is_comment_opening b c ≡ false → comment_len d ((c ∷ z) ++ r) ≡ plus (length (c ∷ z)) (behind d r)
     → comment_len d ((b ∷ c ∷ z) ++ r) ≡ plus (length (b ∷ c ∷ z)) (behind d r)
 other_found d b c z r g h ih = comment_on d b (c ∷ (z ++ r)) g h ∙ ap (plus 1) ih ∙ plus_plus 1 (length (c ∷ z)) (behind d r) ∙ ap (λ n. plus n (behind d r)) (omega arith)
 
@@ -55,13 +55,13 @@ all_some : (d : ℕ) (s : List ℕ) → Closes d s → 2 ≤ length s
 all_some zero s c = closes_some c
 all_some (suc d) s c = omega (arith, ap length c.1.1, length-append c.0 c.1.0, closes_some c.1.2)
 
-add_other_to : (d b c : ℕ) (s a rest : List ℕ) → is_closing b c ≡ false → is_opening b c ≡ false → c ∷ s ≡ a ++ rest → ClosesComment a → Closes d rest → Closes (suc d) (b ∷ c ∷ s)
+add_other_to : (d b c : ℕ) (s a rest : List ℕ) → is_comment_closing b c ≡ false → is_comment_opening b c ≡ false → c ∷ s ≡ a ++ rest → ClosesComment a → Closes d rest → Closes (suc d) (b ∷ c ∷ s)
 add_other_to d b c s [] rest g h e a more = absurd (omega (arith, closes_some a))
 add_other_to d b c s (x ∷ a) rest g h e first more =
     let same : c ≡ x = cc in
-    (b ∷ x ∷ a, (rest, ap (λ l. b ∷ l) e, other (subst (λ y. is_closing b y ≡ false) same g) (subst (λ y. is_opening b y ≡ false) same h) first, more))
+    (b ∷ x ∷ a, (rest, ap (λ l. b ∷ l) e, other (subst (λ y. is_comment_closing b y ≡ false) same g) (subst (λ y. is_comment_opening b y ≡ false) same h) first, more))
 
-add_other : (d b c : ℕ) (s : List ℕ) → is_closing b c ≡ false → is_opening b c ≡ false → Closes d (c ∷ s) → Closes d (b ∷ c ∷ s)
+add_other : (d b c : ℕ) (s : List ℕ) → is_comment_closing b c ≡ false → is_comment_opening b c ≡ false → Closes d (c ∷ s) → Closes d (b ∷ c ∷ s)
 add_other zero b c s g h more = other g h more
 add_other (suc d) b c s g h more = add_other_to d b c s more.0 more.1.0 g h more.1.1 more.1.2 more.1.3
 
@@ -87,13 +87,13 @@ behind_two d e b c x y z n is add more =
     let k : 2 + n ≡ suc (suc n) = omega arith in
     subst (λ m. IsClosed d (b ∷ c ∷ z) m) (sym k) (omega (arith, more.0), subst (Closes d) (λ i. sym is.0 i ∷ sym is.1 i ∷ take n z) (add (take n z) more.1))
 
-behind_one : (d b c : ℕ) (z : List ℕ) (n : ℕ) → is_closing b c ≡ false → is_opening b c ≡ false → IsClosed d (c ∷ z) n → IsClosed d (b ∷ c ∷ z) (1 + n)
+behind_one : (d b c : ℕ) (z : List ℕ) (n : ℕ) → is_comment_closing b c ≡ false → is_comment_opening b c ≡ false → IsClosed d (c ∷ z) n → IsClosed d (b ∷ c ∷ z) (1 + n)
 behind_one d b c z zero g h more = absurd (omega (arith, all_some d [] more.1))
 behind_one d b c z (suc n) g h more =
     let k : 1 + suc n ≡ suc (suc n) = omega arith in
     subst (λ m. IsClosed d (b ∷ c ∷ z) m) (sym k) (omega (arith, more.0), add_other d b c (take n z) g h more.1)
 
-closing_of : (d : ℕ) (b c : ℕ) (z : List ℕ) (n : ℕ) → is_closing b c ≡ true → comment_len d (b ∷ c ∷ z) ≡ Some n
+closing_of : (d : ℕ) (b c : ℕ) (z : List ℕ) (n : ℕ) → is_comment_closing b c ≡ true → comment_len d (b ∷ c ∷ z) ≡ Some n
     → ((e k : ℕ) → comment_len e z ≡ Some k → IsClosed e z k) → IsClosed d (b ∷ c ∷ z) n
 closing_of zero b c z n h e ih =
     let is = two_are b c 42 47 h in
@@ -108,9 +108,9 @@ closing_of (suc d) b c z n h e ih =
 pub all_closed : (d : ℕ) (z : List ℕ) (n : ℕ) → comment_len d z ≡ Some n → IsClosed d z n
 all_closed d [] n e = absurd (cc)
 all_closed d (b ∷ []) n e = absurd (cc)
-all_closed d (b ∷ c ∷ z) n e = elim (cases_Bool (is_closing b c)) [
+all_closed d (b ∷ c ∷ z) n e = elim (cases_Bool (is_comment_closing b c)) [
   | inl y ↦ closing_of d b c z n y e (λ k m h. all_closed k z m h)
-  | inr g ↦ elim (cases_Bool (is_opening b c)) [
+  | inr g ↦ elim (cases_Bool (is_comment_opening b c)) [
     | inl y ↦ (let is = two_are b c 47 42 y in
         let same : d + 1 ≡ suc d = omega arith in
         let p = plus_some 2 n (comment_len (suc d) z) (ap (λ k. plus 2 (comment_len k z)) (sym same) ∙ sym (comment_down d b (c ∷ z) g y) ∙ e) in

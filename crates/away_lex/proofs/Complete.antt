@@ -1,11 +1,11 @@
 -- A piece of the definition is what the code finds at the front of a text.
 use Rattle.std.proofs.Common.{◌≡◌, ℕ, ◌+◌, ◌≤◌, true, List, [], ◌∷◌, ◌++◌, length, Some, None, refl, ap, ◌∙◌, arith}
 use Rattle.std.specs.List.{list_all}
-use Rattle.away_core.specs.declared.tokens.TokenKind.{TokenKind}
-use Rattle.away_core.specs.Spellings.{Spells}
-use Rattle.away_core.specs.Tokens.{is_line, EndsLine, Skips, blank, line, block, Stands}
-use Rattle.away_lex.specs.declared.kind.Piece.TheVariants.{Skipped, Token}
-use Rattle.away_lex.specs.declared.front.Class.TheVariants as class
+use Rattle.away_grammar.specs.declared.tokens.TokenKind.{TokenKind}
+use Rattle.away_grammar.specs.Spellings.{Spells}
+use Rattle.away_grammar.specs.Tokens.{is_line, EndsLine, Skips, blank, line, block, Stands}
+use Rattle.away_lex.specs.declared.pieces.Piece.TheVariants.{Skipped, Token}
+use Rattle.away_lex.specs.declared.pieces.Class.TheVariants as class
 use Rattle.away_lex.specs.Pieces.{first_piece, run, mark, comment_of}
 use Rattle.away_lex.proofs.Apart.{IsAlone, apart}
 use Rattle.away_lex.proofs.Alone.{spelled_alone}

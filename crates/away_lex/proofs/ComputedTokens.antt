@@ -1,12 +1,12 @@
 -- Worked examples, by computation.
 use Rattle.std.proofs.Common.{◌≡◌, ℕ, true, false, List, [], ◌∷◌, Some, None, refl}
 use Rattle.std.specs.Prelude.{codes}
-use Rattle.away_core.specs.declared.tokens.TokenKind.TheVariants.{Word, Integer, Parameter, Dollar, Symbol}
-use Rattle.away_core.specs.Spellings.{number, quoted, mark_of, may_precede, Spells}
-use Rattle.away_core.specs.Tokens.{Lexeme, Lexes, ends}
-use Rattle.away_core.specs.Nesting.{opens, closes, stays, changes, opened, closed}
-use Rattle.away_core.specs.Reserved.{is_reserved, calls}
-use Rattle.away_lex.specs.declared.kind.Piece.TheVariants.{Skipped, Token}
+use Rattle.away_grammar.specs.declared.tokens.TokenKind.TheVariants.{Word, Integer, Parameter, Dollar, Symbol}
+use Rattle.away_grammar.specs.Spellings.{number, quoted, mark_of, may_precede, Spells}
+use Rattle.away_grammar.specs.Tokens.{Lexeme, Lexes, ends}
+use Rattle.away_grammar.specs.Nesting.{opens, closes, stays, changes, opened, closed}
+use Rattle.away_grammar.specs.Reserved.{is_reserved, calls}
+use Rattle.away_lex.specs.declared.pieces.Piece.TheVariants.{Skipped, Token}
 use Rattle.away_lex.specs.Pieces.{first_piece}
 use Rattle.away_lex.proofs.Lexing.{token_at, skips_at}
 

@@ -4,9 +4,9 @@ use Rattle.std.proofs.lemmas.Bool.Decides.{nat_tests}
 use Rattle.std.proofs.lemmas.List.{length-map}
 use Rattle.std.specs.List.{list_all}
 use Rattle.std.specs.Char.{to_ascii_lowercase}
-use Rattle.away_core.specs.Words.{IsName, is_name_byte}
-use Rattle.away_core.specs.Spellings.{goes_on, IsNameText}
-use Rattle.away_core.specs.Reserved.{folded}
+use Rattle.away_values.specs.Words.{IsName, is_name_byte}
+use Rattle.away_grammar.specs.Spellings.{goes_on, IsNameText}
+use Rattle.away_grammar.specs.Reserved.{folded}
 use Rattle.away_lex.proofs.Runs.{and_left, and_right}
 
 low : (b : ℕ) → goes_on b ≡ true → is_name_byte (to_ascii_lowercase b) ≡ true

@@ -3,12 +3,12 @@ use Rattle.std.proofs.Common.{◌≡◌, ℕ, ◌+◌, ◌<◌, ◌≤◌, Bool,
 use Rattle.std.proofs.lemmas.Bool.{cases_Bool, eqb-false}
 use Rattle.std.specs.List.{prefix_len, list_all}
 use Rattle.std.specs.Char.{is_ascii_digit}
-use Rattle.away_core.specs.declared.tokens.TokenKind.{TokenKind}
-use Rattle.away_core.specs.declared.tokens.TokenKind.TheVariants.{Word, Integer, Str, Parameter, Dollar, Symbol}
-use Rattle.away_core.specs.Spellings.{is_blank, is_start, goes_on, doubled, quoted, IsNameText, IsInteger, is_symbol_text, Spells}
-use Rattle.away_core.specs.Tokens.{Stands}
-use Rattle.away_lex.specs.declared.kind.Piece.TheVariants.{Skipped, Token}
-use Rattle.away_lex.specs.declared.front.Class.TheVariants as class
+use Rattle.away_grammar.specs.declared.tokens.TokenKind.{TokenKind}
+use Rattle.away_grammar.specs.declared.tokens.TokenKind.TheVariants.{Word, Integer, Str, Parameter, Dollar, Symbol}
+use Rattle.away_grammar.specs.Spellings.{is_blank, is_start, goes_on, doubled, quoted, IsNameText, IsInteger, is_symbol_text, Spells}
+use Rattle.away_grammar.specs.Tokens.{Stands}
+use Rattle.away_lex.specs.declared.pieces.Piece.TheVariants.{Skipped, Token}
+use Rattle.away_lex.specs.declared.pieces.Class.TheVariants as class
 use Rattle.away_lex.specs.Pieces.{first_piece, run, word, closing, quote, is_number}
 use Rattle.away_lex.proofs.Steps.{closing_doubled, closing_other}
 use Rattle.away_lex.proofs.Runs.{and_left, and_right}

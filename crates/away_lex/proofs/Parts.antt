@@ -1,13 +1,13 @@
 -- The two lists of a function's file.
 use Rattle.std.proofs.Common.{◌≡◌, ℕ, ◌+◌, ◌≤◌, true, false, List, [], ◌∷◌, ◌++◌, length, Option, Some, None, refl, sym, ap, ◌∙◌, subst, arith, inl, inr, append-nil, length-append}
 use Rattle.std.proofs.lemmas.Bool.{cases_Bool}
-use Rattle.away_core.specs.declared.tokens.TokenKind.{TokenKind}
-use Rattle.away_core.specs.declared.tokens.TokenKind.TheVariants.{Word, Integer, Str, Parameter, Dollar, Symbol}
-use Rattle.away_core.specs.Spellings.{mark_of, IsDollarQuote, Spells}
-use Rattle.away_core.specs.Tokens.{Lexeme, Lexes, ends, skips, token, stops}
-use Rattle.away_core.specs.FunctionFile.{is_dollar, first_dollar, up_to_dollar, bad_with_dollar, LexesPart, LexesBody}
-use Rattle.away_lex.specs.declared.kind.TokensRefusal.{TokensRefusal}
-use Rattle.away_lex.specs.declared.kind.TokensRefusal.TheVariants.{Bad, NoMemory}
+use Rattle.away_grammar.specs.declared.tokens.TokenKind.{TokenKind}
+use Rattle.away_grammar.specs.declared.tokens.TokenKind.TheVariants.{Word, Integer, Str, Parameter, Dollar, Symbol}
+use Rattle.away_grammar.specs.Spellings.{mark_of, IsDollarQuote, Spells}
+use Rattle.away_grammar.specs.Tokens.{Lexeme, Lexes, ends, skips, token, stops}
+use Rattle.away_grammar.specs.FunctionFile.{is_dollar, first_dollar, up_to_dollar, bad_with_dollar, LexesPart, LexesBody}
+use Rattle.away_lex.specs.declared.refusals.TokensRefusal.{TokensRefusal}
+use Rattle.away_lex.specs.declared.refusals.TokensRefusal.TheVariants.{Bad, NoMemory}
 use Rattle.away_lex.specs.Lexed.{RefusedAs, FileRefusedAs, Left, LexesFrom}
 use Rattle.away_lex.proofs.Reading.{total}
 

@@ -1,9 +1,9 @@
 -- Where the marks of a dollar quote stand.
 use Rattle.std.proofs.Common.{◌≡◌, ℕ, ◌+◌, ◌-◌, List, [], ◌∷◌, ◌++◌, length, take, drop, refl, sym, ap, ◌∙◌, subst, arith, length-append, append_assoc}
 use Rattle.std.proofs.lemmas.List.{take_at, drop_at, get_or_at}
-use Rattle.away_core.specs.Spellings.{IsTag, mark_of, byte, IsDollarQuote}
-use Rattle.away_core.specs.FunctionFile.{IsInside}
-use Rattle.away_lex.specs.declared.front.Class.TheVariants as class
+use Rattle.away_grammar.specs.Spellings.{IsTag, mark_of, byte, IsDollarQuote}
+use Rattle.away_grammar.specs.FunctionFile.{IsInside}
+use Rattle.away_lex.specs.declared.pieces.Class.TheVariants as class
 use Rattle.away_lex.specs.Pieces.{run, is_in, CanCut}
 use Rattle.away_lex.specs.Lexed.{IsMarkLen}
 use Rattle.away_lex.proofs.Apart.{run_append}

@@ -6,14 +6,14 @@ use Rattle.std.proofs.lemmas.List.Sums.{prefix_len-le-length, prefix_len_passes}
 use Rattle.std.proofs.lemmas.Bool.{cases_Bool, cases_lt, eqb-true}
 use Rattle.std.proofs.lemmas.Bool.Decides.{nat_tests}
 use Rattle.std.specs.Char.{is_ascii_digit}
-use Rattle.away_core.specs.declared.tokens.TokenKind.TheVariants.{Word, Integer, Str, Parameter, Dollar, Symbol}
-use Rattle.away_core.specs.Words.{IsWord}
-use Rattle.away_core.specs.Spellings.{byte, is_blank, is_start, goes_on, number, doubled, mark_of, IsTag, IsFirstBehind, is_symbol_text}
-use Rattle.away_core.specs.Tokens.{is_line, EndsLine, Skips, blank, line, block, Stands}
-use Rattle.away_lex.specs.declared.kind.Piece.{Piece}
-use Rattle.away_lex.specs.declared.kind.Piece.TheVariants.{Skipped, Token}
-use Rattle.away_lex.specs.declared.front.Class.{Class}
-use Rattle.away_lex.specs.declared.front.Class.TheVariants as class
+use Rattle.away_grammar.specs.declared.tokens.TokenKind.TheVariants.{Word, Integer, Str, Parameter, Dollar, Symbol}
+use Rattle.away_values.specs.Words.{IsWord}
+use Rattle.away_grammar.specs.Spellings.{byte, is_blank, is_start, goes_on, number, doubled, mark_of, IsTag, IsFirstBehind, is_symbol_text}
+use Rattle.away_grammar.specs.Tokens.{is_line, EndsLine, Skips, blank, line, block, Stands}
+use Rattle.away_lex.specs.declared.pieces.Piece.{Piece}
+use Rattle.away_lex.specs.declared.pieces.Piece.TheVariants.{Skipped, Token}
+use Rattle.away_lex.specs.declared.pieces.Class.{Class}
+use Rattle.away_lex.specs.declared.pieces.Class.TheVariants as class
 use Rattle.away_lex.specs.Pieces.{first_piece, is_in, run, is_number, string_of, closing, undoubled, has_no_zero, is_text, dollar, quote_of, place_of, begins_with, mark, comment_of, comment_len, is_pair, is_single}
 use Rattle.away_lex.proofs.Apart.{plus_some, place_fits}
 use Rattle.away_lex.proofs.Alone.{undoubled-doubled, begins_take, take_begins}

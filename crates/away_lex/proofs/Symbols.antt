@@ -1,7 +1,7 @@
 -- The table of symbols, and what the code asks of the first two bytes.
 use Rattle.std.proofs.Common.{◌≡◌, ℕ, false, List, [], ◌∷◌, arith}
 use Rattle.std.proofs.lemmas.Bool.Decides.{nat_tests}
-use Rattle.away_core.specs.Spellings.{is_symbol_text, opens_comment}
+use Rattle.away_grammar.specs.Spellings.{is_symbol_text, opens_comment}
 use Rattle.away_lex.specs.Pieces.{is_pair, is_single}
 
 pub pair_is : (b c : ℕ) → is_symbol_text (b ∷ c ∷ []) ≡ is_pair b c

@@ -1,7 +1,7 @@
 -- The greatest count of a token list, from its end on.
 use Rattle.std.specs.Prelude.{ℕ, ◌+◌, ◌-◌, Bool, false, ◌&&◌, if◌then◌else◌, List, [], ◌∷◌}
-use Rattle.away_core.specs.Tokens.{Lexeme}
-use Rattle.away_core.specs.Nesting.{is_end, is_closed, is_opening, is_closing}
+use Rattle.away_grammar.specs.Tokens.{Lexeme}
+use Rattle.away_grammar.specs.Nesting.{is_end, is_closed, is_opening, is_closing}
 
 -- what a token adds to the greatest count of what follows it
 abbrev pub counted : Lexeme → ℕ → ℕ

@@ -1,15 +1,16 @@
 //! The two token lists of a function's file: that of the whole file, and that of the function's body.
 
 ghost use Rattle.std.specs.Prelude.{◌≡◌, ◌<◌, ◌+◌, ◌^◌, length, map, List, ℕ, IfOk, IfErr, option_map, None};
-ghost use Rattle.away_core.specs.FunctionFile.{IsInside, LexesFile, LexesInside, LexesPart};
-ghost use Rattle.away_core.specs.FunctionFile as spec;
-ghost use Rattle.away_core.specs.Spellings.{IsDollarQuote};
+ghost use Rattle.away_grammar.specs.FunctionFile.{IsInside, LexesFile, LexesInside, LexesPart};
+ghost use Rattle.away_grammar.specs.FunctionFile as spec;
+ghost use Rattle.away_grammar.specs.Spellings.{IsDollarQuote};
 ghost use Rattle.away_lex.specs.Lexed.{FileRefusedAs, InsideRefusedAs, IsMarkLen, PartRefusedAs, seen};
 
 use crate::cursor::{Tokens, split};
-use crate::front::{Class, run};
-use crate::kind::{Token, TokenKind, TokensRefusal};
 use crate::list::tokens;
+use crate::pieces::{Class, run};
+use crate::refusals::TokensRefusal;
+use crate::slices::{Token, TokenKind};
 use std::alloc::Global;
 
 /// The tokens of a function's file.

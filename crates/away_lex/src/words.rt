@@ -1,13 +1,13 @@
 //! Words, without regard to case.
 
 ghost use Rattle.std.specs.Prelude.{◌≡◌, IfOk};
-ghost use Rattle.away_core.specs.Nesting as token;
-ghost use Rattle.away_core.specs.Reserved as spec;
-ghost use Rattle.away_core.specs.Spellings.{IsNameText};
+ghost use Rattle.away_grammar.specs.Nesting as token;
+ghost use Rattle.away_grammar.specs.Reserved as spec;
+ghost use Rattle.away_grammar.specs.Spellings.{IsNameText};
 ghost use Rattle.away_lex.specs.Lexed.{seen};
 
-use crate::kind::{Token, TokenKind};
-use away_core::{Name, NoMemory, name};
+use crate::slices::{Token, TokenKind};
+use away_values::{Name, NoMemory, name};
 use std::alloc::Global;
 
 const RESERVED: [&str; 53] = [
@@ -90,7 +90,7 @@ impl Token<'_> {
 
 /// Whether the word is reserved, in any case: then it is never a name. The list is our own, and shorter than PostgreSQL's
 /// (PostgreSQL manual, SQL Key Words).
-#[tactic(auto, unfolding(away_core::specs::Reserved::is_reserved))]
+#[tactic(auto, unfolding(away_grammar::specs::Reserved::is_reserved))]
 pub fn is_reserved(word: &str) -> bool
     ensures { result ≡ spec.is_reserved word.now }
 {

@@ -1,68 +1,70 @@
 -- What was written by a run of `compile` that is done.
-use Rattle.std.proofs.Common.{◌≡◌, ◌≢◌, inl, inr, ℕ, ◌≤◌, List, [], ◌∷◌, Some, IfSome, codes, subst, sym, ◌∙◌, refl}
+use Rattle.std.proofs.Common.{◌≡◌, inl, inr, ℕ, List, Some, IfSome, subst, sym, ◌∙◌}
 use Rattle.std.specs.declared.option.Option.{Option}
-use Rattle.std.specs.Io.KnownBytes.{Appends}
+use Rattle.away_top.specs.declared.outside.Files.{Ghosts as Files}
+use Rattle.away_top.specs.declared.outside.Sink.{Ghosts as Sink}
 use Rattle.away_top.specs.declared.status.Status.{Status}
-use Rattle.away_top.specs.declared.status.Status.TheVariants.{Done, Refused, ReadFault, WriteFault}
+use Rattle.away_top.specs.declared.status.Status.TheVariants.{Done, NoMemory, Refused, ReadFault, WriteFault}
+use Rattle.away_types.specs.FunctionChecks.{resolved_function}
+use Rattle.one_return.specs.Compiled.{IsCompiled}
 use Rattle.away_top.specs.Answer.{Delivers}
-use Rattle.away_top.specs.Commands.{Compiles, compile_course, course, function_course, schema_course}
-use Rattle.away_top.specs.Course.{EndsIn, Exactly, Holds, RefusedBy, SomeEnd, StopsAt}
-use Rattle.away_top.specs.Lines.{read_fault, refusal}
-use Rattle.away_top.specs.Refusals.{RefusesFunction, RefusesSchema}
+use Rattle.away_top.specs.Commands.{Compiles, compile_course, course}
+use Rattle.away_top.specs.Course.{RefusedBy}
+use Rattle.away_top.specs.Refusals.{IsFunction, IsSchema}
+use Rattle.away_top.specs.Runs.{End, wants_memory, ended, goes_on, Follows, Holds, StopsAt}
 use Rattle.away_top.specs.Translation.{IsTranslation, Translates}
 
-module _ (held : List ℕ → Option (List ℕ)) (safe : List ℕ → Type 0) (rose : Type 0) (before after : Option (List ℕ)) (room : ℕ) (sink_rose : Type 0) (result : Status) (done : result ≡ Done) where
-  abbrev P : Status → List ℕ → Type 0
-  P = Delivers before after room sink_rose result
+pub translation : (schema func : List ℕ) (s : IsSchema schema) (f : IsFunction s.schema func) (text : List ℕ) → IsCompiled s.schema (resolved_function s.schema f.written) text
+    → IsTranslation schema func text
+translation schema func s f text is = record {
+  tables = s.schema;
+  function = f.written;
+  reads_schema = s.reads_as.reads;
+  tables_unbroken = s.unbroken;
+  reads_function = f.reads_as.reads;
+  function_unbroken = f.unbroken;
+  compiled = is;
+}
 
-  -- the end had the status
-  is_done : (status : Status) (output : List ℕ) → P status output → status ≡ Done
-  is_done status output (inl whole) = sym whole.status_is ∙ done
-  is_done status output (inr broken) =
-      let wrong : WriteFault ≡ Done = sym broken.status_is ∙ done in
-      cc
+module _ {D : Type 0} (F : Files D) where
+  no_stop : (before after : D) (name : List ℕ) (limit : ℕ) (status : Status) (output : List ℕ) → status ≡ Done → StopsAt F before name limit after status output → ⊥
+  no_stop before after name limit status output done (inl (u, e)) = let wrong : ReadFault ≡ Done = sym e.0 ∙ done in cc
+  no_stop before after name limit status output done (inr (long, e)) = let wrong : Refused ≡ Done = sym e.0 ∙ done in cc
 
-  not_read : (output : List ℕ) → P ReadFault output → ⊥
-  not_read output p =
-      let wrong = is_done ReadFault output p in
-      cc
-
-  not_refused : (output : List ℕ) → P Refused output → ⊥
-  not_refused output p =
-      let wrong = is_done Refused output p in
-      cc
-
-  no_stop : (name : List ℕ) (limit : ℕ) → StopsAt (held name) (safe name) rose name limit P → ⊥
-  no_stop name limit (inl (unreadable, p)) = not_read (read_fault name) p
-  no_stop name limit (inr (long, p)) = not_refused (refusal name (codes "LONG")) p
-
-  no_refusal : (name : List ℕ) (Rules : List ℕ → Type 0) (status : Status) (output : List ℕ) → RefusedBy name Rules status output → P status output → ⊥
-  no_refusal name Rules status output (rule, is, e) p = not_refused output (subst (λ s. P s output) e.0 p)
+  no_refusal : (name : List ℕ) (Rules : List ℕ → Type 0) (status : Status) (output : List ℕ) → status ≡ Done → RefusedBy name Rules status output → ⊥
+  no_refusal name Rules status output done (rule, is, e) = let wrong : Refused ≡ Done = sym e.0 ∙ done in cc
 
   same_bytes : (told : Option (List ℕ)) (limit : ℕ) (bytes known : List ℕ) → told ≡ Some known → Holds told limit bytes → bytes ≡ known
   same_bytes told limit bytes known is holds = subst (λ o. IfSome o (λ h. bytes ≡ h)) is holds.same
 
-  -- the whole output was written
-  appended : (status : Status) (output : List ℕ) → P status output → Appends before after output
-  appended status output (inl whole) = whole.written
-  appended status output (inr broken) =
-      let wrong : WriteFault ≡ Done = sym broken.status_is ∙ done in
-      absurd cc
+  compiled : (schema func : List ℕ) (s : IsSchema schema) (f : IsFunction s.schema func) (name text output : List ℕ) (status : Status) → status ≡ Done
+      → Compiles name s.schema (resolved_function s.schema f.written) text status output → IsTranslation schema func output
+  compiled schema func s f name text output status done (inl refused) = absurd (no_refusal name _ status output done refused)
+  compiled schema func s f name text output status done (inr (is, e)) =
+      subst (IsTranslation schema func) (sym e.1) (translation schema func s f text is)
 
-  of_function : (tables func function : List ℕ) → held func ≡ Some function → EndsIn held safe rose (function_course tables func) P → (text : List ℕ) × IsTranslation tables function text × Appends before after text
-  of_function tables func function told (inl stops) = absurd (no_stop func 1048576 stops)
-  of_function tables func function told (inr (bytes, holds, (status, output, inl refused, p))) = absurd (no_refusal func (RefusesFunction bytes) status output refused p)
-  of_function tables func function told (inr (bytes, holds, (status, output, inr (text, translation, e), p))) =
-      (text, subst (λ b. IsTranslation tables b text) (same_bytes (held func) 1048576 bytes function told holds) translation, subst (Appends before after) e.1 (appended status output p))
+  pub of_compile : (old new : D) (schema func text tables function output : List ℕ) (status : Status) → status ≡ Done → F.held old schema ≡ Some tables → F.held old func ≡ Some function
+      → Follows F old (compile_course schema func text) new (ended status output) → IsTranslation tables function output
+  of_compile old new schema func text tables function output status done told_schema told_function (inl h) = absurd h.how
+  of_compile old new schema func text tables function output status done told_schema told_function (inr (middle, read, inl h)) = absurd (no_stop old middle schema 67108864 status output done h.how)
+  of_compile old new schema func text tables function output status done told_schema told_function (inr (middle, read, inr (bytes, holds, inl h))) = absurd (no_refusal schema _ status output done h.how)
+  of_compile old new schema func text tables function output status done told_schema told_function (inr (middle, read, inr (bytes, holds, inr (s, inl h)))) = absurd h.how
+  of_compile old new schema func text tables function output status done told_schema told_function (inr (middle, read, inr (bytes, holds, inr (s, inr (last, reread, inl h))))) = absurd (no_stop middle last func 1048576 status output done h.how)
+  of_compile old new schema func text tables function output status done told_schema told_function (inr (middle, read, inr (bytes, holds, inr (s, inr (last, reread, inr (more, held, inl h)))))) = absurd (no_refusal func _ status output done h.how)
+  of_compile old new schema func text tables function output status done told_schema told_function (inr (middle, read, inr (bytes, holds, inr (s, inr (last, reread, inr (more, held, inr (f, h))))))) =
+      let schema_is = same_bytes (F.held old schema) 67108864 bytes tables told_schema holds in
+      let function_is = same_bytes (F.held middle func) 1048576 more function (read.kept func function told_function) held in
+      subst (λ b. IsTranslation b function output) schema_is (subst (λ b. IsTranslation bytes b output) function_is (compiled bytes more s f func text output status done h.how))
 
-  of_compile : (schema func tables function : List ℕ) → held schema ≡ Some tables → held func ≡ Some function → EndsIn held safe rose (compile_course schema func) P
-      → (text : List ℕ) × IsTranslation tables function text × Appends before after text
-  of_compile schema func tables function told_schema told_function (inl stops) = absurd (no_stop schema 67108864 stops)
-  of_compile schema func tables function told_schema told_function (inr (bytes, holds, inl (status, output, refused, p))) = absurd (no_refusal schema (RefusesSchema bytes) status output refused p)
-  of_compile schema func tables function told_schema told_function (inr (bytes, holds, inr (is_schema, rest))) =
-      let same = same_bytes (held schema) 67108864 bytes tables told_schema holds in
-      of_function tables func function told_function (subst (λ b. EndsIn held safe rose (function_course b func) P) same rest)
-
-  pub translated : (words : List (List ℕ)) → EndsIn held safe rose (course words) P → Translates held before after words
-  translated words e schema func tables function is told_schema told_function =
-      of_compile schema func tables function told_schema told_function (subst (λ ws. EndsIn held safe rose (course ws) P) is e)
+module _ {D K : Type 0} (F : Files D) (S : Sink K) (old new : D) (before after : K) (result : Status) where
+  pub translated : (words : List (List ℕ)) (text : List ℕ) (end : End ⊥) → Follows F old (course words text) new end → Delivers S before after result end → result ≡ Done
+      → Translates (F.held old) (S.written before) (S.written after) words
+  translated words text wants_memory h d done = absurd (let wrong : NoMemory ≡ Done = sym d.status_is ∙ done in cc)
+  translated words text (goes_on never) h d done = absurd never
+  translated words text (ended status output) h (inr broken) done = absurd (let wrong : WriteFault ≡ Done = sym broken.status_is ∙ done in cc)
+  translated words text (ended status output) h (inl whole) done = λ schema func tables function is told_schema told_function. (
+    output,
+    of_compile F old new schema func text tables function output status (sym whole.status_is ∙ done) told_schema told_function
+        (subst (λ ws. Follows F old (course ws text) new (ended status output)) is h),
+    whole.written,
+  )

@@ -1,8 +1,8 @@
 -- The lines that are written in place of an output.
 use Rattle.std.specs.Prelude.{ℕ, List, [], ◌∷◌, ◌++◌, codes}
 use Rattle.std.specs.Fmt.{decimal}
-use Rattle.away_lex.specs.declared.kind.LimitKind.{LimitKind}
-use Rattle.away_lex.specs.declared.kind.LimitKind.TheVariants.{Nesting, Nodes, Variables, Loops}
+use Rattle.away_lex.specs.declared.refusals.LimitKind.{LimitKind}
+use Rattle.away_lex.specs.declared.refusals.LimitKind.TheVariants.{Nesting, Nodes, Variables, Loops}
 
 -- a text and LF
 abbrev pub line : List ℕ → List ℕ
@@ -30,6 +30,10 @@ limit_name Nodes = codes "nodes"
 limit_name Variables = codes "variables"
 limit_name Loops = codes "loops"
 
+-- the rule of names, scopes or types of this number
+abbrev pub numbered_rule : ℕ → List ℕ
+numbered_rule rule = codes "X" ++ decimal rule
+
 -- the rule of a limit, with what is counted and the count
-abbrev pub exceeded : LimitKind → ℕ → List ℕ
-exceeded which found = codes "X5 " ++ (limit_name which ++ (codes " " ++ decimal found))
+abbrev pub limit_rule : LimitKind → ℕ → List ℕ
+limit_rule which found = codes "X5 " ++ (limit_name which ++ (codes " " ++ decimal found))

@@ -1,7 +1,7 @@
 -- What the sink in memory stands for.
 use Rattle.std.specs.Prelude.{◌≡◌, ◌≤◌, ◌==◌, ℕ, min, unwrap_or, nat_lt, ◌&&◌, Bool, true, List, [], ◌∷◌, Some, None, if◌then◌else◌}
 use Rattle.std.specs.declared.option.Option.{Option}
-use Rattle.away_top.specs.MemoryFiles.{counted}
+use Rattle.away_top.specs.Outside.{next_count}
 
 -- what was written, the room that is left, the numbers of the writes that fail with the bytes that each takes
 pub record RoomySink : Type 0 where
@@ -18,17 +18,18 @@ taken_at (fail ∷ fails) call = if fail.0 == call then Some fail.1 else taken_a
 
 -- the next write isn't one that fails, and so many bytes fit the room
 pub record IsWhole (sink : RoomySink) (count : ℕ) : Type 0 where
-  pub unlisted : taken_at sink.fails (counted sink.calls) ≡ None
+  pub unlisted : taken_at sink.fails (next_count sink.calls) ≡ None
   pub fits : count ≤ sink.room
 
--- how many bytes of a piece a write takes that fails: those that are listed, or all, as far as there are some and the room goes
+-- how many bytes of a piece a write takes that fails: those that are listed, or all, as far as there are some and the
+-- room goes
 abbrev pub front : RoomySink → ℕ → ℕ
-front sink count = min (min (unwrap_or (taken_at sink.fails (counted sink.calls)) count) count) sink.room
+front sink count = min (min (unwrap_or (taken_at sink.fails (next_count sink.calls)) count) count) sink.room
 
 -- each of these calls lies behind
 abbrev pub are_past : ℕ → List (ℕ × ℕ) → Bool
 are_past calls [] = true
-are_past calls (fail ∷ fails) = nat_lt fail.0 (counted calls) && are_past calls fails
+are_past calls (fail ∷ fails) = nat_lt fail.0 (next_count calls) && are_past calls fails
 
 -- all the room, where no listed failure is still to come
 abbrev pub safe_room : RoomySink → ℕ

@@ -1,16 +1,20 @@
--- What the files of a run read as, and which rules they are refused by.
-use Rattle.std.specs.Prelude.{◌≡◌, ◌⊎◌, ℕ, List, codes}
-use Rattle.away_core.specs.declared.schemas.Schema.{Schema}
-use Rattle.away_core.specs.declared.statements.Function.{Function}
-use Rattle.away_core.specs.FunctionGrammar.{ReadsFunction}
-use Rattle.away_core.specs.Texts.{ReadsSchema}
-use Rattle.away_lex.specs.declared.kind.ReadRefusal.{ReadRefusal}
-use Rattle.away_lex.specs.declared.kind.ReadRefusal.TheVariants.{NotText, Token, NoTree, Outside, Limit, NoMemory}
-use Rattle.sql_text.specs.Refusals as query
-use Rattle.plsql_parse.specs.Refusals as function
+-- What the files of a run read as and are judged to be, and which rules they are refused by.
+use Rattle.std.specs.Prelude.{◌≡◌, ◌≢◌, ◌⊎◌, ℕ, List, codes}
+use Rattle.away_trees.specs.declared.schemas.Schema.{Schema}
+use Rattle.away_trees.specs.declared.statements.Function.{Function}
+use Rattle.away_trees.specs.Limits.{KeepsLimits}
+use Rattle.away_grammar.specs.FunctionGrammar.{ReadsFunction}
+use Rattle.away_grammar.specs.Texts.{ReadsSchema}
+use Rattle.away_lex.specs.declared.refusals.ReadRefusal.{ReadRefusal}
+use Rattle.away_lex.specs.declared.refusals.ReadRefusal.TheVariants.{NotText, Token, NoTree, Outside, Limit, NoMemory}
+use Rattle.sql_text.specs.Refusals as texts
+use Rattle.plsql_parse.specs.Refusals as functions
+use Rattle.away_names.specs.declared.note.Note.{Note}
+use Rattle.away_types.specs.FunctionChecks.{function_note}
+use Rattle.away_types.specs.Refusals.{IsUnbroken}
+use Rattle.away_names.specs.Schemas.{schema_note}
 use Rattle.one_return.specs.Form.{HasForm}
-use Rattle.one_return.specs.Refusals.{HasUnknownName}
-use Rattle.away_top.specs.Lines.{bad_token, exceeded, outside_word}
+use Rattle.away_top.specs.Lines.{bad_token, limit_rule, numbered_rule, outside_word}
 
 -- The rule that a reader's refusal is printed as, with its details. Want of memory is no refusal of the file.
 abbrev pub IsRule : ReadRefusal → List ℕ → Type 0
@@ -18,31 +22,62 @@ IsRule NotText rule = rule ≡ codes "X1"
 IsRule (Token offset) rule = rule ≡ bad_token offset
 IsRule NoTree rule = rule ≡ codes "X3"
 IsRule (Outside word) rule = rule ≡ outside_word word
-IsRule (Limit which found) rule = rule ≡ exceeded which found
+IsRule (Limit which found) rule = rule ≡ limit_rule which found
 IsRule NoMemory rule = ⊥
 
 -- the reader refuses the bytes by the rule
 abbrev pub RefusesRead : (ReadRefusal → Type 0) → List ℕ → Type 0
 RefusesRead Refuses rule = (refusal : ReadRefusal) × Refuses refusal × IsRule refusal rule
 
+-- the least rule of names, scopes and types that a tree breaks is this one; 255 is no rule
+pub record BreaksRule (note : Note) (rule : List ℕ) : Type 0 where
+  pub broken : note.least ≢ 255
+  pub rule_is : rule ≡ numbered_rule note.least
+
 -- ---- the schema
 
-abbrev pub RefusesSchema : List ℕ → List ℕ → Type 0
-RefusesSchema bytes = RefusesRead (query.Refuses (ReadsSchema bytes) bytes)
+-- the bytes read as this schema
+pub record ReadsAsSchema (bytes : List ℕ) (schema : Schema) : Type 0 where
+  pub may_be_read : texts.MayBeRead bytes
+  pub reads : ReadsSchema bytes schema
 
--- it reads as a schema
-abbrev pub IsSchema : List ℕ → Type 0
-IsSchema bytes = (schema : Schema) × query.MayBeRead bytes × ReadsSchema bytes schema
+-- the schema that the bytes read as, which breaks no rule
+pub record IsSchema (bytes : List ℕ) : Type 0 where
+  pub schema : Schema
+  pub reads_as : ReadsAsSchema bytes schema
+  pub unbroken : IsUnbroken (schema_note schema)
+
+-- the checked schema is the one that was read, which breaks no rule
+pub record IsKept (read checked : Schema) : Type 0 where
+  pub same : checked ≡ read
+  pub unbroken : IsUnbroken (schema_note read)
+
+-- it isn't read, or it breaks a rule
+abbrev pub RefusesSchema : List ℕ → List ℕ → Type 0
+RefusesSchema bytes rule =
+    RefusesRead (texts.Refuses (ReadsSchema bytes) bytes) rule
+    ⊎ ((schema : Schema) × ReadsAsSchema bytes schema × BreaksRule (schema_note schema) rule)
 
 -- ---- the function
 
--- it reads as this function, within the limits
-abbrev pub ReadsWithin : List ℕ → Function → Type 0
-ReadsWithin bytes f = function.MayBeRead bytes × ReadsFunction bytes f × function.KeepsLimits f
+-- the bytes read as this function, within the limits
+pub record ReadsAsFunction (bytes : List ℕ) (function : Function) : Type 0 where
+  pub may_be_read : functions.MayBeRead bytes
+  pub reads : ReadsFunction bytes function
+  pub within_limits : KeepsLimits function
 
--- A function that reads isn't of the form that is compiled, or a name in it stands for nothing.
+-- the function that the bytes read as, which breaks no rule over the tables of the schema
+pub record IsFunction (schema : Schema) (bytes : List ℕ) : Type 0 where
+  pub written : Function
+  pub reads_as : ReadsAsFunction bytes written
+  pub unbroken : IsUnbroken (function_note schema written)
+
+-- it isn't read, or it breaks a rule
+abbrev pub RefusesFunction : Schema → List ℕ → List ℕ → Type 0
+RefusesFunction schema bytes rule =
+    RefusesRead (functions.Refuses bytes) rule
+    ⊎ ((function : Function) × ReadsAsFunction bytes function × BreaksRule (function_note schema function) rule)
+
+-- the function, whose names are resolved, isn't of the form that is compiled
 abbrev pub RefusesForm : Function → List ℕ → Type 0
-RefusesForm f rule = (¬ (HasForm f) × (rule ≡ codes "UNBUILT")) ⊎ (HasUnknownName f × (rule ≡ codes "X7"))
-
-abbrev pub RefusesFunction : List ℕ → List ℕ → Type 0
-RefusesFunction bytes rule = RefusesRead (function.Refuses bytes) rule ⊎ ((f : Function) × ReadsWithin bytes f × RefusesForm f rule)
+RefusesForm function rule = ¬ (HasForm function) × (rule ≡ codes "UNBUILT")

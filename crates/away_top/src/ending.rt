@@ -1,13 +1,13 @@
 //! How a run ends: a status and all that it writes.
 
 ghost use Rattle.std.specs.Prelude.{◌≡◌, IfOk, codes};
-ghost use Rattle.away_top.specs.Lines.{bad_token, exceeded, limit_name, line, outside_word, read_fault, refusal};
+ghost use Rattle.away_top.specs.Lines.{bad_token, limit_rule, limit_name, line, numbered_rule, outside_word, read_fault, refusal};
 ghost use Rattle.away_top.specs.Help.{help_text, version_text};
 ghost use Rattle.away_top.specs.Steps.{IsEnding};
 
 use crate::Status;
-use away_core::Name;
 use away_lex::LimitKind;
+use away_values::Name;
 use itoa::Buffer;
 use std::alloc::{AllocError, Global};
 
@@ -19,6 +19,25 @@ const HELP: &[u8] =
 pub struct Ending {
     pub status: Status,
     pub output: Vec<u8>,
+}
+
+/// Why a run goes on no further.
+#[derive(Drop)]
+pub enum Halt {
+    /// It has ended.
+    Ended(Ending),
+    NoMemory,
+}
+
+impl From<AllocError> for Halt {
+    ghost use Rattle.std.specs.Prelude.{◌≡◌};
+    ghost use Rattle.away_top.specs.declared.ending.Halt.TheVariants.{NoMemory};
+
+    ghost from_gives = { λ _ e. e ≡ NoMemory };
+
+    fn from(_error: AllocError) -> Halt {
+        Halt::NoMemory
+    }
 }
 
 fn with_output(alloc: Global, status: Status, output: &[u8]) -> Result<Ending, AllocError>
@@ -98,6 +117,16 @@ pub fn refused_word(alloc: Global, name: &str, word: &Name) -> Result<Ending, Al
     refused(alloc, name, &rule)
 }
 
+/// The file is refused for a rule of names, scopes or types.
+pub fn refused_rule(alloc: Global, name: &str, number: u8) -> Result<Ending, AllocError>
+    ensures { IfOk result (λ ending. IsEnding ending Status.Refused (refusal name.now (numbered_rule number))) }
+{
+    let mut buffer = Buffer::new();
+    let mut rule = b"X".to_vec(alloc)?;
+    rule.extend_from_slice(buffer.format(number).as_bytes())?;
+    refused(alloc, name, &rule)
+}
+
 /// The file is refused for a limit.
 pub fn refused_limit(
     alloc: Global,
@@ -105,7 +134,7 @@ pub fn refused_limit(
     which: LimitKind,
     found: u64,
 ) -> Result<Ending, AllocError>
-    ensures { IfOk result (λ ending. IsEnding ending Status.Refused (refusal name.now (exceeded which found))) }
+    ensures { IfOk result (λ ending. IsEnding ending Status.Refused (refusal name.now (limit_rule which found))) }
 {
     let mut buffer = Buffer::new();
     let mut rule = b"X5 ".to_vec(alloc)?;

@@ -1,15 +1,21 @@
-//! When the objects in memory promise a complete answer.
+//! Runs over files and a sink in memory.
 
-ghost use Rattle.std.specs.Prelude.{◌≡◌, ℕ, List, [], IsSome};
-ghost use Rattle.away_top.specs.Commands.{course};
-ghost use Rattle.away_top.specs.Course.{EachRead};
-ghost use Rattle.away_top.specs.MemoryFiles.{HeldFiles, IsSafeName, held_at};
-ghost use Rattle.away_top.specs.MemorySink.{RoomySink, safe_room};
+ghost use Rattle.std.specs.Prelude.{◌≡◌, ℕ, List, [], map, string_bytes};
+ghost use Rattle.away_top.specs.InMemory.{MayCompile, Translated};
 
-/// Files in memory of which none is to fail are safe where they are held, and a sink of which no write is to fail has all its
-/// room: so `away` answers completely over them, where the names are held and the room is enough.
-pub fn memory_meets_the_premise()
-    ensures files { (m : HeldFiles) (words : List (List ℕ)) → m.fails ≡ [] → EachRead (λ name. IsSome (held_at m.held name)) (held_at m.held) (course words)
-        → EachRead (IsSafeName m) (held_at m.held) (course words) }
-    ensures sink { (s : RoomySink) → s.fails ≡ [] → safe_room s ≡ s.room }
-{}
+use crate::{MemoryFiles, MemorySink, Status, away};
+use std::alloc::Global;
+
+/// Runs `away` over files and a sink in memory. Where the words are those of `compile`, the files that they name are
+/// held and fit, and no read or write is to fail, only want of memory or of room is in the way of a translation.
+pub fn away_in_memory(
+    alloc: Global,
+    words: &[String],
+    files: &mut MemoryFiles,
+    out: &mut MemorySink,
+) -> Status
+    ensures { (tables function : List ℕ) → MayCompile files.old (map string_bytes words.now) tables function
+        → out.old.fails ≡ [] → Translated out.old out.new result tables function }
+{
+    away(alloc, words, files, out)
+}

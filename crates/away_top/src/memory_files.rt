@@ -1,8 +1,8 @@
 //! Files in memory, which fail at the calls that they are told.
 
 ghost use Rattle.std.specs.Prelude.{◌≡◌, ◌↔◌, ◌+◌, ◌<◌, ◌≤◌, ℕ, List, length, map, IfErr, IfOk, IfSome, IsErrOf, IsTrue, MatchOption, MatchResult, string_bytes, Contains};
-ghost use Rattle.away_top.specs.Outside.{IsTooLong, Keeps, Rose, Stays};
-ghost use Rattle.away_top.specs.MemoryFiles.{counted, held_at, IsCountedFailure, IsSafeName};
+ghost use Rattle.away_top.specs.Outside.{next_count, IsTooLong, Keeps, Rose, Stays};
+ghost use Rattle.away_top.specs.MemoryFiles.{held_at, IsCountedFailure, IsNextFiles, IsSafeName};
 
 use crate::{Files, ReadError};
 use std::alloc::Global;
@@ -23,12 +23,17 @@ impl Model for MemoryFiles {
 
     ghost Value = { HeldFiles };
 
-    ghost view = { λ m. record { held = map (λ pair. (string_bytes pair.0, pair.1.items)) m.held.items; fails = m.fails.items; calls = m.calls; faults = m.faults } };
+    ghost view = { λ m. record {
+      held = map (λ pair. (string_bytes pair.0, pair.1.items)) m.held.items;
+      fails = m.fails.items;
+      calls = m.calls;
+      faults = m.faults;
+    } };
 }
 
 impl MemoryFiles {
     /// These pairs of name and bytes, of which the first counts where two have one name. The reads with these numbers,
-    /// counted from 1, fail.
+    /// next_count from 1, fail.
     pub fn new(held: Vec<(String, Vec<u8>)>, fails: Vec<u64>) -> MemoryFiles
         ensures held { result.held ≡ map (λ pair. (string_bytes pair.0, pair.1.items)) held.items }
         ensures fails { result.fails ≡ fails.items }
@@ -51,10 +56,13 @@ impl Files for MemoryFiles {
 
     ghost faults = { λ m. m.faults };
 
+    ghost read_leaves = { λ old _ new. IsNextFiles old new };
+
     ghost safe_is_told = { λ m name safe. safe.held };
 
     fn read(&mut self, alloc: Global, name: &str, limit: u64) -> Result<Vec<u8>, ReadError>
         // As of every implementation:
+        ensures read { IsNextFiles self.old self.new }
         ensures kept { Keeps (held_at self.old.held) (held_at self.new.held) }
         ensures safe { Stays (IsSafeName self.old) (IsSafeName self.new) }
         ensures later { self.old.faults ≤ self.new.faults }
@@ -63,16 +71,19 @@ impl Files for MemoryFiles {
         ensures long { IfErr result (IsTooLong limit (held_at self.old.held name.now)) }
         ensures failed { IsErrOf result ReadError.Failed → Rose self.old.faults self.new.faults }
         ensures unsafe_name { IsErrOf result ReadError.Failed → IsSafeName self.old name.now → ⊥ }
-        ensures quiet { ¬ (IsErrOf result ReadError.Failed) → self.new.faults ≡ self.old.faults }
 
         // And exactly:
-        ensures listed { Contains self.old.fails (counted self.old.calls) → IsCountedFailure self.old.faults result self.new.faults }
-        ensures missing { ¬ (Contains self.old.fails (counted self.old.calls)) → held_at self.old.held name.now ≡ None → IsCountedFailure self.old.faults result self.new.faults }
-        ensures too_long { (bytes : List ℕ) → ¬ (Contains self.old.fails (counted self.old.calls)) → held_at self.old.held name.now ≡ Some bytes → limit < length bytes
+        ensures listed { Contains self.old.fails (next_count self.old.calls)
+            → IsCountedFailure self.old.faults result self.new.faults }
+        ensures missing { ¬ (Contains self.old.fails (next_count self.old.calls)) → held_at self.old.held name.now ≡ None
+            → IsCountedFailure self.old.faults result self.new.faults }
+        ensures too_long { (bytes : List ℕ) → ¬ (Contains self.old.fails (next_count self.old.calls))
+            → held_at self.old.held name.now ≡ Some bytes → limit < length bytes
             → (result ≡ Err (ReadError.Long (limit + 1))) × (self.new.faults ≡ self.old.faults) }
-        ensures whole { (bytes : List ℕ) → ¬ (Contains self.old.fails (counted self.old.calls)) → held_at self.old.held name.now ≡ Some bytes → length bytes ≤ limit
-            → MatchResult result (λ v. v.items ≡ bytes) (λ error. error ≡ ReadError.NoMemory) × (self.new.faults ≡ self.old.faults) }
-        ensures stays { (self.new.held ≡ self.old.held) × (self.new.fails ≡ self.old.fails) × (self.new.calls ≡ counted self.old.calls) }
+        ensures whole { (bytes : List ℕ) → ¬ (Contains self.old.fails (next_count self.old.calls))
+            → held_at self.old.held name.now ≡ Some bytes → length bytes ≤ limit
+            → MatchResult result (λ v. v.items ≡ bytes) (λ error. error ≡ ReadError.NoMemory)
+            × (self.new.faults ≡ self.old.faults) }
     {
         self.calls = self.calls.saturating_add(1);
         if is_listed(&self.fails, self.calls) {
@@ -102,7 +113,8 @@ fn is_listed(fails: &[u64], call: u64) -> bool
 
 // What a name holds.
 fn find<'a>(held: &'a [(String, Vec<u8>)], name: &str) -> Option<&'a [u8]>
-    ensures { MatchOption result (held_at (map (λ pair. (string_bytes pair.0, pair.1.items)) held.now) name.now ≡ None) (λ bytes. held_at (map (λ pair. (string_bytes pair.0, pair.1.items)) held.now) name.now ≡ Some bytes.now) }
+    ensures { MatchOption result (held_at (map (λ pair. (string_bytes pair.0, pair.1.items)) held.now) name.now ≡ None)
+        (λ bytes. held_at (map (λ pair. (string_bytes pair.0, pair.1.items)) held.now) name.now ≡ Some bytes.now) }
 {
     let mut rest = held;
     while let [(key, bytes), others @ ..] = rest {

@@ -2,12 +2,11 @@
 
 ghost use Rattle.std.specs.Prelude.{◌≡◌, ◌+◌, ◌≤◌, ◌++◌, [], Some, length, take, IfOk, IsErr, IsOk, OnErr, OnOk, ◌<◌, vec_len, vec_capacity};
 ghost use Rattle.std.specs.Io.KnownBytes.{Appends};
-ghost use Rattle.away_top.specs.Outside.{AppendsPrefix, Fills, Rose};
-ghost use Rattle.away_top.specs.MemoryFiles.{counted};
+ghost use Rattle.away_top.specs.Outside.{AppendsPrefix, next_count, Fills, Rose};
 ghost use Rattle.away_top.specs.MemorySink.{IsWhole, front, taken_at, safe_room};
 
 use crate::{Sink, WriteFailed};
-use away_core::NoMemory;
+use away_values::NoMemory;
 use std::alloc::Global;
 use std::marker::Model;
 
@@ -27,13 +26,19 @@ impl Model for MemorySink {
 
     ghost Value = { RoomySink };
 
-    ghost view = { λ m. record { bytes = m.bytes.items; room = m.room; fails = m.fails.items; calls = m.calls; faults = m.faults } };
+    ghost view = { λ m. record {
+      bytes = m.bytes.items;
+      room = m.room;
+      fails = m.fails.items;
+      calls = m.calls;
+      faults = m.faults;
+    } };
 
     ghost invariant = { λ m. vec_len m.bytes + m.room ≤ vec_capacity m.bytes };
 }
 
 impl MemorySink {
-    /// Room for so many bytes, all taken at once. The writes with these numbers, counted from 1, fail, and take the
+    /// Room for so many bytes, all taken at once. The writes with these numbers, next_count from 1, fail, and take the
     /// number of bytes beside it. The first of two entries with one number counts.
     pub fn new(alloc: Global, room: usize, fails: Vec<(u64, usize)>) -> Result<MemorySink, NoMemory>
         ensures bytes { IfOk result (λ sink. sink.bytes ≡ []) }
@@ -73,13 +78,18 @@ impl Sink for MemorySink {
         ensures part { OnErr result (AppendsPrefix (Some self.old.bytes) (Some self.new.bytes) piece.now) }
         ensures later { self.old.faults ≤ self.new.faults }
         ensures failed { OnErr result (Rose self.old.faults self.new.faults) }
-        ensures room { 0 < length piece.now → length piece.now ≤ safe_room self.old → Fills result (safe_room self.old) (safe_room self.new) (length piece.now) }
+        ensures room { 0 < length piece.now → length piece.now ≤ safe_room self.old
+            → Fills result (safe_room self.old) (safe_room self.new) (length piece.now) }
 
         // And exactly:
-        ensures taken { IsWhole self.old (length piece.now) → IsOk result × (self.new.bytes ≡ self.old.bytes ++ piece.now) × (self.new.room + length piece.now ≡ self.old.room) × (self.new.faults ≡ self.old.faults) }
-        ensures cut { ¬ (IsWhole self.old (length piece.now)) → IsErr result × (self.new.bytes ≡ self.old.bytes ++ take (front self.old (length piece.now)) piece.now)
-            × (self.new.room + front self.old (length piece.now) ≡ self.old.room) × (self.new.faults ≡ counted self.old.faults) }
-        ensures stays { (self.new.fails ≡ self.old.fails) × (self.new.calls ≡ counted self.old.calls) }
+        ensures taken { IsWhole self.old (length piece.now)
+            → IsOk result × (self.new.bytes ≡ self.old.bytes ++ piece.now)
+            × (self.new.room + length piece.now ≡ self.old.room) × (self.new.faults ≡ self.old.faults) }
+        ensures cut { ¬ (IsWhole self.old (length piece.now))
+            → IsErr result × (self.new.bytes ≡ self.old.bytes ++ take (front self.old (length piece.now)) piece.now)
+            × (self.new.room + front self.old (length piece.now) ≡ self.old.room)
+            × (self.new.faults ≡ next_count self.old.faults) }
+        ensures stays { (self.new.fails ≡ self.old.fails) × (self.new.calls ≡ next_count self.old.calls) }
     {
         self.calls = self.calls.saturating_add(1);
         let failure = failure_at(&self.fails, self.calls);

@@ -1,110 +1,110 @@
--- Whether an expression is of integers, names, sums, differences and products, by its parts.
-use Rattle.std.proofs.Common.{◌≡◌, refl, ℕ, pos, negsuc, Bool, true, false, ◌&&◌, List, map, Option}
-use Rattle.away_core.specs.declared.types.Ty.{Ty}
-use Rattle.away_core.specs.declared.operators.ChainOp.{ChainOp}
-use Rattle.away_core.specs.declared.operators.CmpOp.{CmpOp}
-use Rattle.away_core.specs.declared.operators.IsTest.{IsTest}
-use Rattle.away_core.specs.declared.queries.Col.{Col}
-use Rattle.away_core.specs.declared.queries.Query.{Query}
-use Rattle.away_core.specs.declared.queries.Expr.{Expr}
-use Rattle.away_core.specs.declared.queries.Expr.TheVariants as expr
-use Rattle.away_core.proofs.Equations as eq
+-- Whether an expression is of integers, slots, sums, differences and products, by its parts.
+use Rattle.std.proofs.Common.{◌≡◌, refl, ℕ, nat_lt, pos, negsuc, Bool, true, false, ◌&&◌, List, map, Option}
+use Rattle.away_values.specs.declared.types.Ty.{Ty}
+use Rattle.away_values.specs.declared.operators.ChainOp.{ChainOp}
+use Rattle.away_values.specs.declared.operators.CmpOp.{CmpOp}
+use Rattle.away_values.specs.declared.operators.IsTest.{IsTest}
+use Rattle.away_trees.specs.declared.queries.Col.{Col}
+use Rattle.away_trees.specs.declared.queries.Query.{Query}
+use Rattle.away_trees.specs.declared.queries.Expr.{Expr}
+use Rattle.away_trees.specs.declared.queries.Expr.TheVariants as expr
+use Rattle.away_trees.proofs.Equations as eq
 use Rattle.one_return.specs.Form.{arithmetic_only, arithmetic, judged, are_of_one_level}
 
-pub of_natural : (n : ℕ) → arithmetic (expr.Int (pos n)) ≡ true
+pub of_natural : (p : ℕ) (n : ℕ) → arithmetic p (expr.Int (pos n)) ≡ true
 unfolding arithmetic
-of_natural n = refl
+of_natural p n = refl
 
-pub of_negative : (n : ℕ) → arithmetic (expr.Int (negsuc n)) ≡ false
+pub of_negative : (p : ℕ) (n : ℕ) → arithmetic p (expr.Int (negsuc n)) ≡ false
 unfolding arithmetic
-of_negative n = refl
+of_negative p n = refl
 
-pub of_named : (n : List ℕ) → arithmetic (expr.Named n) ≡ true
+pub of_named : (p : ℕ) (n : List ℕ) → arithmetic p (expr.Named n) ≡ false
 unfolding arithmetic
-of_named n = refl
+of_named p n = refl
 
-pub of_chain : (e : Expr) (links : List (ChainOp × Expr)) → arithmetic (expr.Chain e links) ≡ arithmetic e && are_of_one_level (map judged links)
+pub of_chain : (p : ℕ) (e : Expr) (links : List (ChainOp × Expr)) → arithmetic p (expr.Chain e links) ≡ arithmetic p e && are_of_one_level (map (judged p) links)
 unfolding arithmetic
-of_chain e links = eq.of_chain arithmetic_only e links
+of_chain p e links = eq.of_chain (arithmetic_only p) e links
 
-pub of_str : (t : List ℕ) → arithmetic (expr.Str t) ≡ false
+pub of_str : (p : ℕ) (t : List ℕ) → arithmetic p (expr.Str t) ≡ false
 unfolding arithmetic
-of_str t = refl
+of_str p t = refl
 
-pub of_bool : (v : Bool) → arithmetic (expr.Bool v) ≡ false
+pub of_bool : (p : ℕ) (v : Bool) → arithmetic p (expr.Bool v) ≡ false
 unfolding arithmetic
-of_bool v = refl
+of_bool p v = refl
 
-pub of_null : arithmetic expr.Null ≡ false
+pub of_null : (p : ℕ) → arithmetic p expr.Null ≡ false
 unfolding arithmetic
-of_null = refl
+of_null p = refl
 
-pub of_dotted : (n c : List ℕ) → arithmetic (expr.Dotted n c) ≡ false
+pub of_dotted : (p : ℕ) (n c : List ℕ) → arithmetic p (expr.Dotted n c) ≡ false
 unfolding arithmetic
-of_dotted n c = refl
+of_dotted p n c = refl
 
-pub of_slot : (i : ℕ) → arithmetic (expr.Slot i) ≡ false
+pub of_slot : (p : ℕ) (i : ℕ) → arithmetic p (expr.Slot i) ≡ nat_lt i p
 unfolding arithmetic
-of_slot i = refl
+of_slot p i = refl
 
-pub of_column : (c : Col) → arithmetic (expr.Column c) ≡ false
+pub of_column : (p : ℕ) (c : Col) → arithmetic p (expr.Column c) ≡ false
 unfolding arithmetic
-of_column c = refl
+of_column p c = refl
 
-pub of_param : (i : ℕ) (t : Ty) → arithmetic (expr.Param i t) ≡ false
+pub of_param : (p : ℕ) (i : ℕ) (t : Ty) → arithmetic p (expr.Param i t) ≡ false
 unfolding arithmetic
-of_param i t = refl
+of_param p i t = refl
 
-pub of_neg : (e : Expr) → arithmetic (expr.Neg e) ≡ false
+pub of_neg : (p : ℕ) (e : Expr) → arithmetic p (expr.Neg e) ≡ false
 unfolding arithmetic
-of_neg e = eq.of_neg arithmetic_only e
+of_neg p e = eq.of_neg (arithmetic_only p) e
 
-pub of_neg_small : (e : Expr) → arithmetic (expr.NegSmall e) ≡ false
+pub of_neg_small : (p : ℕ) (e : Expr) → arithmetic p (expr.NegSmall e) ≡ false
 unfolding arithmetic
-of_neg_small e = eq.of_negsmall arithmetic_only e
+of_neg_small p e = eq.of_negsmall (arithmetic_only p) e
 
-pub of_not : (e : Expr) → arithmetic (expr.Not e) ≡ false
+pub of_not : (p : ℕ) (e : Expr) → arithmetic p (expr.Not e) ≡ false
 unfolding arithmetic
-of_not e = eq.of_not arithmetic_only e
+of_not p e = eq.of_not (arithmetic_only p) e
 
-pub of_is : (e : Expr) (test : IsTest) (negative : Bool) → arithmetic (expr.Is e test negative) ≡ false
+pub of_is : (p : ℕ) (e : Expr) (test : IsTest) (negative : Bool) → arithmetic p (expr.Is e test negative) ≡ false
 unfolding arithmetic
-of_is e test negative = eq.of_is arithmetic_only e test negative
+of_is p e test negative = eq.of_is (arithmetic_only p) e test negative
 
-pub of_compare : (op : CmpOp) (x y : Expr) → arithmetic (expr.Compare op x y) ≡ false
+pub of_compare : (p : ℕ) (op : CmpOp) (x y : Expr) → arithmetic p (expr.Compare op x y) ≡ false
 unfolding arithmetic
-of_compare op x y = eq.of_compare arithmetic_only op x y
+of_compare p op x y = eq.of_compare (arithmetic_only p) op x y
 
-pub of_between : (negative : Bool) (x y z : Expr) → arithmetic (expr.Between negative x y z) ≡ false
+pub of_between : (p : ℕ) (negative : Bool) (x y z : Expr) → arithmetic p (expr.Between negative x y z) ≡ false
 unfolding arithmetic
-of_between negative x y z = eq.of_between arithmetic_only negative x y z
+of_between p negative x y z = eq.of_between (arithmetic_only p) negative x y z
 
-pub of_one_of : (negative : Bool) (x : Expr) (xs : List Expr) → arithmetic (expr.OneOf negative x xs) ≡ false
+pub of_one_of : (p : ℕ) (negative : Bool) (x : Expr) (xs : List Expr) → arithmetic p (expr.OneOf negative x xs) ≡ false
 unfolding arithmetic
-of_one_of negative x xs = eq.of_oneof arithmetic_only negative x xs
+of_one_of p negative x xs = eq.of_oneof (arithmetic_only p) negative x xs
 
-pub of_cast : (e : Expr) (t : Ty) → arithmetic (expr.Cast e t) ≡ false
+pub of_cast : (p : ℕ) (e : Expr) (t : Ty) → arithmetic p (expr.Cast e t) ≡ false
 unfolding arithmetic
-of_cast e t = eq.of_cast arithmetic_only e t
+of_cast p e t = eq.of_cast (arithmetic_only p) e t
 
-pub of_cases : (arms : List (Expr × Expr)) (other : Option Expr) → arithmetic (expr.Cases arms other) ≡ false
+pub of_cases : (p : ℕ) (arms : List (Expr × Expr)) (other : Option Expr) → arithmetic p (expr.Cases arms other) ≡ false
 unfolding arithmetic
-of_cases arms other = eq.of_cases arithmetic_only arms other
+of_cases p arms other = eq.of_cases (arithmetic_only p) arms other
 
-pub of_call : (n : List ℕ) (es : List Expr) → arithmetic (expr.Call n es) ≡ false
+pub of_call : (p : ℕ) (n : List ℕ) (es : List Expr) → arithmetic p (expr.Call n es) ≡ false
 unfolding arithmetic
-of_call n es = eq.of_call arithmetic_only n es
+of_call p n es = eq.of_call (arithmetic_only p) n es
 
-pub of_count_rows : arithmetic expr.CountRows ≡ false
+pub of_count_rows : (p : ℕ) → arithmetic p expr.CountRows ≡ false
 unfolding arithmetic
-of_count_rows = refl
+of_count_rows p = refl
 
-pub of_scalar : (q : Query) → arithmetic (expr.Scalar q) ≡ false
+pub of_scalar : (p : ℕ) (q : Query) → arithmetic p (expr.Scalar q) ≡ false
 unfolding arithmetic
-of_scalar q = eq.of_scalar arithmetic_only q
+of_scalar p q = eq.of_scalar (arithmetic_only p) q
 
-pub of_exists : (q : Query) → arithmetic (expr.Exists q) ≡ false
+pub of_exists : (p : ℕ) (q : Query) → arithmetic p (expr.Exists q) ≡ false
 unfolding arithmetic
-of_exists q = eq.of_exists arithmetic_only q
+of_exists p q = eq.of_exists (arithmetic_only p) q
 
 pub ruleset arithmetic_rules = (of_natural, of_negative, of_named, of_chain, of_str, of_bool, of_null, of_dotted, of_slot, of_column, of_param, of_neg, of_neg_small, of_not, of_is, of_compare, of_between, of_one_of, of_cast, of_cases, of_call, of_count_rows, of_scalar, of_exists)

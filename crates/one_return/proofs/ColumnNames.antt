@@ -5,7 +5,7 @@ use Rattle.std.specs.List.{list_all}
 use Rattle.std.proofs.lemmas.Bool.Decides.{nat_tests}
 use Rattle.std.proofs.lemmas.Fmt.{decimal_by_steps, length-decimal-le}
 use Rattle.std.proofs.lemmas.List.Folds.{list_all-append}
-use Rattle.away_core.specs.Words.{IsName, is_name_byte}
+use Rattle.away_values.specs.Words.{IsName, is_name_byte}
 
 digit : (n : ℕ) → n < 10 → is_name_byte (48 + n) ≡ true
 digit n lt = grind (arith, nat_tests)

@@ -1,8 +1,8 @@
 -- The lists of the template, with one more at their end.
 use Rattle.std.proofs.Common.{◌≡◌, ap, ◌∙◌, ℕ, zero, suc, ◌+◌, List, [], ◌∷◌, ◌++◌, map, length, arith}
 use Rattle.std.proofs.lemmas.List.{map-append, length-map}
-use Rattle.away_core.specs.declared.types.Ty.{Ty}
-use Rattle.away_core.specs.declared.queries.Expr.TheVariants as expr
+use Rattle.away_values.specs.declared.types.Ty.{Ty}
+use Rattle.away_trees.specs.declared.queries.Expr.TheVariants as expr
 use Rattle.sql_meaning.specs.Trees.{item}
 use Rattle.sql_meaning.specs.Template.{count_from, below, arguments}
 use Rattle.one_return.specs.Form.{types_of}

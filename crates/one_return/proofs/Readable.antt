@@ -1,19 +1,19 @@
 -- Spoken signs that read as a tree, whatever follows them; and those of expressions, each from those of its parts.
 use Rattle.std.proofs.Common.{◌≡◌, refl, ℕ, ◌<◌, ◌≤◌, ◌^◌, pos, true, false, List, ◌∷◌, Some, codes, arith}
-use Rattle.away_core.specs.declared.grammar.Mark.{Mark}
-use Rattle.away_core.specs.declared.grammar.Mark.TheVariants as m
-use Rattle.away_core.specs.declared.grammar.Level.{Level}
-use Rattle.away_core.specs.declared.grammar.Level.TheVariants as l
-use Rattle.away_core.specs.declared.types.Ty.{Ty}
-use Rattle.away_core.specs.declared.types.Ty.TheVariants as ty
-use Rattle.away_core.specs.declared.operators.CmpOp.TheVariants as cmp
-use Rattle.away_core.specs.declared.queries.Expr.{Expr}
-use Rattle.away_core.specs.declared.queries.Expr.TheVariants as expr
-use Rattle.away_core.specs.Reserved.{is_reserved}
-use Rattle.away_core.specs.Signs.{Sign, mark, name, integer, parameter}
-use Rattle.away_core.specs.Grammar.{Sort, at, Tree, Reads, rank, type_named, literal_of, number, literal, dotted, typed_parameter, parentheses, cast, compared, negated}
-use Rattle.sql_text.specs.Spoken.{Spoken, AllSpoken}
-use Rattle.sql_text.proofs.PrintLevels.{loosen}
+use Rattle.away_grammar.specs.declared.grammar.Mark.{Mark}
+use Rattle.away_grammar.specs.declared.grammar.Mark.TheVariants as m
+use Rattle.away_grammar.specs.declared.grammar.Level.{Level}
+use Rattle.away_grammar.specs.declared.grammar.Level.TheVariants as l
+use Rattle.away_values.specs.declared.types.Ty.{Ty}
+use Rattle.away_values.specs.declared.types.Ty.TheVariants as ty
+use Rattle.away_values.specs.declared.operators.CmpOp.TheVariants as cmp
+use Rattle.away_trees.specs.declared.queries.Expr.{Expr}
+use Rattle.away_trees.specs.declared.queries.Expr.TheVariants as expr
+use Rattle.away_grammar.specs.Reserved.{is_reserved}
+use Rattle.away_grammar.specs.Signs.{Sign, mark, name, integer, parameter}
+use Rattle.away_grammar.specs.Grammar.{Sort, at, Tree, Reads, rank, type_named, literal_of, number, literal, dotted, typed_parameter, parentheses, cast, compared, negated}
+use Rattle.sql_printer.specs.Spoken.{Spoken, AllSpoken}
+use Rattle.sql_printer.proofs.PrintLevels.{loosen}
 use Rattle.sql_meaning.specs.Trees as tree
 
 -- signs as what stands before those that follow

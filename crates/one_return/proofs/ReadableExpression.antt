@@ -1,21 +1,20 @@
 -- Spoken signs that read as a function's expression, as it stands in the query.
-use Rattle.std.proofs.Common.{◌≡◌, refl, subst, ℕ, ◌<◌, ◌≤◌, ◌^◌, true, List, [], ◌∷◌, length, Some, arith}
-use Rattle.away_core.specs.declared.grammar.Mark.{Mark}
-use Rattle.away_core.specs.declared.grammar.Mark.TheVariants as m
-use Rattle.away_core.specs.declared.grammar.Level.{Level}
-use Rattle.away_core.specs.declared.grammar.Level.TheVariants as l
-use Rattle.away_core.specs.declared.operators.IntOp.TheVariants as int
-use Rattle.away_core.specs.declared.operators.ChainOp.{ChainOp}
-use Rattle.away_core.specs.declared.operators.ChainOp.TheVariants as op
-use Rattle.away_core.specs.declared.queries.Expr.{Expr}
-use Rattle.away_core.specs.declared.queries.Expr.TheVariants as expr
-use Rattle.away_core.specs.Signs.{mark}
-use Rattle.away_core.specs.Grammar as g
+use Rattle.std.proofs.Common.{◌≡◌, refl, subst, ℕ, ◌<◌, ◌≤◌, ◌^◌, true, List, [], ◌∷◌, Some, arith}
+use Rattle.away_grammar.specs.declared.grammar.Mark.{Mark}
+use Rattle.away_grammar.specs.declared.grammar.Mark.TheVariants as m
+use Rattle.away_grammar.specs.declared.grammar.Level.{Level}
+use Rattle.away_grammar.specs.declared.grammar.Level.TheVariants as l
+use Rattle.away_values.specs.declared.operators.IntOp.TheVariants as int
+use Rattle.away_values.specs.declared.operators.ChainOp.{ChainOp}
+use Rattle.away_values.specs.declared.operators.ChainOp.TheVariants as op
+use Rattle.away_trees.specs.declared.queries.Expr.{Expr}
+use Rattle.away_trees.specs.declared.queries.Expr.TheVariants as expr
+use Rattle.away_grammar.specs.Signs.{mark}
+use Rattle.away_grammar.specs.Grammar as g
 use Rattle.one_return.specs.declared.names.Known.TheVariants.{Table}
 use Rattle.one_return.specs.Form.{joins}
 use Rattle.one_return.specs.Places.{Part, value, links, Tree, Places, literal, variable, chain, last, another}
 use Rattle.one_return.specs.Written.{table_name, column_name}
-use Rattle.one_return.proofs.Owned.{slot_below}
 use Rattle.one_return.proofs.Readable.{Readable, Operand, at_level, in_parentheses, number_reads, dotted_reads}
 use Rattle.one_return.proofs.SpokenNames.{known_spoken, column_spoken}
 
@@ -80,21 +79,21 @@ chain_reads level x xs operand more =
 
 -- ---- the expression
 
-module _ (variables : List (List ℕ)) (small : length variables < 2 ^ 64) where
+module _ (n : ℕ) (small : n < 2 ^ 64) where
   abbrev PartReads : (p : Part) → Tree p → Type 0
   PartReads value x = Operand x
   PartReads (links level) xs = AreLinks level xs
 
-  part_reads : (p : Part) (e y x : Tree p) → Places variables p e y x → PartReads p x
-  part_reads _ _ _ _ (literal {n} tiny) = number_reads n tiny
-  part_reads _ _ _ _ (variable {n} {i} there) =
-      let low : i < 2 ^ 64 = let b = slot_below 0 n variables i there in omega arith in
+  part_reads : (p : Part) (y x : Tree p) → Places n p y x → PartReads p x
+  part_reads _ _ _ (literal {n = k} tiny) = number_reads k tiny
+  part_reads _ _ _ (variable {i} below) =
+      let low : i < 2 ^ 64 = omega arith in
       dotted_reads table_name (column_name i) (known_spoken Table) (column_spoken i low)
-  part_reads _ _ _ _ (chain {x} {y} {z} {xs} {ys} {zs} level h rest) = chain_reads level z zs (part_reads value x y z h) (part_reads (links level) xs ys zs rest)
-  part_reads _ _ _ _ (last {x} {y} {z} {level} o ok h) = link_reads level o z [] ok (part_reads value x y z h) (no_links level)
-  part_reads _ _ _ _ (another {x} {y} {z} {xs} {ys} {zs} {level} o ok h rest) =
-      let more = part_reads (links level) xs ys zs rest in
-      link_reads level o z zs ok (part_reads value x y z h) more.read
+  part_reads _ _ _ (chain {x} {y} {xs} {ys} level h rest) = chain_reads level y ys (part_reads value x y h) (part_reads (links level) xs ys rest)
+  part_reads _ _ _ (last {x} {y} {level} o ok h) = link_reads level o y [] ok (part_reads value x y h) (no_links level)
+  part_reads _ _ _ (another {x} {y} {xs} {ys} {level} o ok h rest) =
+      let more = part_reads (links level) xs ys rest in
+      link_reads level o y ys ok (part_reads value x y h) more.read
 
-  pub expression_reads : {e y x : Expr} → Places variables value e y x → Operand x
-  expression_reads {e} {y} {x} h = part_reads value e y x h
+  pub expression_reads : {y x : Expr} → Places n value y x → Operand x
+  expression_reads {y} {x} h = part_reads value y x h

@@ -1,16 +1,16 @@
 -- Spoken signs that read as lists, selects and queries, each from those of its parts.
 use Rattle.std.proofs.Common.{refl, ℕ, true, false, List, [], ◌∷◌, ◌++◌, map, Option, Some, None}
-use Rattle.away_core.specs.declared.grammar.Mark.TheVariants as m
-use Rattle.away_core.specs.declared.queries.Expr.{Expr}
-use Rattle.away_core.specs.declared.queries.Source.TheVariants as source
-use Rattle.away_core.specs.declared.queries.FromItem.{FromItem}
-use Rattle.away_core.specs.declared.queries.Select.{Select}
-use Rattle.away_core.specs.declared.queries.Recursive.{Recursive}
-use Rattle.away_core.specs.declared.queries.Query.{Query}
-use Rattle.away_core.specs.declared.queries.Expr.TheViews.{roll-FromItem, roll-Recursive, roll-Query}
-use Rattle.away_core.specs.Signs.{mark, name}
-use Rattle.away_core.specs.Grammar as g
-use Rattle.sql_text.specs.Spoken.{Spoken}
+use Rattle.away_grammar.specs.declared.grammar.Mark.TheVariants as m
+use Rattle.away_trees.specs.declared.queries.Expr.{Expr}
+use Rattle.away_trees.specs.declared.queries.Source.TheVariants as source
+use Rattle.away_trees.specs.declared.queries.FromItem.{FromItem}
+use Rattle.away_trees.specs.declared.queries.Select.{Select}
+use Rattle.away_trees.specs.declared.queries.Recursive.{Recursive}
+use Rattle.away_trees.specs.declared.queries.Query.{Query}
+use Rattle.away_trees.specs.declared.queries.Expr.TheViews.{roll-FromItem, roll-Recursive, roll-Query}
+use Rattle.away_grammar.specs.Signs.{mark, name}
+use Rattle.away_grammar.specs.Grammar as g
+use Rattle.sql_printer.specs.Spoken.{Spoken}
 use Rattle.sql_meaning.specs.Trees.{item, select, one}
 use Rattle.one_return.specs.Written.{lateral_as}
 use Rattle.one_return.proofs.Readable.{Readable, Operand, Whole, whole}

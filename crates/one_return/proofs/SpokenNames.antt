@@ -4,11 +4,11 @@ use Rattle.std.specs.Prelude.{decimal}
 use Rattle.std.specs.Char.{to_ascii_lowercase}
 use Rattle.std.specs.List.{list_all}
 use Rattle.std.proofs.lemmas.Bool.Decides.{nat_tests}
-use Rattle.away_core.specs.Words.{IsName, is_name_byte}
-use Rattle.away_core.specs.Spellings.{byte, is_start, goes_on}
-use Rattle.away_core.specs.Reserved.{folded, is_reserved}
-use Rattle.away_core.specs.Signs.{name}
-use Rattle.sql_text.specs.Spoken.{Spoken}
+use Rattle.away_values.specs.Words.{IsName, is_name_byte}
+use Rattle.away_grammar.specs.Spellings.{byte, is_start, goes_on}
+use Rattle.away_grammar.specs.Reserved.{folded, is_reserved}
+use Rattle.away_grammar.specs.Signs.{name}
+use Rattle.sql_printer.specs.Spoken.{Spoken}
 use Rattle.one_return.specs.Known.{text_of}
 use Rattle.one_return.specs.declared.names.Known.{Known}
 use Rattle.one_return.specs.declared.names.Known.TheVariants.{Table}

@@ -1,16 +1,16 @@
 -- The written query's tree is the template's, but for names.
 use Rattle.std.proofs.Common.{◌≡◌, refl, ap, sym, ◌∙◌, ℕ, true, List, [], ◌∷◌, map, length, Some, None, option_map, decimal}
-use Rattle.away_core.specs.declared.types.Ty.{Ty}
-use Rattle.away_core.specs.declared.queries.Expr.{Expr}
-use Rattle.away_core.specs.declared.queries.Expr.TheVariants as expr
-use Rattle.away_core.specs.declared.queries.FromItem.{FromItem}
-use Rattle.away_core.specs.declared.queries.Source.{Source}
-use Rattle.away_core.specs.declared.queries.Source.TheVariants as source
-use Rattle.away_core.specs.declared.queries.Select.{Select}
-use Rattle.away_core.specs.declared.queries.Query.{Query}
-use Rattle.away_core.specs.declared.queries.Expr.TheViews.{roll-FromItem, roll-Recursive}
-use Rattle.away_core.specs.Algebra.{expr_of, item_of, from_of, select_of, query_of}
-use Rattle.away_core.proofs.Equations as eq
+use Rattle.away_values.specs.declared.types.Ty.{Ty}
+use Rattle.away_trees.specs.declared.queries.Expr.{Expr}
+use Rattle.away_trees.specs.declared.queries.Expr.TheVariants as expr
+use Rattle.away_trees.specs.declared.queries.FromItem.{FromItem}
+use Rattle.away_trees.specs.declared.queries.Source.{Source}
+use Rattle.away_trees.specs.declared.queries.Source.TheVariants as source
+use Rattle.away_trees.specs.declared.queries.Select.{Select}
+use Rattle.away_trees.specs.declared.queries.Query.{Query}
+use Rattle.away_trees.specs.declared.queries.Expr.TheViews.{roll-FromItem, roll-Recursive}
+use Rattle.away_trees.specs.Algebra.{expr_of, item_of, from_of, select_of, query_of}
+use Rattle.away_trees.proofs.Equations as eq
 use Rattle.sql_meaning.specs.Names.{nameless, bare_columns, bare_select, bare_query, bare_recursive}
 use Rattle.sql_meaning.specs.Placed.{placed_at}
 use Rattle.sql_meaning.specs.Template as t
@@ -18,8 +18,7 @@ use Rattle.sql_meaning.specs.Template.{slot_at, start, query_of_return}
 use Rattle.sql_meaning.specs.OneReturn.{IsTemplate}
 use Rattle.sql_meaning.specs.Trees.{col, item, select, one, lateral, table_by}
 use Rattle.one_return.specs.Written.{step_name, gate_name, value_name, only_name, columns, lateral_as}
-use Rattle.one_return.proofs.Selected.{over_table}
-use Rattle.one_return.proofs.WrittenTree.{gate_select, value_select, row_list, step_list, last_list, branch, call_item, step, last, tree}
+use Rattle.one_return.proofs.NamedTree.{gate_select, value_select, row_list, step_list, last_list, branch, call_item, step, last, tree, over_table}
 
 -- ---- the same without names
 

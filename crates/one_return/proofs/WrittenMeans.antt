@@ -1,43 +1,47 @@
--- The written query stands for the template, where the function's expression stands so in it; and so the compiled text has the function's answers.
-use Rattle.std.proofs.Common.{◌≡◌, refl, sym, ◌∙◌, subst, ℕ, ◌<◌, ◌≤◌, ◌^◌, List, map, length, Some, arith}
+-- The written query breaks no rule and stands for the template, where the function's expression stands so in it; and so the compiled text has the
+-- function's answers.
+use Rattle.std.proofs.Common.{◌≡◌, refl, sym, subst, ℕ, ◌<◌, ◌≤◌, ◌^◌, Bool, true, ◌&&◌, List, [], ◌∷◌, length, arith}
 use Rattle.std.proofs.lemmas.List.{length-map}
 use Rattle.std.proofs.lemmas.Slice.Zip.{AllZip-long}
-use Rattle.away_core.specs.declared.types.Ty.{Ty}
-use Rattle.away_core.specs.declared.queries.Expr.{Expr}
-use Rattle.away_core.specs.declared.queries.Query.{Query}
-use Rattle.away_core.specs.declared.schemas.Schema.{Schema}
-use Rattle.away_core.specs.declared.statements.Function.{Function}
-use Rattle.away_core.specs.Count.{weight}
-use Rattle.away_core.specs.Texts.{ReadsQuery}
+use Rattle.away_values.specs.declared.types.Ty.{Ty}
+use Rattle.away_values.specs.declared.types.Ty.TheVariants as ty
+use Rattle.away_trees.specs.declared.queries.Expr.{Expr}
+use Rattle.away_trees.specs.declared.queries.Query.{Query}
+use Rattle.away_trees.specs.declared.schemas.Schema.{Schema}
+use Rattle.away_trees.specs.declared.statements.Function.{Function}
+use Rattle.away_trees.specs.Count.{weight}
+use Rattle.away_grammar.specs.Texts.{ReadsQuery}
 use Rattle.sql_meaning.specs.Context.{Rows}
 use Rattle.sql_meaning.specs.Equivalent.{FunctionAnswer, IsEquivalent}
-use Rattle.sql_meaning.specs.OneReturn.{IsSource, IsTemplate, answer_of_return}
-use Rattle.sql_meaning.specs.Placed.{placed_at}
-use Rattle.sql_meaning.specs.Template.{slot_at}
+use Rattle.sql_meaning.specs.OneReturn.{IsTemplate, answer_of_return}
 use Rattle.sql_meaning.specs.Typed.{AreTyped}
 use Rattle.sql_meaning.proofs.Theorem.{one_return}
-use Rattle.one_return.specs.Compiled.{IsCompiled}
-use Rattle.one_return.specs.Fits.{FitsTable, FitsSchema}
-use Rattle.one_return.specs.Form.{IsForm, names_of}
+use Rattle.away_types.specs.CheckedQueries.{judged_query, query_note, resolved_query}
+use Rattle.away_types.specs.Refusals.{IsUnbroken}
+use Rattle.one_return.specs.Compiled.{IsCompiled, numbered}
+use Rattle.away_trees.specs.Fits.{FitsTable, FitsSchema}
+use Rattle.one_return.specs.Form.{IsForm, are_bigints, is_bigint, types_of}
 use Rattle.one_return.specs.Places.{Places, value}
-use Rattle.one_return.specs.Resolution.{resolved}
 use Rattle.one_return.specs.Written.{written}
 use Rattle.one_return.proofs.Owned.{is_source}
-use Rattle.one_return.proofs.InPlace.{expression_stands}
 use Rattle.one_return.proofs.TreeIsTemplate.{tree_is_template}
-use Rattle.one_return.proofs.Values.{means}
-use Rattle.one_return.proofs.WrittenTree.{tree, written_stands}
+use Rattle.one_return.proofs.TypedTree.{AllBigint, no_more, one_more}
+use Rattle.one_return.proofs.Unbroken.{stands_for, unbroken, numbers, first_type_is}
 
--- ---- the query
+-- ---- the parameters
 
-pub written_means : (schema : Schema) (variables : List (List ℕ)) (params : List Ty) (result : Ty) {e y x : Expr} → length variables ≡ length params → length params < 2 ^ 64 → Places variables value e y x
-    → (r : Query) × (resolved schema (written params result x) ≡ Some r) × IsTemplate (length schema.tables) params result y r
-written_means schema variables params result {e} {y} {x} long small h =
-    let placed : Expr = placed_at result slot_at y in (
-      tree (length schema.tables) (length params) params result placed,
-      written_stands schema params small x placed (expression_stands schema (length params) variables long small result h) result,
-      tree_is_template (length schema.tables) params result y,
-    )
+pub types_as_many : (ps : List (List ℕ × Ty)) → length (types_of ps) ≡ length ps
+types_as_many ps = length-map ps (λ p. p.1)
+
+first_bigint : (t : Ty) (ts : List Ty) (rest : Bool) → is_bigint t && rest ≡ true → (rest ≡ true → AllBigint ts) → AllBigint (t ∷ ts)
+first_bigint ty.Bigint ts rest h more = one_more (more h)
+first_bigint ty.Boolean ts rest h more = absurd (cc h)
+first_bigint ty.Text ts rest h more = absurd (cc h)
+first_bigint ty.Integer ts rest h more = absurd (cc h)
+
+pub bigints : (ps : List (List ℕ × Ty)) → are_bigints ps ≡ true → AllBigint (types_of ps)
+bigints [] h = no_more
+bigints (p ∷ ps) h = first_bigint p.1 (types_of ps) (are_bigints ps) h (bigints ps)
 
 -- ---- the function
 
@@ -54,21 +58,27 @@ narrower Few Many Fits weight f q more h = record {
   only = λ T args k few. h.only T args k (more T few);
 }
 
-pub compiled : (schema : Schema) (f : Function) {e y x : Expr} (text : List ℕ) → IsForm f e → Places (names_of f) value e y x → ReadsQuery text (written (map (λ p. p.1) f.params) f.result x)
+pub compiled : (schema : Schema) (f : Function) {y x : Expr} (text : List ℕ) → IsForm f y → Places (length f.params) value y x → ReadsQuery text (written (types_of f.params) f.result x)
     → length schema.tables < 2 ^ 64 → IsCompiled schema f text
-compiled schema f {e} {y} {x} text form h reads few =
-    let params : List Ty = map (λ p. p.1) f.params in
-    let as_many : length (names_of f) ≡ length params = length-map f.params (λ p. p.0) ∙ sym (length-map f.params (λ p. p.1)) in
+compiled schema f {y} {x} text form h reads few =
+    let params : List Ty = types_of f.params in
+    let tables : ℕ = length schema.tables in
     let limit : length f.params ≤ 64 = form.few in
-    let small : length params < 2 ^ 64 = omega (arith, length-map f.params (λ p. p.1)) in
-    let query = written_means schema (names_of f) params f.result as_many small h in
+    let small : length params < 2 ^ 64 = omega (arith, types_as_many f.params) in
+    let all : AllBigint params = bigints f.params form.params in
+    let here : Places (length params) value y x = subst (λ n. Places n value y x) (sym (types_as_many f.params)) h in
+    let q : Query = resolved_query schema (written params ty.Bigint x) in
+    let template : IsTemplate tables params ty.Bigint y q = subst (IsTemplate tables params ty.Bigint y) (sym (stands_for schema params all few small y x here)) (tree_is_template tables params ty.Bigint y) in
+    let equivalent : IsEquivalent (FitsSchema schema) (AreTyped params) (weight f) (answer_of_return y) q =
+    narrower (FitsSchema schema) (λ T. length T ≡ tables) (AreTyped params) (weight f) (answer_of_return y) q (λ T fits. AllZip-long FitsTable schema.tables T fits)
+    (one_return tables (weight f) params ty.Bigint y few (some_weight f) (is_source tables (length params) here) q template) in
     record {
       written = written params f.result x;
-      query = query.0;
       answer = answer_of_return y;
       reads = reads;
-      means = query.1;
-      answers = record { written = e; value = y; not_strict = form.not_strict; body = form.body; means = means schema (names_of f) h; answers = refl };
-      equivalent = narrower (FitsSchema schema) (λ T. length T ≡ length schema.tables) (AreTyped params) (weight f) (answer_of_return y) query.0 (λ T fits. AllZip-long FitsTable schema.tables T fits)
-          (one_return (length schema.tables) (weight f) params f.result y few (some_weight f) (subst (λ n. IsSource (length schema.tables) n y) as_many (is_source (length schema.tables) (names_of f) h)) query.0 query.2);
+      unbroken = subst (λ t. IsUnbroken (query_note schema (written params t x))) (sym form.result) (unbroken schema params all few small y x here);
+      params = subst (λ t. (judged_query schema (written params t x)).params ≡ numbered 0 params) (sym form.result) (numbers schema params all few small y x here);
+      result = subst (λ t. (judged_query schema (written params t x)).result ≡ t) (sym form.result) (first_type_is schema params all few small y x here);
+      answers = record { value = y; not_strict = form.not_strict; body = form.body; answers = refl };
+      equivalent = subst (λ t. IsEquivalent (FitsSchema schema) (AreTyped params) (weight f) (answer_of_return y) (resolved_query schema (written params t x))) (sym form.result) equivalent;
     }

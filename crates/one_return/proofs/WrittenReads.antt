@@ -1,28 +1,29 @@
 -- The text of the written query reads as it.
-use Rattle.std.proofs.Common.{◌≡◌, subst, sym, ◌∙◌, ℕ, zero, suc, ◌+◌, ◌<◌, ◌≤◌, ◌^◌, pos, true, false, List, [], ◌∷◌, ◌++◌, map, length, Some, None, arith}
-use Rattle.std.proofs.lemmas.List.{length-map}
-use Rattle.away_core.specs.declared.types.Ty.{Ty}
-use Rattle.away_core.specs.declared.types.Ty.TheVariants as ty
-use Rattle.away_core.specs.declared.queries.Expr.{Expr}
-use Rattle.away_core.specs.declared.queries.Expr.TheVariants as expr
-use Rattle.away_core.specs.declared.queries.Query.{Query}
-use Rattle.away_core.specs.declared.statements.Function.{Function}
-use Rattle.away_core.specs.Grammar as g
-use Rattle.away_core.specs.Printing.{query_text}
-use Rattle.away_core.specs.Texts.{ReadsQuery}
-use Rattle.sql_text.proofs.PrintTexts.{text_reads}
+use Rattle.std.proofs.Common.{subst, sym, ℕ, zero, suc, ◌+◌, ◌<◌, ◌≤◌, ◌^◌, pos, true, false, List, [], ◌∷◌, ◌++◌, map, length, Some, None, arith}
+use Rattle.away_values.specs.declared.types.Ty.{Ty}
+use Rattle.away_values.specs.declared.types.Ty.TheVariants as ty
+use Rattle.away_trees.specs.declared.queries.Expr.{Expr}
+use Rattle.away_trees.specs.declared.queries.Expr.TheVariants as expr
+use Rattle.away_trees.specs.declared.queries.Query.{Query}
+use Rattle.away_trees.specs.declared.statements.Function.{Function}
+use Rattle.away_grammar.specs.Grammar as g
+use Rattle.away_grammar.specs.Printing.{query_text}
+use Rattle.away_grammar.specs.Texts.{ReadsQuery}
+use Rattle.sql_printer.proofs.PrintTexts.{text_reads}
 use Rattle.sql_meaning.specs.Template.{count_from, arguments, start}
 use Rattle.sql_meaning.specs.Trees.{number, truth, null_of, one}
 use Rattle.one_return.specs.declared.names.Known.{Known}
 use Rattle.one_return.specs.declared.names.Known.TheVariants.{Table, Step, Gate, Value, Only, Go, Label, Result, Fault}
-use Rattle.one_return.specs.Form.{IsForm, is_bigint, may_be_parameters, names_of, types_of}
+use Rattle.one_return.specs.Form.{IsForm, types_of}
 use Rattle.one_return.specs.Known.{text_of}
 use Rattle.one_return.specs.Places.{Places, value}
 use Rattle.one_return.specs.Written as w
 use Rattle.one_return.proofs.Readable.{Readable, Operand, HasName, whole, bigint_has_name, text_has_name, parameter_reads, number_reads, true_reads, false_reads, null_reads, dotted_reads, equal_reads, not_reads}
 use Rattle.one_return.proofs.ReadableExpression.{expression_reads}
 use Rattle.one_return.proofs.ReadableQueries.{AreSpoken, Operands, spoken_behind, operands_behind, no_items, one_item, two_items, no_condition, condition, table_reads, lateral_reads, select_reads, one_reads, recursive_reads, file_reads}
-use Rattle.one_return.proofs.SpokenNames.{and_left, and_right, known_spoken, column_spoken}
+use Rattle.one_return.proofs.SpokenNames.{known_spoken, column_spoken}
+use Rattle.one_return.proofs.TypedTree.{AllBigint, no_more, one_more}
+use Rattle.one_return.proofs.WrittenMeans.{bigints, types_as_many}
 
 -- ---- the names of the columns
 
@@ -126,26 +127,22 @@ text_back q r =
     let back = text_reads (r.signs []) q (r.spoken [] tt) (r.reads []) in
     (back.0, back.1, back.3)
 
-pub written_reads : (variables : List (List ℕ)) (params : List Ty) (result : Ty) {e y x : Expr} → length params ≤ 64 → HaveNames params → HasName result → length variables ≡ length params → Places variables value e y x
+pub written_reads : (params : List Ty) (result : Ty) {y x : Expr} → length params ≤ 64 → HaveNames params → HasName result → Places (length params) value y x
     → ReadsQuery (query_text (w.written params result x)) (w.written params result x)
-written_reads variables params result {e} {y} {x} few named result_named long h =
-    let small : length variables < 2 ^ 64 = omega arith in
-    text_back (w.written params result x) (query_reads params result few named result_named x (expression_reads variables small h))
+written_reads params result {y} {x} few named result_named h =
+    let small : length params < 2 ^ 64 = omega arith in
+    text_back (w.written params result x) (query_reads params result few named result_named x (expression_reads (length params) small h))
 
 -- ---- the function
 
-bigint_named : (t : Ty) → is_bigint t ≡ true → HasName t
-bigint_named ty.Bigint h = bigint_has_name
-bigint_named _ h = absurd (cc h)
+bigints_named : (ts : List Ty) → AllBigint ts → HaveNames ts
+bigints_named _ no_more = tt
+bigints_named _ (one_more {ts} rest) = (bigint_has_name, bigints_named ts rest)
 
-parameters_named : (ps : List (List ℕ × Ty)) → may_be_parameters ps ≡ true → HaveNames (types_of ps)
-parameters_named [] h = tt
-parameters_named (p ∷ ps) h =
-    let more = and_right (is_bigint p.1) _ h in
-    (bigint_named p.1 (and_left (is_bigint p.1) _ h), parameters_named ps (and_right _ (may_be_parameters ps) (and_right _ _ more)))
-
-pub form_reads : (f : Function) {e y x : Expr} → IsForm f e → Places (names_of f) value e y x → ReadsQuery (query_text (w.written (types_of f.params) f.result x)) (w.written (types_of f.params) f.result x)
-form_reads f {e} {y} {x} form h =
-    let as_many : length (names_of f) ≡ length (types_of f.params) = length-map f.params (λ (p : List ℕ × Ty). p.0) ∙ sym (length-map f.params (λ (p : List ℕ × Ty). p.1)) in
-    let few : length (types_of f.params) ≤ 64 = omega (arith, length-map f.params (λ (p : List ℕ × Ty). p.1), form.few) in
-    written_reads (names_of f) (types_of f.params) f.result few (parameters_named f.params form.params) (subst HasName (sym form.result) bigint_has_name) as_many h
+pub form_reads : (f : Function) {y x : Expr} → IsForm f y → Places (length f.params) value y x
+    → ReadsQuery (query_text (w.written (types_of f.params) f.result x)) (w.written (types_of f.params) f.result x)
+form_reads f {y} {x} form h =
+    let few : length (types_of f.params) ≤ 64 = omega (arith, types_as_many f.params, form.few) in
+    let here : Places (length (types_of f.params)) value y x = subst (λ n. Places n value y x) (sym (types_as_many f.params)) h in
+    let named : HaveNames (types_of f.params) = bigints_named (types_of f.params) (bigints f.params form.params) in
+    written_reads (types_of f.params) f.result few named (subst HasName (sym form.result) bigint_has_name) here

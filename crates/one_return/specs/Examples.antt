@@ -1,17 +1,17 @@
 -- The query of a worked function, `a + b * 2` over two bigints, written out: once with its names, and once with what they stand for.
 use Rattle.std.specs.Prelude.{ℕ, pos, true, false, List, [], ◌∷◌, map, Some, None, codes}
-use Rattle.away_core.specs.declared.types.Ty.{Ty}
-use Rattle.away_core.specs.declared.types.Ty.TheVariants as ty
-use Rattle.away_core.specs.declared.operators.ChainOp.TheVariants as chain
-use Rattle.away_core.specs.declared.operators.CmpOp.TheVariants as cmp
-use Rattle.away_core.specs.declared.operators.IntOp.TheVariants as int
-use Rattle.away_core.specs.declared.queries.Expr.{Expr}
-use Rattle.away_core.specs.declared.queries.Expr.TheVariants as expr
-use Rattle.away_core.specs.declared.queries.Source.TheVariants as source
-use Rattle.away_core.specs.declared.queries.FromItem.{FromItem}
-use Rattle.away_core.specs.declared.queries.Query.{Query}
-use Rattle.away_core.specs.declared.queries.Expr.TheViews.{roll-FromItem, roll-Recursive, roll-Query}
-use Rattle.away_core.specs.declared.schemas.Schema.{Schema}
+use Rattle.away_values.specs.declared.types.Ty.{Ty}
+use Rattle.away_values.specs.declared.types.Ty.TheVariants as ty
+use Rattle.away_values.specs.declared.operators.ChainOp.TheVariants as chain
+use Rattle.away_values.specs.declared.operators.CmpOp.TheVariants as cmp
+use Rattle.away_values.specs.declared.operators.IntOp.TheVariants as int
+use Rattle.away_trees.specs.declared.queries.Expr.{Expr}
+use Rattle.away_trees.specs.declared.queries.Expr.TheVariants as expr
+use Rattle.away_trees.specs.declared.queries.Source.TheVariants as source
+use Rattle.away_trees.specs.declared.queries.FromItem.{FromItem}
+use Rattle.away_trees.specs.declared.queries.Query.{Query}
+use Rattle.away_trees.specs.declared.queries.Expr.TheViews.{roll-FromItem, roll-Recursive, roll-Query}
+use Rattle.away_trees.specs.declared.schemas.Schema.{Schema}
 use Rattle.sql_meaning.specs.Trees.{col, number, truth, null_of, select, one}
 
 -- ---- the function

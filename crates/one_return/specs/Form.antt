@@ -1,21 +1,21 @@
--- The functions that are compiled: `BEGIN RETURN e; END` over parameters of type bigint, e being integers below 2^63, names, and sums, differences and
--- products of these.
-use Rattle.std.specs.Prelude.{◌≡◌, ◌≤◌, ℕ, pos, Bool, true, false, not, ◌&&◌, ◌||◌, List, [], ◌∷◌, length, map, None, bytes_eq, nat_eq, codes}
-use Rattle.std.specs.List.{list_any, starts_with}
-use Rattle.away_core.specs.declared.types.Ty.{Ty}
-use Rattle.away_core.specs.declared.types.Ty.TheVariants as ty
-use Rattle.away_core.specs.declared.grammar.Level.{Level}
-use Rattle.away_core.specs.declared.grammar.Level.TheVariants as l
-use Rattle.away_core.specs.declared.operators.ChainOp.{ChainOp}
-use Rattle.away_core.specs.declared.operators.ChainOp.TheVariants as op
-use Rattle.away_core.specs.declared.operators.IntOp.TheVariants as int
-use Rattle.away_core.specs.declared.queries.Expr.{Expr}
-use Rattle.away_core.specs.declared.queries.Expr.TheOpen.{Expr-F, Source-F, FromItem-F, Item-F, Key-F, Select-F, Recursive-F, Query-F}
-use Rattle.away_core.specs.declared.queries.Expr.TheOpen as ex
-use Rattle.away_core.specs.declared.statements.Function.{Function}
-use Rattle.away_core.specs.declared.statements.Stmt.{Stmt}
-use Rattle.away_core.specs.declared.statements.Stmt.TheVariants as s
-use Rattle.away_core.specs.Algebra.{Algebra, expr_of}
+-- The functions that are compiled: `BEGIN RETURN e; END` over parameters of type bigint, e being integers below 2^63,
+-- parameters, and sums, differences and products of these. Their names are resolved: a parameter stands as its slot.
+use Rattle.std.specs.Prelude.{◌≡◌, ◌≤◌, ℕ, nat_lt, pos, Bool, true, false, ◌&&◌, ◌||◌, List, [], ◌∷◌, length, map, None}
+use Rattle.std.specs.List.{list_all}
+use Rattle.away_values.specs.declared.types.Ty.{Ty}
+use Rattle.away_values.specs.declared.types.Ty.TheVariants as ty
+use Rattle.away_grammar.specs.declared.grammar.Level.{Level}
+use Rattle.away_grammar.specs.declared.grammar.Level.TheVariants as l
+use Rattle.away_values.specs.declared.operators.ChainOp.{ChainOp}
+use Rattle.away_values.specs.declared.operators.ChainOp.TheVariants as op
+use Rattle.away_values.specs.declared.operators.IntOp.TheVariants as int
+use Rattle.away_trees.specs.declared.queries.Expr.{Expr}
+use Rattle.away_trees.specs.declared.queries.Expr.TheOpen.{Expr-F, Source-F, FromItem-F, Item-F, Key-F, Select-F, Recursive-F, Query-F}
+use Rattle.away_trees.specs.declared.queries.Expr.TheOpen as ex
+use Rattle.away_trees.specs.declared.statements.Function.{Function}
+use Rattle.away_trees.specs.declared.statements.Stmt.{Stmt}
+use Rattle.away_trees.specs.declared.statements.Stmt.TheVariants as s
+use Rattle.away_trees.specs.Algebra.{Algebra, expr_of}
 
 -- ---- the expression
 
@@ -36,14 +36,15 @@ abbrev pub are_of_one_level : List (ChainOp × Bool) → Bool
 are_of_one_level [] = false
 are_of_one_level (x ∷ more) = are_links l.Sum (x ∷ more) || are_links l.Product (x ∷ more)
 
-abbrev pub is_arithmetic : Expr-F Bool Bool Bool Bool Bool Bool Bool Bool → Bool
-is_arithmetic (ex.Int (pos n)) = true
-is_arithmetic (ex.Named n) = true
-is_arithmetic (ex.Chain e links) = e && are_of_one_level links
-is_arithmetic _ = false
+-- over so many parameters
+abbrev pub is_arithmetic : ℕ → Expr-F Bool Bool Bool Bool Bool Bool Bool Bool → Bool
+is_arithmetic params (ex.Int (pos n)) = true
+is_arithmetic params (ex.Slot i) = nat_lt i params
+is_arithmetic params (ex.Chain e links) = e && are_of_one_level links
+is_arithmetic params _ = false
 
-abbrev pub arithmetic_only : Algebra
-arithmetic_only =
+abbrev pub arithmetic_only : ℕ → Algebra
+arithmetic_only params =
     record {
       AnExpr = Bool;
       ASource = Bool;
@@ -55,7 +56,7 @@ arithmetic_only =
       ASelect = Bool;
       no_expr = false;
       no_query = false;
-      expr = is_arithmetic;
+      expr = is_arithmetic params;
       source = λ s. false;
       from = λ f. false;
       item = λ i. false;
@@ -65,37 +66,22 @@ arithmetic_only =
       select = λ s. false;
     }
 
--- integers, names, and sums, differences and products of these
-unfoldable pub arithmetic : Expr → Bool
-arithmetic e = expr_of arithmetic_only e
+-- integers, the slots of so many parameters, and sums, differences and products of these
+unfoldable pub arithmetic : ℕ → Expr → Bool
+arithmetic params e = expr_of (arithmetic_only params) e
 
 -- a link with whether its operand is such
-abbrev pub judged : ChainOp × Expr → ChainOp × Bool
-judged l = (l.0, arithmetic l.1)
+abbrev pub judged : ℕ → ChainOp × Expr → ChainOp × Bool
+judged params l = (l.0, arithmetic params l.1)
 
 -- ---- the parameters
-
--- names that the query has for itself
-abbrev pub is_own_name : List ℕ → Bool
-is_own_name name = starts_with nat_eq name (codes "away_")
 
 abbrev pub is_bigint : Ty → Bool
 is_bigint ty.Bigint = true
 is_bigint _ = false
 
-abbrev pub has_name : List ℕ → List (List ℕ × Ty) → Bool
-has_name name = list_any (λ p. bytes_eq p.0 name)
-
--- bigints, of names that differ and aren't the query's own
-abbrev pub may_be_parameters : List (List ℕ × Ty) → Bool
-may_be_parameters [] = true
-may_be_parameters (p ∷ more) = is_bigint p.1 && (not (is_own_name p.0) && (not (has_name p.0 more) && may_be_parameters more))
-
-abbrev pub names_in : List (List ℕ × Ty) → List (List ℕ)
-names_in = map (λ p. p.0)
-
-abbrev pub names_of : Function → List (List ℕ)
-names_of f = names_in f.params
+abbrev pub are_bigints : List (List ℕ × Ty) → Bool
+are_bigints = list_all (λ p. is_bigint p.1)
 
 abbrev pub types_of : List (List ℕ × Ty) → List Ty
 types_of = map (λ p. p.1)
@@ -115,9 +101,9 @@ pub record IsForm (f : Function) (e : Expr) : Type 0 where
   pub not_strict : f.strict ≡ false
   pub result : f.result ≡ ty.Bigint
   pub few : length f.params ≤ 64
-  pub params : may_be_parameters f.params ≡ true
+  pub params : are_bigints f.params ≡ true
   pub body : Returns f.body e
-  pub arithmetic : arithmetic e ≡ true
+  pub arithmetic : arithmetic (length f.params) e ≡ true
 
 abbrev pub HasForm : Function → Type 0
 HasForm f = (e : Expr) × IsForm f e

@@ -1,12 +1,7 @@
-pub mod Scope
-pub mod Resolution
-pub mod Fits
 pub mod Form
 pub mod Compiled
 pub mod Refusals
 pub mod Places
-pub mod Placing
 pub mod Written
 pub mod Known
 pub mod Examples
-pub mod NameExamples

@@ -1,11 +1,13 @@
 //! Whether a function is of the form that is compiled.
 
 ghost use Rattle.std.specs.Prelude.{◌≡◌, map, MatchOption};
-ghost use Rattle.away_core.specs.declared.grammar.Level.TheVariants as level;
+ghost use Rattle.away_grammar.specs.declared.grammar.Level.TheVariants as level;
 ghost use Rattle.one_return.specs.Form as spec;
 ghost use Rattle.one_return.specs.Form.{HasForm, IsForm};
 
-use away_core::{ChainOp, Expr, Function, IntOp, Level, Name, Stmt, Ty};
+use away_grammar::Level;
+use away_trees::{Expr, Function, Stmt};
+use away_values::{ChainOp, IntOp, Name, Ty};
 
 /// The most parameters.
 const MOST_PARAMETERS: usize = 64;
@@ -18,11 +20,11 @@ pub fn returned(function: &Function) -> Option<&Expr>
         return None;
     }
     let params = function.params.as_slice();
-    if params.len() > MOST_PARAMETERS || !may_be_parameters(params) {
+    if params.len() > MOST_PARAMETERS || !are_bigints(params) {
         return None;
     }
     let value = body_value(&function.body)?;
-    if is_arithmetic(value) {
+    if is_arithmetic(params.len(), value) {
         Some(value)
     } else {
         None
@@ -60,54 +62,34 @@ fn is_bigint(ty: Ty) -> bool
     matches!(ty, Ty::Bigint)
 }
 
-/// Whether these are bigints, of names that differ and aren't the query's own.
-fn may_be_parameters(params: &[(Name, Ty)]) -> bool
-    ensures { result ≡ spec.may_be_parameters params.now }
+fn are_bigints(params: &[(Name, Ty)]) -> bool
+    ensures { result ≡ spec.are_bigints params.now }
 {
-    match params {
-        [] => true,
-        [first, more @ ..] => {
-            is_bigint(first.1)
-                && !is_own_name(first.0.text())
-                && !has_name(first.0.text(), more)
-                && may_be_parameters(more)
+    for param in params {
+        if !is_bigint(param.1) {
+            return false;
         }
     }
+    true
 }
 
-/// Whether a query may have the name for itself.
-fn is_own_name(name: &str) -> bool
-    ensures { result ≡ spec.is_own_name name.now }
-{
-    name.as_bytes().starts_with(b"away_")
-}
-
-fn has_name(name: &str, params: &[(Name, Ty)]) -> bool
-    ensures { result ≡ spec.has_name name.now params.now }
-{
-    match params {
-        [] => false,
-        [first, more @ ..] => first.0.text() == name || has_name(name, more),
-    }
-}
-
-/// Whether an expression has integers, names, sums, differences and products alone.
+/// Whether an expression has integers, slots of so many parameters, sums, differences and products alone.
 #[cycle(arithmetic)]
 #[tactic(auto, using(crate::proofs::Arithmetic::arithmetic_rules))]
-fn is_arithmetic(value: &Expr) -> bool
-    ensures { result ≡ spec.arithmetic value.now }
+fn is_arithmetic(params: usize, value: &Expr) -> bool
+    ensures { result ≡ spec.arithmetic params value.now }
 {
     match value {
         Expr::Int(n) => *n >= 0,
-        Expr::Named(_) => true,
+        Expr::Slot(slot) => (*slot as usize) < params,
         Expr::Chain(first, links) => {
-            is_arithmetic(first.get()) && are_of_one_level(links.as_slice())
+            is_arithmetic(params, first.get()) && are_of_one_level(params, links.as_slice())
         }
         Expr::Str(_)
         | Expr::Bool(_)
         | Expr::Null
+        | Expr::Named(_)
         | Expr::Dotted(_, _)
-        | Expr::Slot(_)
         | Expr::Column(_)
         | Expr::Param(_, _)
         | Expr::Neg(_)
@@ -129,22 +111,22 @@ fn is_arithmetic(value: &Expr) -> bool
 /// Whether there are links, their operators of one level and their operands of this form.
 #[cycle(arithmetic)]
 #[tactic(auto, using(crate::proofs::Arithmetic::arithmetic_rules))]
-fn are_of_one_level(links: &[(ChainOp, Expr)]) -> bool
-    ensures { result ≡ spec.are_of_one_level (map spec.judged links.now) }
+fn are_of_one_level(params: usize, links: &[(ChainOp, Expr)]) -> bool
+    ensures { result ≡ spec.are_of_one_level (map (spec.judged params) links.now) }
 {
     match links {
         [] => false,
-        _ => are_links(Level::Sum, links) || are_links(Level::Product, links),
+        _ => are_links(params, Level::Sum, links) || are_links(params, Level::Product, links),
     }
 }
 
 #[cycle(arithmetic)]
 #[tactic(auto, using(crate::proofs::Arithmetic::arithmetic_rules))]
-fn are_links(level: Level, links: &[(ChainOp, Expr)]) -> bool
-    ensures { result ≡ spec.are_links level (map spec.judged links.now) }
+fn are_links(params: usize, level: Level, links: &[(ChainOp, Expr)]) -> bool
+    ensures { result ≡ spec.are_links level (map (spec.judged params) links.now) }
 {
     for link in links {
-        if !joins(level, link.0) || !is_arithmetic(&link.1) {
+        if !joins(level, link.0) || !is_arithmetic(params, &link.1) {
             return false;
         }
     }

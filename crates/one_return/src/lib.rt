@@ -1,4 +1,4 @@
-//! Functions that are one RETURN: from the tree of a function to the text of a query with the same answers.
+//! Functions that are one RETURN: from the tree of a checked function to the text of a query with the same answers.
 #![tactic(auto)]
 
 mod compiler;
@@ -11,8 +11,5 @@ mod template;
 mod trees;
 
 pub use compiler::compile;
-pub use laws::{
-    a_name_stands_for_what_is_nearest, a_worked_query_stands_for_its_template,
-    an_item_sees_what_stands_before_it,
-};
+pub use laws::a_worked_query_stands_for_its_template;
 pub use refusal::CompileError;

@@ -1,11 +1,11 @@
 //! The names of the query's tables and columns.
 
 ghost use Rattle.std.specs.Prelude.{◌≡◌, ◌∷◌, [], IfOk};
-ghost use Rattle.away_core.specs.Words.{IsName};
+ghost use Rattle.away_values.specs.Words.{IsName};
 ghost use Rattle.one_return.specs.Known.{text_of};
 ghost use Rattle.one_return.specs.Written as spec;
 
-use away_core::{Name, NoMemory, name};
+use away_values::{Name, NoMemory, name};
 use itoa::Buffer;
 use sqlite_items::Items;
 use std::alloc::Global;

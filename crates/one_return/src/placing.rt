@@ -1,45 +1,40 @@
 //! A function's expression as it stands in its query.
 
-ghost use Rattle.std.specs.Prelude.{◌≡◌, ◌<◌, ℕ, List, map, length, true, IfOk, IfErr};
-ghost use Rattle.away_core.specs.declared.queries.Expr.TheVariants as expr;
-ghost use Rattle.one_return.specs.Form.{arithmetic, are_links, are_of_one_level, judged, names_in};
-ghost use Rattle.one_return.specs.Scope.{slot_from};
-ghost use Rattle.one_return.specs.Placing.{HasUnknown, IsUnknown, LinksStandAs, StandsAs, Unplaced};
+ghost use Rattle.std.specs.Prelude.{◌≡◌, ◌<◌, map, length, true, IfOk};
+ghost use Rattle.away_trees.specs.declared.queries.Expr.TheVariants as expr;
+ghost use Rattle.one_return.specs.Form.{arithmetic, are_links, are_of_one_level, judged};
+ghost use Rattle.one_return.specs.Places.{LinksStandAs, StandsAs};
 
 use crate::form::joins;
 use crate::names::{Known, column_name};
-use crate::refusal::CompileError;
 use crate::trees::number;
-use away_core::{ChainOp, Expr, Level, Name, Ty};
+use away_grammar::Level;
+use away_trees::Expr;
+use away_values::{ChainOp, NoMemory};
 use sqlite_items::{Boxed, Items};
 use std::alloc::Global;
 
 /// The expression with a column of the working table for each parameter, and each literal under a cast to its type.
 #[cycle(placing)]
 #[tactic(auto, using(crate::proofs::Arithmetic::arithmetic_rules))]
-pub fn placed(
-    alloc: Global,
-    params: &[(Name, Ty)],
-    value: &Expr,
-) -> Result<Boxed<Expr>, CompileError>
-    requires { arithmetic value.now ≡ true }
-    ensures ok { IfOk result (λ x. StandsAs (names_in params.now) value.now x) }
-    ensures err { IfErr result (Unplaced (IsUnknown (names_in params.now) value.now)) }
+pub fn placed(alloc: Global, params: usize, value: &Expr) -> Result<Boxed<Expr>, NoMemory>
+    requires { arithmetic params value.now ≡ true }
+    ensures { IfOk result (λ x. StandsAs params value.now x) }
 {
     match value {
-        Expr::Int(literal) => literal_of(alloc, *literal),
-        Expr::Named(name) => reference(alloc, params, name),
+        Expr::Int(literal) => literal_of(alloc, params, *literal),
+        Expr::Slot(slot) => reference(alloc, params, *slot),
         Expr::Chain(first, links) => {
             let first = placed(alloc, params, first.get())?;
-            let level = level_of(links.as_slice());
+            let level = level_of(params, links.as_slice());
             let links = placed_links(alloc, params, level, links.as_slice())?;
             Ok(Boxed::new(alloc, Expr::Chain(first, links))?)
         }
         Expr::Str(_)
         | Expr::Bool(_)
         | Expr::Null
+        | Expr::Named(_)
         | Expr::Dotted(_, _)
-        | Expr::Slot(_)
         | Expr::Column(_)
         | Expr::Param(_, _)
         | Expr::Neg(_)
@@ -62,14 +57,13 @@ pub fn placed(
 #[cycle(placing)]
 fn placed_links(
     alloc: Global,
-    params: &[(Name, Ty)],
+    params: usize,
     level: Level,
     links: &[(ChainOp, Expr)],
-) -> Result<Items<(ChainOp, Expr)>, CompileError>
+) -> Result<Items<(ChainOp, Expr)>, NoMemory>
     requires some { 0 < length links.now }
-    requires fit { are_links level (map judged links.now) ≡ true }
-    ensures ok { IfOk result (λ xs. LinksStandAs (names_in params.now) level links.now xs) }
-    ensures err { IfErr result (Unplaced (HasUnknown (names_in params.now) links.now)) }
+    requires fit { are_links level (map (judged params) links.now) ≡ true }
+    ensures { IfOk result (λ xs. LinksStandAs params level links.now xs) }
 {
     let mut all = Items::new(alloc);
     for link in links {
@@ -80,10 +74,10 @@ fn placed_links(
 }
 
 /// The level of the operators of a chain.
-fn level_of(links: &[(ChainOp, Expr)]) -> Level
-    requires { are_of_one_level (map judged links.now) ≡ true }
+fn level_of(params: usize, links: &[(ChainOp, Expr)]) -> Level
+    requires { are_of_one_level (map (judged params) links.now) ≡ true }
     ensures some { 0 < length links.now }
-    ensures fit { are_links result (map judged links.now) ≡ true }
+    ensures fit { are_links result (map (judged params) links.now) ≡ true }
 {
     match links {
         [first, ..] if joins(Level::Sum, first.0) => Level::Sum,
@@ -92,35 +86,19 @@ fn level_of(links: &[(ChainOp, Expr)]) -> Level
 }
 
 /// An integer under a cast.
-fn literal_of(alloc: Global, value: i64) -> Result<Boxed<Expr>, CompileError>
-    requires { arithmetic (expr.Int value) ≡ true }
-    ensures ok { IfOk result (λ x. (variables : List (List ℕ)) → StandsAs variables (expr.Int value) x) }
-    ensures err { IfErr result (Unplaced ⊥) }
+fn literal_of(alloc: Global, params: usize, value: i64) -> Result<Boxed<Expr>, NoMemory>
+    requires { arithmetic params (expr.Int value) ≡ true }
+    ensures { IfOk result (λ x. StandsAs params (expr.Int value) x) }
 {
     Ok(Boxed::new(alloc, number(alloc, value)?)?)
 }
 
 /// The working table's column of a parameter.
-fn reference(alloc: Global, params: &[(Name, Ty)], name: &Name) -> Result<Boxed<Expr>, CompileError>
-    ensures ok { IfOk result (λ x. StandsAs (names_in params.now) (expr.Named name.now) x) }
-    ensures err { IfErr result (Unplaced (IsUnknown (names_in params.now) (expr.Named name.now))) }
+fn reference(alloc: Global, params: usize, slot: u32) -> Result<Boxed<Expr>, NoMemory>
+    requires { slot < params }
+    ensures { IfOk result (λ x. StandsAs params (expr.Slot slot) x) }
 {
-    let Some(place) = slot_of(params, name.text()) else {
-        return Err(CompileError::UnknownName);
-    };
     let table = Known::Table.name(alloc)?;
-    let column = column_name(alloc, place)?;
+    let column = column_name(alloc, slot as usize)?;
     Ok(Boxed::new(alloc, Expr::Dotted(table, column))?)
-}
-
-/// The place of the first parameter of this name.
-fn slot_of(params: &[(Name, Ty)], name: &str) -> Option<usize>
-    ensures { result ≡ slot_from 0 name.now (names_in params.now) }
-{
-    for place in 0..params.len() {
-        if params[place].0.text() == name {
-            return Some(place);
-        }
-    }
-    None
 }

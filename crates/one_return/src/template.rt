@@ -2,7 +2,7 @@
 //! (Duta, Hirn and Grust, "Compiling PL/SQL Away", CIDR 2020: a call flag, the arguments and the result.)
 
 ghost use Rattle.std.specs.Prelude.{◌≡◌, ◌≤◌, ◌++◌, ◌∷◌, [], map, length, IfOk, OnOk};
-ghost use Rattle.away_core.specs.declared.queries.Expr.TheVariants as expr;
+ghost use Rattle.away_trees.specs.declared.queries.Expr.TheVariants as expr;
 ghost use Rattle.sql_meaning.specs.Template as template;
 ghost use Rattle.sql_meaning.specs.Trees as tree;
 ghost use Rattle.one_return.specs.Form.{types_of};
@@ -13,7 +13,8 @@ use crate::names::{Known, columns};
 use crate::trees::{
     add, alone, column, equal, from_table, is_over, lateral, null, number, only, select, truth,
 };
-use away_core::{Expr, FromItem, Item, Name, NoMemory, Query, Recursive, Select, Ty};
+use away_trees::{Expr, FromItem, Item, Query, Recursive, Select};
+use away_values::{Name, NoMemory, Ty};
 use sqlite_items::{Boxed, Items};
 use std::alloc::Global;
 

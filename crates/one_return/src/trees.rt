@@ -1,15 +1,16 @@
 //! Small trees that the template is made of.
 
 ghost use Rattle.std.specs.Prelude.{◌≡◌, ◌++◌, ◌∷◌, [], map, length, true, Some, None, IfOk, OnOk};
-ghost use Rattle.away_core.specs.declared.operators.CmpOp.TheVariants as cmp;
-ghost use Rattle.away_core.specs.declared.queries.Expr.TheVariants as expr;
-ghost use Rattle.away_core.specs.declared.queries.Expr.TheViews.{roll-Select};
+ghost use Rattle.away_values.specs.declared.operators.CmpOp.TheVariants as cmp;
+ghost use Rattle.away_trees.specs.declared.queries.Expr.TheVariants as expr;
+ghost use Rattle.away_trees.specs.declared.queries.Expr.TheViews.{roll-Select};
 ghost use Rattle.sql_meaning.specs.Trees as tree;
 ghost use Rattle.one_return.specs.Known.{text_of};
 ghost use Rattle.one_return.specs.Written as spec;
 
 use crate::names::Known;
-use away_core::{CmpOp, Expr, FromItem, Item, Name, NoMemory, Query, Select, Source, Ty};
+use away_trees::{Expr, FromItem, Item, Query, Select, Source};
+use away_values::{CmpOp, Name, NoMemory, Ty};
 use sqlite_items::{Boxed, Items};
 use std::alloc::Global;
 

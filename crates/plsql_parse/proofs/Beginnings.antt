@@ -1,11 +1,11 @@
 -- What a part of a function begins with.
 use Rattle.std.proofs.Common.{◌≡◌, ℕ, ◌<◌, Bool, true, false, List, ◌∷◌, Option, Some, None, refl, sym, ap, subst, lit<}
-use Rattle.away_core.specs.declared.grammar.Mark.{Mark}
-use Rattle.away_core.specs.declared.grammar.Mark.TheVariants as m
-use Rattle.away_core.specs.Signs.{Sign, mark, name}
-use Rattle.away_core.specs.Grammar.{mark_binds, StopsAt, perhaps}
-use Rattle.away_core.specs.FunctionGrammar as g
-use Rattle.away_core.specs.FunctionGrammar.{Part, PartTree, ReadsPart, decl, default, statement, elsifs, whens, otherwise, condition, block, repeated, kind, step, parameters, signature, attribute_of, gives_default}
+use Rattle.away_grammar.specs.declared.grammar.Mark.{Mark}
+use Rattle.away_grammar.specs.declared.grammar.Mark.TheVariants as m
+use Rattle.away_grammar.specs.Signs.{Sign, mark, name}
+use Rattle.away_grammar.specs.Grammar.{mark_binds, StopsAt, perhaps}
+use Rattle.away_grammar.specs.FunctionGrammar as g
+use Rattle.away_grammar.specs.FunctionGrammar.{Part, PartTree, ReadsPart, decl, default, statement, elsifs, whens, otherwise, condition, block, repeated, kind, step, parameters, signature, attribute_of, gives_default}
 use Rattle.sql_text.specs.Plans.{Begins}
 use Rattle.plsql_parse.specs.Sorts.{is_name}
 use Rattle.plsql_parse.specs.Bodies.{next, closes, opens, opens_block}

@@ -1,11 +1,11 @@
 -- What a loop of the reader of bodies has read so far, and what is left of its plan.
 use Rattle.std.proofs.Common.{◌≡◌, true, false, List, [], ◌∷◌, ◌++◌, ◌⊎◌, inl, inr, Option, Some, None, Ok, Err, refl, sym, ap, subst, append_assoc, append-nil}
-use Rattle.away_core.specs.declared.grammar.Mark.TheVariants as m
-use Rattle.away_core.specs.declared.statements.Arm.{Arm}
-use Rattle.away_core.specs.declared.statements.Decl.{Decl}
-use Rattle.away_core.specs.declared.statements.Stmt.{Stmt}
-use Rattle.away_core.specs.Signs.{Sign, mark}
-use Rattle.away_core.specs.FunctionGrammar.{decl, decls, statement, statements, branch, elsifs, whens}
+use Rattle.away_grammar.specs.declared.grammar.Mark.TheVariants as m
+use Rattle.away_trees.specs.declared.statements.Arm.{Arm}
+use Rattle.away_trees.specs.declared.statements.Decl.{Decl}
+use Rattle.away_trees.specs.declared.statements.Stmt.{Stmt}
+use Rattle.away_grammar.specs.Signs.{Sign, mark}
+use Rattle.away_grammar.specs.FunctionGrammar.{decl, decls, statement, statements, branch, elsifs, whens}
 use Rattle.sql_text.specs.declared.refusal.Refusal.{Refusal}
 use Rattle.sql_text.specs.Plans.{done, eat, read, Begins, ends, eats, leaves, sees, misses, reads, breaks, tree, no_tree, no_memory}
 use Rattle.sql_text.proofs.Steps.{run_of}

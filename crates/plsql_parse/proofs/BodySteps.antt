@@ -1,12 +1,13 @@
 -- Steps of the plans of bodies, by what the code found.
 use Rattle.std.proofs.Common.{◌≡◌, ℕ, Bool, true, false, not, List, [], ◌∷◌, inl, inr, Option, Some, None, Result, Ok, Err, refl, sym, ◌∙◌, ap, subst}
+use Rattle.std.proofs.lemmas.Option.{same_Some}
 use Rattle.std.specs.Bool.{OnTrue, OnFalse}
-use Rattle.away_core.specs.declared.grammar.Mark.{Mark}
-use Rattle.away_core.specs.declared.grammar.Mark.TheVariants as m
-use Rattle.away_core.specs.declared.statements.Arm.{Arm}
-use Rattle.away_core.specs.declared.statements.Stmt.{Stmt}
-use Rattle.away_core.specs.Signs.{Sign, mark}
-use Rattle.away_core.specs.FunctionGrammar.{Part, PartTree, statement, branch, otherwise, loop_opens}
+use Rattle.away_grammar.specs.declared.grammar.Mark.{Mark}
+use Rattle.away_grammar.specs.declared.grammar.Mark.TheVariants as m
+use Rattle.away_trees.specs.declared.statements.Arm.{Arm}
+use Rattle.away_trees.specs.declared.statements.Stmt.{Stmt}
+use Rattle.away_grammar.specs.Signs.{Sign, mark}
+use Rattle.away_grammar.specs.FunctionGrammar.{Part, PartTree, statement, branch, otherwise, loop_opens}
 use Rattle.sql_text.specs.declared.refusal.Refusal.{Refusal}
 use Rattle.sql_text.specs.declared.refusal.Refusal.TheVariants.{NoTree}
 use Rattle.sql_text.specs.Said.{Taken, Expected}
@@ -23,9 +24,6 @@ use Rattle.plsql_parse.proofs.Passing.{opens_past}
 -- what the plan of a part gives
 abbrev pub PartGives : (p : Part) → PartPlan p → List Sign → Result (PartTree p) Refusal → List Sign → Type 0
 PartGives p = Gives AnyTree any_plan (part p)
-
-some_same : {A : Type 0} {a b : A} → Some a ≡ Some b → a ≡ b
-some_same {a = a} e = ap (λ o. elim o [ None ↦ a | Some v ↦ v ]) e
 
 -- ---- by whether something was taken
 
@@ -80,7 +78,7 @@ arms_on {p = p} cons plan {arms = arms} {middle = middle} {new = new} {r = r} (t
       | inl v ↦ elim (inside v.3) [
         | inl w ↦ (
             let same : Some (arms, middle) ≡ Some (cons v.0 w.0, w.1) = inside w.3 in
-            let pair : (arms, middle) ≡ (cons v.0 w.0, w.1) = some_same same in
+            let pair : (arms, middle) ≡ (cons v.0 w.0, w.1) = same_Some _ _ same in
             let all : arms ≡ cons v.0 w.0 = ap (λ p. p.0) pair in
             let rest : middle ≡ w.1 = ap (λ p. p.1) pair in
             read_on {f = λ a. read (part p) (λ more. plan (cons a more))} (tree v.2)
@@ -110,12 +108,12 @@ arms_no cons plan no_memory = no_memory
 pub opens_at : (ts : List Sign) (s : Sign) (behind : Bool) → Some s ≡ first ts → is_loop s ≡ true → loop_opens ts behind ≡ not behind
 opens_at [] s behind e h = absurd (cc e)
 opens_at (mark m.Loop ∷ ts) s behind e h = refl
-opens_at (t ∷ ts) s behind e h = absurd (let same : s ≡ t = some_same e in let k : is_loop s ≡ is_loop t = ap is_loop same in cc (h, k))
+opens_at (t ∷ ts) s behind e h = absurd (let same : s ≡ t = same_Some _ _ e in let k : is_loop s ≡ is_loop t = ap is_loop same in cc (h, k))
 
 pub opens_on : (ts rest : List Sign) (s : Sign) (behind : Bool) → Some s ≡ first ts → rest ≡ tail ts → is_loop s ≡ false → loop_opens rest (is_end s) ≡ loop_opens ts behind
 opens_on [] rest s behind e q h = absurd (cc e)
 opens_on (t ∷ ts) rest s behind e q h =
-    let same : s ≡ t = some_same e in
+    let same : s ≡ t = same_Some _ _ e in
     let plain : is_loop t ≡ false = ap is_loop (sym same) ∙ h in
     ap (λ l. loop_opens l (is_end s)) q ∙ ap (λ s. loop_opens ts (is_end s)) same ∙ sym (opens_past t ts behind plain)
 

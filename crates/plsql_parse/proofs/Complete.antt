@@ -1,8 +1,8 @@
 -- What the grammar reads and what ends it, the plan gives.
 use Rattle.std.proofs.Common.{List}
-use Rattle.away_core.specs.Signs.{Sign}
-use Rattle.away_core.specs.FunctionGrammar as g
-use Rattle.away_core.specs.FunctionGrammar.{Part, PartTree, ReadsPart}
+use Rattle.away_grammar.specs.Signs.{Sign}
+use Rattle.away_grammar.specs.FunctionGrammar as g
+use Rattle.away_grammar.specs.FunctionGrammar.{Part, PartTree, ReadsPart}
 use Rattle.plsql_parse.proofs.Beginnings.{beginning}
 use Rattle.plsql_parse.proofs.RunSteps.{GivenPart}
 use Rattle.plsql_parse.proofs.CompleteBodies as bodies

@@ -1,21 +1,21 @@
 -- Bodies: what the grammar reads, the plans give, step by step.
 use Rattle.std.proofs.Common.{◌≡◌, ℕ, Bool, true, false, List, [], ◌∷◌, Option, Some, None, refl, ap, lit<}
 use Rattle.std.specs.Prelude.{codes}
-use Rattle.away_core.specs.declared.grammar.Mark.{Mark}
-use Rattle.away_core.specs.declared.grammar.Mark.TheVariants as m
-use Rattle.away_core.specs.declared.grammar.Level.TheVariants as l
-use Rattle.away_core.specs.declared.types.Ty.{Ty}
-use Rattle.away_core.specs.declared.queries.Expr.{Expr}
-use Rattle.away_core.specs.declared.statements.Decl.{Decl}
-use Rattle.away_core.specs.declared.statements.Arm.{Arm}
-use Rattle.away_core.specs.declared.statements.LoopKind.{LoopKind}
-use Rattle.away_core.specs.declared.statements.LoopKind.TheVariants as k
-use Rattle.away_core.specs.declared.statements.Raised.TheVariants as r
-use Rattle.away_core.specs.declared.statements.Stmt.{Stmt}
-use Rattle.away_core.specs.declared.statements.Stmt.TheVariants as s
-use Rattle.away_core.specs.Signs.{Sign, mark, name, string}
-use Rattle.away_core.specs.Grammar.{at, Reads, perhaps, not_null, type_named}
-use Rattle.away_core.specs.FunctionGrammar.{decl, decls, default, statement, statements, branch, elsifs, whens, otherwise, condition, block, repeated, kind, step, body, labelled, perhaps_name, either, gives_default, assigns, opens_loop}
+use Rattle.away_grammar.specs.declared.grammar.Mark.{Mark}
+use Rattle.away_grammar.specs.declared.grammar.Mark.TheVariants as m
+use Rattle.away_grammar.specs.declared.grammar.Level.TheVariants as l
+use Rattle.away_values.specs.declared.types.Ty.{Ty}
+use Rattle.away_trees.specs.declared.queries.Expr.{Expr}
+use Rattle.away_trees.specs.declared.statements.Decl.{Decl}
+use Rattle.away_trees.specs.declared.statements.Arm.{Arm}
+use Rattle.away_trees.specs.declared.statements.LoopKind.{LoopKind}
+use Rattle.away_trees.specs.declared.statements.LoopKind.TheVariants as k
+use Rattle.away_trees.specs.declared.statements.Raised.TheVariants as r
+use Rattle.away_trees.specs.declared.statements.Stmt.{Stmt}
+use Rattle.away_trees.specs.declared.statements.Stmt.TheVariants as s
+use Rattle.away_grammar.specs.Signs.{Sign, mark, name, string}
+use Rattle.away_grammar.specs.Grammar.{at, Reads, perhaps, not_null, type_named}
+use Rattle.away_grammar.specs.FunctionGrammar.{decl, decls, default, statement, statements, branch, elsifs, whens, otherwise, condition, block, repeated, kind, step, body, labelled, perhaps_name, either, gives_default, assigns, opens_loop}
 use Rattle.sql_text.specs.Plans.{Begins, done, eat, expect, ends, takes, eats, leaves, sees, misses, reads}
 use Rattle.sql_text.specs.Next.{name_in, type_in}
 use Rattle.sql_text.proofs.Starts.{starts, cannot_begin}

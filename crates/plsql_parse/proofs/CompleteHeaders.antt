@@ -1,16 +1,16 @@
 -- What stands around a body: what the grammar reads, the plans give, step by step.
 use Rattle.std.proofs.Common.{◌≡◌, ℕ, Bool, true, false, List, [], ◌∷◌, Option, Some, refl, sym, ap, subst}
 use Rattle.std.specs.Prelude.{codes}
-use Rattle.away_core.specs.declared.grammar.Mark.TheVariants as m
-use Rattle.away_core.specs.declared.grammar.Attribute.{Attribute}
-use Rattle.away_core.specs.declared.grammar.Attribute.TheVariants as attribute
-use Rattle.away_core.specs.declared.types.Ty.{Ty}
-use Rattle.away_core.specs.declared.statements.Stmt.{Stmt}
-use Rattle.away_core.specs.declared.statements.Function.{Function}
-use Rattle.away_core.specs.Signs.{Sign, mark, name, integer, string, quote}
-use Rattle.away_core.specs.Grammar.{perhaps, qualified, type_named}
-use Rattle.away_core.specs.FunctionGrammar as g
-use Rattle.away_core.specs.FunctionGrammar.{Part, PartTree, parameters, signature, attribute_of, attributes, function, or_replace, one_word, may_run, may_stand}
+use Rattle.away_grammar.specs.declared.grammar.Mark.TheVariants as m
+use Rattle.away_grammar.specs.declared.grammar.Attribute.{Attribute}
+use Rattle.away_grammar.specs.declared.grammar.Attribute.TheVariants as attribute
+use Rattle.away_values.specs.declared.types.Ty.{Ty}
+use Rattle.away_trees.specs.declared.statements.Stmt.{Stmt}
+use Rattle.away_trees.specs.declared.statements.Function.{Function}
+use Rattle.away_grammar.specs.Signs.{Sign, mark, name, integer, string, quote}
+use Rattle.away_grammar.specs.Grammar.{perhaps, qualified, type_named}
+use Rattle.away_grammar.specs.FunctionGrammar as g
+use Rattle.away_grammar.specs.FunctionGrammar.{Part, PartTree, parameters, signature, attribute_of, attributes, function, or_replace, one_word, may_run, may_stand}
 use Rattle.sql_text.specs.Plans.{fail, eat, ends, takes, eats, leaves, sees, misses, reads}
 use Rattle.sql_text.specs.Next.{name_in, type_in}
 use Rattle.sql_text.proofs.CompleteSteps.{other_sign}

@@ -1,17 +1,17 @@
 -- The variables and the loops of a statement, by its parts.
 use Rattle.std.proofs.Common.{◌≡◌, ℕ, ◌+◌, List, length, Option, Some, None, sum, sum_by, Bool, refl, ap, ◌∙◌, map}
 use Rattle.std.proofs.lemmas.List.Sums.{sum-map, sum_by_more, sum_by_more_le}
-use Rattle.away_core.specs.declared.queries.Expr.{Expr}
-use Rattle.away_core.specs.declared.queries.Select.{Select}
-use Rattle.away_core.specs.declared.statements.Arm.{Arm}
-use Rattle.away_core.specs.declared.statements.Decl.{Decl}
-use Rattle.away_core.specs.declared.statements.LoopKind.{LoopKind}
-use Rattle.away_core.specs.declared.statements.Raised.{Raised}
-use Rattle.away_core.specs.declared.statements.Stmt.{Stmt}
-use Rattle.away_core.specs.declared.statements.Stmt.TheVariants as stmt
-use Rattle.away_core.specs.StatementAlgebra.{stmt_of, branch_of}
-use Rattle.away_core.proofs.StatementEquations.{of_block, of_loop, of_if, of_cases}
-use Rattle.plsql_parse.specs.Counts.{counting_variables, variables_of, variables_of_arm, counting_loops, loops_of, loops_of_arm, for_loops}
+use Rattle.away_trees.specs.declared.queries.Expr.{Expr}
+use Rattle.away_trees.specs.declared.queries.Select.{Select}
+use Rattle.away_trees.specs.declared.statements.Arm.{Arm}
+use Rattle.away_trees.specs.declared.statements.Decl.{Decl}
+use Rattle.away_trees.specs.declared.statements.LoopKind.{LoopKind}
+use Rattle.away_trees.specs.declared.statements.Raised.{Raised}
+use Rattle.away_trees.specs.declared.statements.Stmt.{Stmt}
+use Rattle.away_trees.specs.declared.statements.Stmt.TheVariants as stmt
+use Rattle.away_trees.specs.StatementAlgebra.{stmt_of, branch_of}
+use Rattle.away_trees.proofs.StatementEquations.{of_block, of_loop, of_if, of_cases}
+use Rattle.away_trees.specs.Limits.{counting_variables, variables_of, variables_of_arm, counting_loops, loops_of, loops_of_arm, for_loops}
 
 -- of what stands behind an ELSE
 abbrev pub in_else : (Stmt → ℕ) → Option (List Stmt) → ℕ

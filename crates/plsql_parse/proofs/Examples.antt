@@ -1,15 +1,15 @@
 -- Worked examples, by computation.
 use Rattle.std.proofs.Common.{◌≡◌, ℕ, List, [], Some, None, refl}
-use Rattle.away_core.specs.declared.statements.Stmt.{Stmt}
-use Rattle.away_core.specs.Signs.{Sign, word_mark, symbol_mark}
-use Rattle.away_core.specs.Spellings.{number}
-use Rattle.away_core.specs.Grammar.{type_named}
-use Rattle.away_core.specs.FunctionGrammar.{Part, PartTree, ReadsPart, body, function}
-use Rattle.away_core.specs.WorkedFunctions.{collatz, walk}
+use Rattle.away_trees.specs.declared.statements.Stmt.{Stmt}
+use Rattle.away_grammar.specs.Signs.{Sign, word_mark, symbol_mark}
+use Rattle.away_grammar.specs.Spellings.{number}
+use Rattle.away_grammar.specs.Grammar.{type_named}
+use Rattle.away_grammar.specs.FunctionGrammar.{Part, PartTree, ReadsPart, body, function}
+use Rattle.away_trees.specs.WorkedFunctions.{collatz, walk}
 use Rattle.plsql_parse.specs.Sorts.{part}
 use Rattle.plsql_parse.specs.Plans.{any_plan, part_plan}
 use Rattle.plsql_parse.specs.Stops.{StopsPart}
-use Rattle.away_core.specs.OutsideWords.{is_outside}
+use Rattle.away_grammar.specs.OutsideWords.{is_outside}
 use Rattle.plsql_parse.specs.WorkedTokens.{OutsideWordsFound}
 use Rattle.plsql_parse.specs.WorkedSigns.{collatz_outer, collatz_body, walk_outer, walk_body, many_signs, many_statements, unpaired_signs}
 use Rattle.plsql_parse.proofs.Sound.{sound}

@@ -1,10 +1,10 @@
 -- What the loops over parameters and attributes have read so far, and what is left of their plans.
 use Rattle.std.proofs.Common.{◌≡◌, ℕ, true, false, List, [], ◌∷◌, ◌++◌, Option, Some, None, Ok, Err, sym, subst, append-nil}
-use Rattle.away_core.specs.declared.grammar.Attribute.{Attribute}
-use Rattle.away_core.specs.declared.grammar.Mark.TheVariants as m
-use Rattle.away_core.specs.declared.types.Ty.{Ty}
-use Rattle.away_core.specs.FunctionGrammar.{parameter, parameters, attribute_of, attributes}
-use Rattle.away_core.specs.Signs.{Sign, mark}
+use Rattle.away_grammar.specs.declared.grammar.Attribute.{Attribute}
+use Rattle.away_grammar.specs.declared.grammar.Mark.TheVariants as m
+use Rattle.away_values.specs.declared.types.Ty.{Ty}
+use Rattle.away_grammar.specs.FunctionGrammar.{parameter, parameters, attribute_of, attributes}
+use Rattle.away_grammar.specs.Signs.{Sign, mark}
 use Rattle.sql_text.specs.declared.refusal.Refusal.{Refusal}
 use Rattle.sql_text.specs.Plans.{done, read, eat, Begins, Runs, ends, eats, leaves, sees, misses, reads, breaks, Gives, tree, no_tree, no_memory}
 use Rattle.sql_text.proofs.Loops.{behind}

@@ -2,10 +2,10 @@
 use Rattle.std.proofs.Common.{◌≡◌, ℕ, Bool, true, false, List, [], ◌∷◌, Option, Some, None, refl, sym, subst}
 use Rattle.std.specs.Prelude.{bytes_eq, codes}
 use Rattle.std.proofs.lemmas.Slice.Eq.{bytes_eq-Decides}
-use Rattle.away_core.specs.declared.grammar.Mark.TheVariants as m
-use Rattle.away_core.specs.Signs.{Sign, mark, name, integer, string, quote}
-use Rattle.away_core.specs.Grammar.{qualified}
-use Rattle.away_core.specs.FunctionGrammar.{Part, perhaps_name}
+use Rattle.away_grammar.specs.declared.grammar.Mark.TheVariants as m
+use Rattle.away_grammar.specs.Signs.{Sign, mark, name, integer, string, quote}
+use Rattle.away_grammar.specs.Grammar.{qualified}
+use Rattle.away_grammar.specs.FunctionGrammar.{Part, perhaps_name}
 use Rattle.sql_text.specs.Plans.{Plan, done, fail, take, eat, look, read, with}
 use Rattle.sql_text.proofs.Holds.{Holds, name_taken, if_holds}
 use Rattle.plsql_parse.specs.Sorts.{part, PartPlan, ReadsAny, begins_word, eat_word, maybe_name, qualified_name, a_name, string_in, quote_in, integer_in}

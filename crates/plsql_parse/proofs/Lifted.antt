@@ -1,9 +1,9 @@
 -- Plans of SQL among the plans of functions.
 use Rattle.std.proofs.Common.{Bool, List, Option, Some, None}
 use Rattle.std.specs.Prelude.{Result}
-use Rattle.away_core.specs.declared.grammar.Mark.{Mark}
-use Rattle.away_core.specs.Signs.{Sign}
-use Rattle.away_core.specs.Grammar.{Sort, Tree, Reads}
+use Rattle.away_grammar.specs.declared.grammar.Mark.{Mark}
+use Rattle.away_grammar.specs.Signs.{Sign}
+use Rattle.away_grammar.specs.Grammar.{Sort, Tree, Reads}
 use Rattle.sql_text.specs.declared.refusal.Refusal.{Refusal}
 use Rattle.sql_text.specs.Plans.{Plan, done, fail, take, eat, look, read, first, Runs, ends, fails, takes, eats, leaves, sees, misses, reads, breaks, Gives, tree, no_tree, no_memory}
 use Rattle.sql_text.specs.Descent.{plan}

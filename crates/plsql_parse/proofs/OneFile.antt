@@ -2,12 +2,12 @@
 use Rattle.std.proofs.Common.{◌≡◌, ℕ, ◌+◌, true, false, List, [], ◌∷◌, ◌++◌, inl, inr, length, drop, Option, Some, None, refl, sym, ap, ◌∙◌, subst, append_assoc}
 use Rattle.std.proofs.lemmas.List.{append_cancel_left, append_cancel_right}
 use Rattle.std.specs.List.{list_all}
-use Rattle.away_core.specs.declared.statements.Function.{Function}
-use Rattle.away_core.specs.Spellings.{goes_on, IsTag, mark_of}
-use Rattle.away_core.specs.Tokens.{Lexeme}
-use Rattle.away_core.specs.Signs.{all_say}
-use Rattle.away_core.specs.FunctionFile.{IsInside, LexesPart, LexesBody, LexesFile, first_dollar, up_to_dollar}
-use Rattle.away_core.specs.FunctionGrammar.{ReadsPart, ReadsFunction, body, function}
+use Rattle.away_trees.specs.declared.statements.Function.{Function}
+use Rattle.away_grammar.specs.Spellings.{goes_on, IsTag, mark_of}
+use Rattle.away_grammar.specs.Tokens.{Lexeme}
+use Rattle.away_grammar.specs.Signs.{all_say}
+use Rattle.away_grammar.specs.FunctionFile.{IsInside, LexesPart, LexesBody, LexesFile, first_dollar, up_to_dollar}
+use Rattle.away_grammar.specs.FunctionGrammar.{ReadsPart, ReadsFunction, body, function}
 use Rattle.away_lex.proofs.Runs.{and_left, and_right}
 use Rattle.away_lex.proofs.Reading.{one_list}
 use Rattle.plsql_parse.specs.Plans.{FileGives}

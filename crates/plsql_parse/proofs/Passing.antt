@@ -1,19 +1,19 @@
 -- No expression has a LOOP, so the first LOOP behind WHILE is the one that the condition ends at.
 use Rattle.std.proofs.Common.{◌≡◌, ℕ, Bool, true, false, not, List, [], ◌∷◌, ◌++◌, ◌⊎◌, inl, inr, Option, Some, refl, sym, ap, ◌∙◌, length, arith, length-append}
 use Rattle.std.specs.Prelude.{◌↔◌}
-use Rattle.away_core.specs.declared.grammar.Mark.{Mark}
-use Rattle.away_core.specs.declared.grammar.Mark.TheVariants as m
-use Rattle.away_core.specs.declared.grammar.Level.{Level}
-use Rattle.away_core.specs.declared.grammar.Level.TheVariants as l
-use Rattle.away_core.specs.declared.operators.ChainOp.{ChainOp}
-use Rattle.away_core.specs.declared.operators.CmpOp.{CmpOp}
-use Rattle.away_core.specs.declared.operators.IsTest.{IsTest}
-use Rattle.away_core.specs.declared.queries.Expr.{Expr}
-use Rattle.away_core.specs.Signs.{Sign, mark}
-use Rattle.away_core.specs.Grammar as g
-use Rattle.away_core.specs.Grammar.{Sort, at, Tree, Reads, operator_of, comparison_of, test_of, literal_of, called, perhaps, qualified, not_null}
-use Rattle.away_core.specs.FunctionGrammar as f
-use Rattle.away_core.specs.FunctionGrammar.{ReadsPart, step, loop_opens, opens_loop}
+use Rattle.away_grammar.specs.declared.grammar.Mark.{Mark}
+use Rattle.away_grammar.specs.declared.grammar.Mark.TheVariants as m
+use Rattle.away_grammar.specs.declared.grammar.Level.{Level}
+use Rattle.away_grammar.specs.declared.grammar.Level.TheVariants as l
+use Rattle.away_values.specs.declared.operators.ChainOp.{ChainOp}
+use Rattle.away_values.specs.declared.operators.CmpOp.{CmpOp}
+use Rattle.away_values.specs.declared.operators.IsTest.{IsTest}
+use Rattle.away_trees.specs.declared.queries.Expr.{Expr}
+use Rattle.away_grammar.specs.Signs.{Sign, mark}
+use Rattle.away_grammar.specs.Grammar as g
+use Rattle.away_grammar.specs.Grammar.{Sort, at, Tree, Reads, operator_of, comparison_of, test_of, literal_of, called, perhaps, qualified, not_null}
+use Rattle.away_grammar.specs.FunctionGrammar as f
+use Rattle.away_grammar.specs.FunctionGrammar.{ReadsPart, step, loop_opens, opens_loop}
 use Rattle.plsql_parse.specs.Taken.{is_loop, is_end}
 
 -- From the first signs up to the second ones no LOOP stands.

@@ -1,12 +1,12 @@
 -- Steps of a run of the plan of a part.
 use Rattle.std.proofs.Common.{◌≡◌, ℕ, Bool, true, false, List, [], ◌∷◌, Option, Some, None, refl, sym, subst}
 use Rattle.std.specs.Prelude.{if◌then◌else◌, bytes_eq, codes}
-use Rattle.away_core.specs.declared.grammar.Mark.TheVariants as m
-use Rattle.away_core.specs.declared.grammar.Level.TheVariants as l
-use Rattle.away_core.specs.declared.queries.Expr.{Expr}
-use Rattle.away_core.specs.Signs.{Sign, mark, name, integer, string, parameter, quote}
-use Rattle.away_core.specs.Grammar.{at, Reads, StopsAt, qualified}
-use Rattle.away_core.specs.FunctionGrammar.{Part, PartTree, perhaps_name}
+use Rattle.away_grammar.specs.declared.grammar.Mark.TheVariants as m
+use Rattle.away_grammar.specs.declared.grammar.Level.TheVariants as l
+use Rattle.away_trees.specs.declared.queries.Expr.{Expr}
+use Rattle.away_grammar.specs.Signs.{Sign, mark, name, integer, string, parameter, quote}
+use Rattle.away_grammar.specs.Grammar.{at, Reads, StopsAt, qualified}
+use Rattle.away_grammar.specs.FunctionGrammar.{Part, PartTree, perhaps_name}
 use Rattle.sql_text.specs.Plans.{first, tail, Begins, with, want, eat, is_some, Runs, takes, sees, misses, reads, eats, leaves}
 use Rattle.sql_text.specs.Next.{name_in}
 use Rattle.sql_text.proofs.Complete.{complete}

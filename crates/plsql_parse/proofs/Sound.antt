@@ -1,7 +1,7 @@
 -- What the plan of a part gives, the grammar reads.
 use Rattle.std.proofs.Common.{List, Some, refl}
-use Rattle.away_core.specs.Signs.{Sign}
-use Rattle.away_core.specs.FunctionGrammar.{Part, PartTree, ReadsPart, decl, decls, default, statement, statements, branch, elsifs, whens, otherwise, condition, block, repeated, kind, step, body, parameter, parameters, signature, attribute_of, attributes, function}
+use Rattle.away_grammar.specs.Signs.{Sign}
+use Rattle.away_grammar.specs.FunctionGrammar.{Part, PartTree, ReadsPart, decl, decls, default, statement, statements, branch, elsifs, whens, otherwise, condition, block, repeated, kind, step, body, parameter, parameters, signature, attribute_of, attributes, function}
 use Rattle.sql_text.specs.Plans.{Runs}
 use Rattle.sql_text.specs.Descent.{plan}
 use Rattle.sql_text.proofs.Holds.{Holds, Nothing, here, plan_gives}

@@ -1,14 +1,14 @@
 -- What the plans of bodies give, the grammar reads.
 use Rattle.std.proofs.Common.{ℕ, Bool, true, false, List, [], ◌∷◌, Option, Some, None, refl}
 use Rattle.std.specs.Prelude.{codes}
-use Rattle.away_core.specs.declared.grammar.Mark.{Mark}
-use Rattle.away_core.specs.declared.grammar.Mark.TheVariants as m
-use Rattle.away_core.specs.declared.statements.Raised.TheVariants as r
-use Rattle.away_core.specs.declared.statements.Stmt.TheVariants as s
-use Rattle.away_core.specs.Signs.{Sign, mark, name}
-use Rattle.away_core.specs.Grammar.{perhaps}
-use Rattle.away_core.specs.FunctionGrammar as g
-use Rattle.away_core.specs.FunctionGrammar.{Part, decl, decls, default, statement, statements, branch, elsifs, whens, otherwise, condition, block, repeated, kind, step, body, labelled}
+use Rattle.away_grammar.specs.declared.grammar.Mark.{Mark}
+use Rattle.away_grammar.specs.declared.grammar.Mark.TheVariants as m
+use Rattle.away_trees.specs.declared.statements.Raised.TheVariants as r
+use Rattle.away_trees.specs.declared.statements.Stmt.TheVariants as s
+use Rattle.away_grammar.specs.Signs.{Sign, mark, name}
+use Rattle.away_grammar.specs.Grammar.{perhaps}
+use Rattle.away_grammar.specs.FunctionGrammar as g
+use Rattle.away_grammar.specs.FunctionGrammar.{Part, decl, decls, default, statement, statements, branch, elsifs, whens, otherwise, condition, block, repeated, kind, step, body, labelled}
 use Rattle.sql_text.specs.Plans.{done}
 use Rattle.sql_text.proofs.Holds.{Nothing, here, name_taken, type_taken}
 use Rattle.plsql_parse.specs.Sorts.{ReadsAny}

@@ -2,15 +2,15 @@
 use Rattle.std.proofs.Common.{◌≡◌, ℕ, Bool, true, false, List, ◌∷◌, Option, Some, None, refl, sym, subst}
 use Rattle.std.specs.Prelude.{codes, bytes_eq}
 use Rattle.std.proofs.lemmas.Slice.Eq.{bytes_eq-Decides}
-use Rattle.away_core.specs.declared.grammar.Mark.{Mark}
-use Rattle.away_core.specs.declared.grammar.Mark.TheVariants as m
-use Rattle.away_core.specs.declared.grammar.Attribute.{Attribute}
-use Rattle.away_core.specs.declared.grammar.Attribute.TheVariants as attribute
-use Rattle.away_core.specs.declared.statements.Stmt.{Stmt}
-use Rattle.away_core.specs.Signs.{Sign, mark, name, string}
-use Rattle.away_core.specs.Grammar.{perhaps, qualified}
-use Rattle.away_core.specs.FunctionGrammar as g
-use Rattle.away_core.specs.FunctionGrammar.{Part, ReadsPart, parameters, signature, attribute_of, attributes, function, or_replace, one_word, may_run, may_stand}
+use Rattle.away_grammar.specs.declared.grammar.Mark.{Mark}
+use Rattle.away_grammar.specs.declared.grammar.Mark.TheVariants as m
+use Rattle.away_grammar.specs.declared.grammar.Attribute.{Attribute}
+use Rattle.away_grammar.specs.declared.grammar.Attribute.TheVariants as attribute
+use Rattle.away_trees.specs.declared.statements.Stmt.{Stmt}
+use Rattle.away_grammar.specs.Signs.{Sign, mark, name, string}
+use Rattle.away_grammar.specs.Grammar.{perhaps, qualified}
+use Rattle.away_grammar.specs.FunctionGrammar as g
+use Rattle.away_grammar.specs.FunctionGrammar.{Part, ReadsPart, parameters, signature, attribute_of, attributes, function, or_replace, one_word, may_run, may_stand}
 use Rattle.sql_text.specs.Plans.{done, fail, expect}
 use Rattle.sql_text.proofs.Holds.{Nothing, here, name_taken, type_taken, if_holds}
 use Rattle.plsql_parse.specs.Sorts.{PartPlan, ReadsAny, qualified_name}

@@ -2,11 +2,11 @@
 use Rattle.std.proofs.Common.{◌≡◌, ℕ, zero, suc, Bool, true, false, List, [], ◌∷◌, Option, Some, None, refl, sym, subst}
 use Rattle.std.specs.Prelude.{if◌then◌else◌}
 use denote.Enum.Bare.{sameb, same_true, same_false}
-use Rattle.away_core.specs.contracts.grammar.Mark.{the_type}
-use Rattle.away_core.specs.declared.grammar.Mark.{Mark}
-use Rattle.away_core.specs.Signs.{Sign, mark, name, integer, string, parameter, quote}
+use Rattle.away_grammar.specs.contracts.grammar.Mark.{the_type}
+use Rattle.away_grammar.specs.declared.grammar.Mark.{Mark}
+use Rattle.away_grammar.specs.Signs.{Sign, mark, name, integer, string, parameter, quote}
 use Rattle.sql_text.specs.Plans.{Plan, done, fail, take, eat, look, read, first, tail, Runs, ends, fails, takes, eats, leaves, sees, misses, reads, breaks}
-use Rattle.sql_text.proofs.Holds.{some_same}
+use Rattle.std.proofs.lemmas.Option.{same_Some}
 
 -- what comes of it, or nothing where too many steps were needed
 abbrev pub Trial : {S : Type 0} (T : S → Type 0) → S → Type 0
@@ -45,13 +45,13 @@ module _ {S : Type 0} {T : S → Type 0} {plan : (n : S) → Plan T n} where
       → ((r : Option (T s × List Sign)) → found ≡ Some r → Runs T plan s (plan s) ts r) → ((x : T s) (rest : List Sign) → g x rest ≡ Some o → Runs T plan n (f x) rest o)
       → going_on g found ≡ Some o → Runs T plan n (read s f) ts o
   read_tried f g None inner later e = absurd (cc e)
-  read_tried {n = n} {s = s} {ts = ts} f g (Some None) inner later e = subst (λ o. Runs T plan n (read s f) ts o) (some_same e) (breaks (inner None refl))
+  read_tried {n = n} {s = s} {ts = ts} f g (Some None) inner later e = subst (λ o. Runs T plan n (read s f) ts o) (same_Some _ _ e) (breaks (inner None refl))
   read_tried f g (Some (Some p)) inner later e = reads (inner (Some p) refl) (later p.0 p.1 e)
 
   pub tried_runs : (k : ℕ) (n : S) (p : Plan T n) (ts : List Sign) (o : Option (T n × List Sign)) → tried plan k n p ts ≡ Some o → Runs T plan n p ts o
   tried_runs zero n p ts o e = absurd (cc e)
-  tried_runs (suc k) n (done x) ts o e = subst (λ o. Runs T plan n (done x) ts o) (some_same e) ends
-  tried_runs (suc k) n fail ts o e = subst (λ o. Runs T plan n fail ts o) (some_same e) fails
+  tried_runs (suc k) n (done x) ts o e = subst (λ o. Runs T plan n (done x) ts o) (same_Some _ _ e) ends
+  tried_runs (suc k) n fail ts o e = subst (λ o. Runs T plan n fail ts o) (same_Some _ _ e) fails
   tried_runs (suc k) n (take f) ts o e = takes (tried_runs k n (f (first ts)) (tail ts) o e)
   tried_runs (suc k) n (eat m p q) (mark sign ∷ ts) o e = eat_tried sign m (sameb the_type sign m) refl (tried_runs k n p ts o) (tried_runs k n q (mark sign ∷ ts) o) e
   tried_runs (suc k) n (eat m p q) [] o e = leaves (λ b. absurd (cc (b.1))) (tried_runs k n q [] o e)

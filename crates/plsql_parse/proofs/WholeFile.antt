@@ -1,28 +1,29 @@
 -- What the readers of whole lists answer, and what a file is refused for.
 use Rattle.std.proofs.Common.{IfOk, IfErr, map, ◌≡◌, ℕ, Bool, true, false, if◌then◌else◌, List, [], ◌∷◌, length, Option, Some, None, Result, Ok, Err, sym, ap, subst, arith}
-use Rattle.away_core.specs.declared.statements.Function.{Function}
-use Rattle.away_core.specs.declared.statements.Stmt.{Stmt}
-use Rattle.away_core.specs.FunctionFile.{LexesFile, LexesBody, first_dollar, is_dollar, up_to_dollar}
-use Rattle.away_core.specs.FunctionGrammar.{Part, PartTree, ReadsFunction, body, function}
-use Rattle.away_core.specs.Signs.{Sign, all_say}
-use Rattle.away_core.specs.Spellings.{Spells}
-use Rattle.away_core.specs.Tokens.{Lexeme, AreSpelled}
+use Rattle.away_trees.specs.declared.statements.Function.{Function}
+use Rattle.away_trees.specs.declared.statements.Stmt.{Stmt}
+use Rattle.away_grammar.specs.FunctionFile.{LexesFile, LexesBody, first_dollar, is_dollar, up_to_dollar}
+use Rattle.away_grammar.specs.FunctionGrammar.{Part, PartTree, ReadsFunction, body, function}
+use Rattle.away_grammar.specs.Signs.{Sign, all_say}
+use Rattle.away_grammar.specs.Spellings.{Spells}
+use Rattle.away_grammar.specs.Tokens.{Lexeme, AreSpelled}
 use Rattle.away_lex.proofs.Reading.{are_spelled}
 use Rattle.away_lex.specs.Lexed.{seen}
-use Rattle.away_lex.specs.declared.kind.Token.{Token}
-use Rattle.away_lex.specs.declared.kind.LimitKind.{LimitKind}
-use Rattle.away_lex.specs.declared.kind.LimitKind.TheVariants as limit
-use Rattle.away_lex.specs.declared.kind.ReadRefusal.{ReadRefusal}
-use Rattle.away_lex.specs.declared.kind.ReadRefusal.TheVariants as refusal
+use Rattle.away_lex.specs.declared.slices.Token.{Token}
+use Rattle.away_lex.specs.declared.refusals.LimitKind.{LimitKind}
+use Rattle.away_lex.specs.declared.refusals.LimitKind.TheVariants as limit
+use Rattle.away_lex.specs.declared.refusals.ReadRefusal.{ReadRefusal}
+use Rattle.away_lex.specs.declared.refusals.ReadRefusal.TheVariants as refusal
 use Rattle.sql_text.specs.declared.refusal.Refusal.{Refusal}
 use Rattle.sql_text.specs.declared.refusal.Refusal.TheVariants.{NoTree, NoMemory}
 use Rattle.sql_text.specs.Plans.{Gives, no_tree}
-use Rattle.sql_text.proofs.Holds.{some_same}
+use Rattle.std.proofs.lemmas.Option.{same_Some}
 use Rattle.sql_text.proofs.Plans.{one}
 use Rattle.sql_text.proofs.Steps.{run_of}
 use Rattle.plsql_parse.specs.FileRead.{GivesAll, PartRead, FileRead, RefusesFunction, RefusesLists, RefusesWords}
 use Rattle.plsql_parse.specs.Plans.{any_plan, part_plan, FileGives}
-use Rattle.plsql_parse.specs.Refusals.{Exceeds, CountExceeds, HasFewTokens, KeepsLimits, MayBeRead, ReadsNone, Refuses}
+use Rattle.away_trees.specs.Limits.{KeepsLimits}
+use Rattle.plsql_parse.specs.Refusals.{Exceeds, CountExceeds, HasFewTokens, MayBeRead, ReadsNone, Refuses}
 use Rattle.plsql_parse.specs.Sorts.{AnyTree, part}
 use Rattle.plsql_parse.proofs.OneFile.{file_given}
 
@@ -33,7 +34,7 @@ all_given p {new = []} d e = run_of d
 all_given p {new = s ∷ new} d e = absurd (omega arith)
 
 pub not_all_given : (p : Part) {ts new : List Sign} {x : PartTree p} → Gives AnyTree any_plan (part p) (part_plan p) ts (Ok x) new → ¬ (0 ≡ length new) → (y : PartTree p) → ¬ (GivesAll p ts y)
-not_all_given p d h y r = h (ap (λ o. length o.1) (some_same (one (run_of d) r)))
+not_all_given p d h y r = h (ap (λ o. length o.1) (same_Some _ _ (one (run_of d) r)))
 
 pub not_given : (p : Part) (ts : List Sign) {new : List Sign} (e : Refusal) → Gives AnyTree any_plan (part p) (part_plan p) ts (Err e) new → PartRead p ts (Err e)
 not_given p ts NoTree (no_tree d) = λ y r. absurd (let same = one d r in cc same)
@@ -44,7 +45,7 @@ not_given p ts NoMemory d = tt
 -- no function around the body that is there
 no_file : (outer inner : List Lexeme) (inside : Stmt) → GivesAll body (all_say inner) inside → ((f : Function) → ¬ (GivesAll (function inside) (all_say outer) f)) → (f : Function) → ¬ (FileGives outer inner f)
 no_file outer inner inside b none f r =
-    let same : r.0 ≡ inside = ap (λ o. o.0) (some_same (one b r.1)) in
+    let same : r.0 ≡ inside = ap (λ o. o.0) (same_Some _ _ (one b r.1)) in
     none f (subst (λ inside. GivesAll (function inside) (all_say outer) f) same r.2)
 
 pub file_of : (outer inner : List Lexeme) (inside : Stmt) (r : Result Function Refusal) → GivesAll body (all_say inner) inside → PartRead (function inside) (all_say outer) r → FileRead outer inner r

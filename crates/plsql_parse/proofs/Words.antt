@@ -8,11 +8,11 @@ use Rattle.std.proofs.lemmas.Str.Ascii.{IsAscii-cons, IsAscii-nil}
 use Rattle.std.specs.List.{list_all}
 use Rattle.std.specs.Prelude.{IsAscii, IsUtf8}
 use lib.Utf8.{encodes}
-use Rattle.away_core.specs.declared.grammar.Attribute.{Attribute}
-use Rattle.away_core.specs.declared.grammar.Mark.TheVariants as m
-use Rattle.away_core.specs.declared.grammar.Mark.{Mark}
-use Rattle.away_core.specs.FunctionGrammar.{Part, PartTree, attribute_of, times}
-use Rattle.away_core.specs.Signs.{Sign}
+use Rattle.away_grammar.specs.declared.grammar.Attribute.{Attribute}
+use Rattle.away_grammar.specs.declared.grammar.Mark.TheVariants as m
+use Rattle.away_grammar.specs.declared.grammar.Mark.{Mark}
+use Rattle.away_grammar.specs.FunctionGrammar.{Part, PartTree, attribute_of, times}
+use Rattle.away_grammar.specs.Signs.{Sign}
 use Rattle.away_lex.proofs.Runs.{and_left, and_right}
 use Rattle.sql_text.specs.declared.refusal.Refusal.{Refusal}
 use Rattle.sql_text.specs.declared.refusal.Refusal.TheVariants.{NoTree}

@@ -1,18 +1,18 @@
 -- How the reader of a function's body descends.
 use Rattle.std.specs.Prelude.{ℕ, Bool, true, false, List, [], ◌∷◌, Option, Some, None, codes}
-use Rattle.away_core.specs.declared.grammar.Mark.{Mark}
-use Rattle.away_core.specs.declared.grammar.Mark.TheVariants as m
-use Rattle.away_core.specs.declared.types.Ty.{Ty}
-use Rattle.away_core.specs.declared.queries.Expr.{Expr}
-use Rattle.away_core.specs.declared.statements.Decl.{Decl}
-use Rattle.away_core.specs.declared.statements.LoopKind.{LoopKind}
-use Rattle.away_core.specs.declared.statements.LoopKind.TheVariants as k
-use Rattle.away_core.specs.declared.statements.Raised.{Raised}
-use Rattle.away_core.specs.declared.statements.Raised.TheVariants as r
-use Rattle.away_core.specs.declared.statements.Stmt.{Stmt}
-use Rattle.away_core.specs.declared.statements.Stmt.TheVariants as s
-use Rattle.away_core.specs.Signs.{Sign, mark, name}
-use Rattle.away_core.specs.FunctionGrammar.{decl, decls, default, statement, statements, branch, elsifs, whens, otherwise, condition, block, repeated, kind, step, body, opens_loop}
+use Rattle.away_grammar.specs.declared.grammar.Mark.{Mark}
+use Rattle.away_grammar.specs.declared.grammar.Mark.TheVariants as m
+use Rattle.away_values.specs.declared.types.Ty.{Ty}
+use Rattle.away_trees.specs.declared.queries.Expr.{Expr}
+use Rattle.away_trees.specs.declared.statements.Decl.{Decl}
+use Rattle.away_trees.specs.declared.statements.LoopKind.{LoopKind}
+use Rattle.away_trees.specs.declared.statements.LoopKind.TheVariants as k
+use Rattle.away_trees.specs.declared.statements.Raised.{Raised}
+use Rattle.away_trees.specs.declared.statements.Raised.TheVariants as r
+use Rattle.away_trees.specs.declared.statements.Stmt.{Stmt}
+use Rattle.away_trees.specs.declared.statements.Stmt.TheVariants as s
+use Rattle.away_grammar.specs.Signs.{Sign, mark, name}
+use Rattle.away_grammar.specs.FunctionGrammar.{decl, decls, default, statement, statements, branch, elsifs, whens, otherwise, condition, block, repeated, kind, step, body, opens_loop}
 use Rattle.sql_text.specs.Plans.{done, fail, take, eat, look, read, want, expect}
 use Rattle.plsql_parse.specs.Sorts.{part, PartPlan, expression, a_name, a_type, maybe_name, eat_word, string_in, is_name}
 

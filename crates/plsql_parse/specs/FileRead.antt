@@ -1,16 +1,16 @@
 -- What the parts of the reader of a whole file answer.
 use Rattle.std.specs.Prelude.{◌≡◌, ◌<◌, ℕ, List, [], Some, None, Result, Ok, Err}
-use Rattle.away_core.specs.declared.statements.Function.{Function}
-use Rattle.away_core.specs.declared.statements.Stmt.{Stmt}
-use Rattle.away_core.specs.FunctionGrammar.{Part, PartTree, function}
-use Rattle.away_core.specs.FunctionFile.{LexesFile}
-use Rattle.away_core.specs.OutsideWords.{outside_word}
-use Rattle.away_core.specs.Signs.{Sign}
-use Rattle.away_core.specs.Texts.{IsText}
-use Rattle.away_core.specs.Tokens.{Lexeme}
-use Rattle.away_lex.specs.declared.kind.LimitKind.TheVariants as limit
-use Rattle.away_lex.specs.declared.kind.ReadRefusal.{ReadRefusal}
-use Rattle.away_lex.specs.declared.kind.ReadRefusal.TheVariants as refusal
+use Rattle.away_trees.specs.declared.statements.Function.{Function}
+use Rattle.away_trees.specs.declared.statements.Stmt.{Stmt}
+use Rattle.away_grammar.specs.FunctionGrammar.{Part, PartTree, function}
+use Rattle.away_grammar.specs.FunctionFile.{LexesFile}
+use Rattle.away_grammar.specs.OutsideWords.{outside_word}
+use Rattle.away_grammar.specs.Signs.{Sign}
+use Rattle.away_grammar.specs.Texts.{IsText}
+use Rattle.away_grammar.specs.Tokens.{Lexeme}
+use Rattle.away_lex.specs.declared.refusals.LimitKind.TheVariants as limit
+use Rattle.away_lex.specs.declared.refusals.ReadRefusal.{ReadRefusal}
+use Rattle.away_lex.specs.declared.refusals.ReadRefusal.TheVariants as refusal
 use Rattle.sql_text.specs.Plans.{Runs}
 use Rattle.sql_text.specs.declared.refusal.Refusal.{Refusal}
 use Rattle.sql_text.specs.declared.refusal.Refusal.TheVariants.{NoTree, NoMemory}

@@ -4,7 +4,6 @@ pub mod Headers
 pub mod Plans
 pub mod Taken
 pub mod Stops
-pub mod Counts
 pub mod Refusals
 pub mod FileRead
 pub mod HeaderRead

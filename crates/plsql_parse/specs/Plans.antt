@@ -1,10 +1,10 @@
 -- The plan of each sort.
 use Rattle.std.specs.Prelude.{List, [], Some}
-use Rattle.away_core.specs.FunctionGrammar.{Part, decl, decls, default, statement, statements, branch, elsifs, whens, otherwise, condition, block, repeated, kind, step, body, parameter, parameters, signature, attribute_of, attributes, function}
-use Rattle.away_core.specs.declared.statements.Stmt.{Stmt}
-use Rattle.away_core.specs.declared.statements.Function.{Function}
-use Rattle.away_core.specs.Signs.{all_say}
-use Rattle.away_core.specs.Tokens.{Lexeme}
+use Rattle.away_grammar.specs.FunctionGrammar.{Part, decl, decls, default, statement, statements, branch, elsifs, whens, otherwise, condition, block, repeated, kind, step, body, parameter, parameters, signature, attribute_of, attributes, function}
+use Rattle.away_trees.specs.declared.statements.Stmt.{Stmt}
+use Rattle.away_trees.specs.declared.statements.Function.{Function}
+use Rattle.away_grammar.specs.Signs.{all_say}
+use Rattle.away_grammar.specs.Tokens.{Lexeme}
 use Rattle.sql_text.specs.Plans.{Plan, Runs}
 use Rattle.sql_text.specs.Descent as descent
 use Rattle.plsql_parse.specs.Sorts.{AnySort, sql, part, AnyTree, PartPlan, lifted}

@@ -1,40 +1,25 @@
 -- When a file is read as a function, and what each refusal says.
 use Rattle.std.specs.Prelude.{◌≡◌, ◌≤◌, ◌<◌, ℕ, List, Some, None}
-use Rattle.away_core.specs.declared.statements.Function.{Function}
-use Rattle.away_core.specs.Count.{nodes}
-use Rattle.away_core.specs.FunctionFile.{LexesFile}
-use Rattle.away_core.specs.FunctionGrammar.{ReadsFunction}
-use Rattle.away_core.specs.Nesting.{IsNesting}
-use Rattle.away_core.specs.OutsideWords.{outside_word}
-use Rattle.away_core.specs.Reserved.{folded}
-use Rattle.away_core.specs.Texts.{IsText}
-use Rattle.away_core.specs.Tokens.{Lexeme}
-use Rattle.away_lex.specs.declared.kind.LimitKind.{LimitKind}
-use Rattle.away_lex.specs.declared.kind.LimitKind.TheVariants as limit
-use Rattle.away_lex.specs.declared.kind.ReadRefusal.{ReadRefusal}
-use Rattle.away_lex.specs.declared.kind.ReadRefusal.TheVariants.{NotText, Token, NoTree, Outside, Limit, NoMemory}
-use Rattle.plsql_parse.specs.Counts.{variables, loops}
+use Rattle.away_trees.specs.declared.statements.Function.{Function}
+use Rattle.away_trees.specs.Count.{nodes}
+use Rattle.away_grammar.specs.FunctionFile.{LexesFile}
+use Rattle.away_grammar.specs.FunctionGrammar.{ReadsFunction}
+use Rattle.away_grammar.specs.Nesting.{IsNesting}
+use Rattle.away_grammar.specs.OutsideWords.{outside_word}
+use Rattle.away_grammar.specs.Reserved.{folded}
+use Rattle.away_grammar.specs.Texts.{IsText}
+use Rattle.away_grammar.specs.Tokens.{Lexeme}
+use Rattle.away_lex.specs.declared.refusals.LimitKind.{LimitKind}
+use Rattle.away_lex.specs.declared.refusals.LimitKind.TheVariants as limit
+use Rattle.away_lex.specs.declared.refusals.ReadRefusal.{ReadRefusal}
+use Rattle.away_lex.specs.declared.refusals.ReadRefusal.TheVariants.{NotText, Token, NoTree, Outside, Limit, NoMemory}
+use Rattle.away_trees.specs.Limits.{variables, loops, most_nodes, most_variables, most_loops}
 
 -- ---- limits
 
 -- the greatest nesting of a body that is read
 abbrev pub most_nesting : ℕ
 most_nesting = 64
-
-abbrev pub most_nodes : ℕ
-most_nodes = 500
-
-abbrev pub most_variables : ℕ
-most_variables = 64
-
-abbrev pub most_loops : ℕ
-most_loops = 64
-
--- No count of the function exceeds its limit.
-pub record KeepsLimits (f : Function) : Type 0 where
-  pub few_nodes : nodes f ≤ most_nodes
-  pub few_variables : variables f ≤ most_variables
-  pub few_loops : loops f ≤ most_loops
 
 -- ---- tokens
 

@@ -1,12 +1,12 @@
 -- The sorts of functions beside those of SQL, and the steps of their readers' plans.
 use Rattle.std.specs.Prelude.{ℕ, Bool, true, false, List, ◌∷◌, Option, Some, None, bytes_eq, codes, if◌then◌else◌}
-use Rattle.away_core.specs.declared.grammar.Mark.TheVariants as m
-use Rattle.away_core.specs.declared.grammar.Level.TheVariants as l
-use Rattle.away_core.specs.declared.types.Ty.{Ty}
-use Rattle.away_core.specs.declared.queries.Expr.{Expr}
-use Rattle.away_core.specs.Signs.{Sign, name, integer, string, quote}
-use Rattle.away_core.specs.Grammar.{Sort, at, Tree, Reads}
-use Rattle.away_core.specs.FunctionGrammar.{Part, PartTree, ReadsPart}
+use Rattle.away_grammar.specs.declared.grammar.Mark.TheVariants as m
+use Rattle.away_grammar.specs.declared.grammar.Level.TheVariants as l
+use Rattle.away_values.specs.declared.types.Ty.{Ty}
+use Rattle.away_trees.specs.declared.queries.Expr.{Expr}
+use Rattle.away_grammar.specs.Signs.{Sign, name, integer, string, quote}
+use Rattle.away_grammar.specs.Grammar.{Sort, at, Tree, Reads}
+use Rattle.away_grammar.specs.FunctionGrammar.{Part, PartTree, ReadsPart}
 use Rattle.sql_text.specs.Plans.{Plan, done, fail, take, eat, look, read, want, perhaps_a}
 use Rattle.sql_text.specs.Next.{name_in, type_in}
 

@@ -1,14 +1,14 @@
 -- What the reader of bodies takes, and what it makes of it.
 use Rattle.std.specs.Prelude.{ℕ, Bool, true, false, List, Result, Ok, Err}
-use Rattle.away_core.specs.declared.grammar.Mark.{Mark}
-use Rattle.away_core.specs.declared.grammar.Mark.TheVariants as m
-use Rattle.away_core.specs.declared.queries.Expr.{Expr}
-use Rattle.away_core.specs.declared.statements.Arm.{Arm}
-use Rattle.away_core.specs.declared.statements.Raised.{Raised}
-use Rattle.away_core.specs.declared.statements.Raised.TheVariants as r
-use Rattle.away_core.specs.declared.statements.Stmt.{Stmt}
-use Rattle.away_core.specs.Signs.{Sign, mark}
-use Rattle.away_core.specs.FunctionGrammar.{statement}
+use Rattle.away_grammar.specs.declared.grammar.Mark.{Mark}
+use Rattle.away_grammar.specs.declared.grammar.Mark.TheVariants as m
+use Rattle.away_trees.specs.declared.queries.Expr.{Expr}
+use Rattle.away_trees.specs.declared.statements.Arm.{Arm}
+use Rattle.away_trees.specs.declared.statements.Raised.{Raised}
+use Rattle.away_trees.specs.declared.statements.Raised.TheVariants as r
+use Rattle.away_trees.specs.declared.statements.Stmt.{Stmt}
+use Rattle.away_grammar.specs.Signs.{Sign, mark}
+use Rattle.away_grammar.specs.FunctionGrammar.{statement}
 use Rattle.sql_text.specs.Plans.{done, expect, Gives}
 use Rattle.sql_text.specs.declared.refusal.Refusal.{Refusal}
 use Rattle.plsql_parse.specs.Sorts.{AnyTree, part, PartPlan}

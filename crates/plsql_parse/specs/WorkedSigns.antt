@@ -1,14 +1,14 @@
 -- The signs of worked functions, token by token.
 use Rattle.std.specs.Prelude.{ℕ, List, [], ◌∷◌, Some, None, codes, pos, true, false}
-use Rattle.away_core.specs.declared.tokens.TokenKind.TheVariants.{Word, Integer, Symbol, Dollar}
-use Rattle.away_core.specs.declared.types.Ty.TheVariants as ty
-use Rattle.away_core.specs.declared.queries.Expr.{Expr}
-use Rattle.away_core.specs.declared.queries.Expr.TheVariants as e
-use Rattle.away_core.specs.declared.statements.LoopKind.TheVariants as k
-use Rattle.away_core.specs.declared.statements.Raised.TheVariants as r
-use Rattle.away_core.specs.declared.statements.Stmt.{Stmt}
-use Rattle.away_core.specs.declared.statements.Stmt.TheVariants as s
-use Rattle.away_core.specs.Signs.{Sign, string, says_by}
+use Rattle.away_grammar.specs.declared.tokens.TokenKind.TheVariants.{Word, Integer, Symbol, Dollar}
+use Rattle.away_values.specs.declared.types.Ty.TheVariants as ty
+use Rattle.away_trees.specs.declared.queries.Expr.{Expr}
+use Rattle.away_trees.specs.declared.queries.Expr.TheVariants as e
+use Rattle.away_trees.specs.declared.statements.LoopKind.TheVariants as k
+use Rattle.away_trees.specs.declared.statements.Raised.TheVariants as r
+use Rattle.away_trees.specs.declared.statements.Stmt.{Stmt}
+use Rattle.away_trees.specs.declared.statements.Stmt.TheVariants as s
+use Rattle.away_grammar.specs.Signs.{Sign, string, says_by}
 
 -- a word, a symbol, an integer and a dollar quote, as they are written
 abbrev w : List ℕ → Sign

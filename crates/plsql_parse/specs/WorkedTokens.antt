@@ -1,8 +1,8 @@
 -- Worked lists of tokens with a word outside the profile, and without one.
 use Rattle.std.specs.Prelude.{◌≡◌, ℕ, List, [], ◌∷◌, Some, None, codes}
-use Rattle.away_core.specs.declared.tokens.TokenKind.TheVariants.{Word}
-use Rattle.away_core.specs.Tokens.{Lexeme}
-use Rattle.away_core.specs.OutsideWords.{outside_word}
+use Rattle.away_grammar.specs.declared.tokens.TokenKind.TheVariants.{Word}
+use Rattle.away_grammar.specs.Tokens.{Lexeme}
+use Rattle.away_grammar.specs.OutsideWords.{outside_word}
 
 abbrev pub word : List ℕ → Lexeme
 word z = record { kind = Word; text = z; start = 0 }

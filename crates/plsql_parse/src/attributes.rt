@@ -3,9 +3,9 @@
 ghost use Rattle.std.specs.Prelude.{◌≡◌, ◌≤◌, ◌<◌, length, IfOk, true, false, codes};
 ghost use Rattle.std.specs.List.{list_any};
 ghost use Rattle.std.specs.Str.{str_eq_ignore_ascii_case};
-ghost use Rattle.away_core.specs.FunctionGrammar as grammar;
-ghost use Rattle.away_core.specs.FunctionGrammar.{attribute_of as an_attribute, attributes};
-ghost use Rattle.away_core.specs.Reserved.{folded};
+ghost use Rattle.away_grammar.specs.FunctionGrammar as grammar;
+ghost use Rattle.away_grammar.specs.FunctionGrammar.{attribute_of as an_attribute, attributes};
+ghost use Rattle.away_grammar.specs.Reserved.{folded};
 ghost use Rattle.sql_text.specs.Plans.{Gives, first, is_some, tail};
 ghost use Rattle.plsql_parse.specs.HeaderRead.{of_group};
 ghost use Rattle.plsql_parse.specs.Headers.{attribute_mark_plan, attribute_plan, attributes_plan, cost_plan, is_over, language_plan, null_input_plan, parallel_plan, word_plan, word_with};
@@ -13,8 +13,9 @@ ghost use Rattle.plsql_parse.specs.Plans.{any_plan};
 ghost use Rattle.plsql_parse.specs.Sorts.{AnyTree, integer_in, part, quote_in};
 
 use crate::headers::expect_word;
-use crate::next::{eat_word, string};
-use away_core::{Attribute, Mark, Name};
+use crate::words_and_strings::{eat_word, string};
+use away_grammar::{Attribute, Mark};
+use away_values::Name;
 use sql_text::{Cursor, Refusal, Sign};
 use sqlite_items::Items;
 use std::alloc::Global;

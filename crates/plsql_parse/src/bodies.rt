@@ -1,14 +1,16 @@
 //! The body of a function.
 
 ghost use Rattle.std.specs.Prelude.{◌≡◌, ◌≤◌, length};
-ghost use Rattle.away_core.specs.FunctionGrammar.{body};
+ghost use Rattle.away_grammar.specs.FunctionGrammar.{body};
 ghost use Rattle.sql_text.specs.Plans.{Gives};
 ghost use Rattle.plsql_parse.specs.Sorts.{AnyTree, part};
 ghost use Rattle.plsql_parse.specs.Bodies.{body_plan, outermost_plan};
 ghost use Rattle.plsql_parse.specs.Plans.{any_plan};
 
 use crate::statements::block;
-use away_core::{Mark, Name, Stmt};
+use away_grammar::Mark;
+use away_trees::Stmt;
+use away_values::Name;
 use sql_text::{Cursor, Refusal};
 use sqlite_items::Boxed;
 use std::alloc::Global;

@@ -1,9 +1,10 @@
 //! What the reader of bodies gives.
 
 use crate::bodies::body_of;
-use away_core::{Arm, Decl, Expr, LoopKind, Name, Raised, Stmt};
 use away_lex::tokens;
-use sql_text::{Cursor, Refusal};
+use away_trees::{Arm, Decl, Expr, LoopKind, Raised, Stmt};
+use away_values::Name;
+use sql_text::{Cursor, Refusal, signs_of};
 use sqlite_items::Items;
 use std::alloc::{AllocError, Global};
 use std::test::Fail;
@@ -109,7 +110,10 @@ fn shown(alloc: Global, text: &str) -> Result<String, AllocError> {
     let Ok(list) = tokens(alloc, text) else {
         return Err(AllocError);
     };
-    let mut left = Cursor::new(list.as_slice(), 0);
+    let Ok(signs) = signs_of(alloc, list.as_slice()) else {
+        return Err(AllocError);
+    };
+    let mut left = Cursor::new(signs.as_slice(), 0);
     match body_of(alloc, &mut left) {
         Ok(body) => {
             if left.left() == 0 {

@@ -1,15 +1,13 @@
-//! How many nodes, variables and loops a function has.
+//! How many variables and loops a function has.
 
 ghost use Rattle.std.specs.Prelude.{◌≡◌, ◌≤◌, ◌+◌, ◌^◌, sum_by, IfNone, IfSome};
-ghost use Rattle.away_core.specs.Count as core;
-ghost use Rattle.plsql_parse.specs.Counts as spec;
+ghost use Rattle.away_trees.specs.Limits as spec;
 
-use away_core::{Arm, Function, LoopKind, Stmt};
+use away_trees::{Arm, Function, LoopKind, Stmt};
 
 /// Counts of a function or of a part of it.
 #[derive(Clone, Copy)]
 pub struct Counts {
-    pub nodes: u64,
     /// Parameters and declarations.
     pub variables: u64,
     /// FOR loops.
@@ -18,14 +16,12 @@ pub struct Counts {
 
 impl Counts {
     /// The counts with so many more of each, where each fits into 64 bits.
-    fn plus(self, nodes: u64, variables: u64, loops: u64) -> Option<Counts>
-        ensures nodes { IfSome result (λ sum. sum.nodes ≡ self.nodes + nodes) }
+    fn plus(self, variables: u64, loops: u64) -> Option<Counts>
         ensures variables { IfSome result (λ sum. sum.variables ≡ self.variables + variables) }
         ensures loops { IfSome result (λ sum. sum.loops ≡ self.loops + loops) }
-        ensures full { IfNone result (2 ^ 64 ≤ (self.nodes + nodes) + (self.variables + variables) + (self.loops + loops)) }
+        ensures full { IfNone result (2 ^ 64 ≤ (self.variables + variables) + (self.loops + loops)) }
     {
         Some(Counts {
-            nodes: self.nodes.checked_add(nodes)?,
             variables: self.variables.checked_add(variables)?,
             loops: self.loops.checked_add(loops)?,
         })
@@ -43,46 +39,43 @@ fn for_loops(kind: &LoopKind) -> u64
 
 /// The counts with those of a statement and of what stands in it.
 #[cycle(count)]
-#[tactic(auto, using(away_core::proofs::CountLemmas::node_rules, crate::proofs::CountLemmas::count_rules))]
+#[tactic(auto, using(crate::proofs::CountLemmas::count_rules))]
 fn with_statement(before: Counts, s: &Stmt) -> Option<Counts>
-    ensures nodes { IfSome result (λ sum. sum.nodes ≡ before.nodes + core.nodes_of s.now) }
     ensures variables { IfSome result (λ sum. sum.variables ≡ before.variables + spec.variables_of s.now) }
     ensures loops { IfSome result (λ sum. sum.loops ≡ before.loops + spec.loops_of s.now) }
-    ensures full { IfNone result (2 ^ 64 ≤ (before.nodes + core.nodes_of s.now) + (before.variables + spec.variables_of s.now) + (before.loops + spec.loops_of s.now)) }
+    ensures full { IfNone result (2 ^ 64 ≤ (before.variables + spec.variables_of s.now) + (before.loops + spec.loops_of s.now)) }
 {
     match s {
         Stmt::Block { decls, body, .. } => {
             let declared = decls.len() as u64;
-            let counts = before.plus(1, 0, 0)?.plus(declared, declared, 0)?;
-            with_statements(counts, body.as_slice())
+            with_statements(before.plus(declared, 0)?, body.as_slice())
         }
         Stmt::If(arms, other) | Stmt::Cases(arms, other) => {
-            let counts = with_arms(before.plus(1, 0, 0)?, arms.as_slice())?;
+            let counts = with_arms(before, arms.as_slice())?;
             match other {
                 None => Some(counts),
-                Some(body) => with_statements(counts.plus(1, 0, 0)?, body.as_slice()),
+                Some(body) => with_statements(counts, body.as_slice()),
             }
         }
         Stmt::Loop { kind, body, .. } => {
-            with_statements(before.plus(1, 0, for_loops(kind))?, body.as_slice())
+            with_statements(before.plus(0, for_loops(kind))?, body.as_slice())
         }
-        Stmt::Into { targets, .. } => before.plus(1, 0, 0)?.plus(targets.len() as u64, 0, 0),
         Stmt::Assign(_, _, _)
         | Stmt::Exit(_, _)
         | Stmt::Continue(_, _)
         | Stmt::Return(_)
         | Stmt::Raise(_)
-        | Stmt::Nothing => before.plus(1, 0, 0),
+        | Stmt::Into { .. }
+        | Stmt::Nothing => Some(before),
     }
 }
 
 #[cycle(count)]
-#[tactic(auto, using(away_core::proofs::CountLemmas::node_rules, crate::proofs::CountLemmas::count_rules))]
+#[tactic(auto, using(crate::proofs::CountLemmas::count_rules))]
 fn with_statements(before: Counts, list: &[Stmt]) -> Option<Counts>
-    ensures nodes { IfSome result (λ sum. sum.nodes ≡ before.nodes + sum_by core.nodes_of list.now) }
     ensures variables { IfSome result (λ sum. sum.variables ≡ before.variables + sum_by spec.variables_of list.now) }
     ensures loops { IfSome result (λ sum. sum.loops ≡ before.loops + sum_by spec.loops_of list.now) }
-    ensures full { IfNone result (2 ^ 64 ≤ (before.nodes + sum_by core.nodes_of list.now) + (before.variables + sum_by spec.variables_of list.now) + (before.loops + sum_by spec.loops_of list.now)) }
+    ensures full { IfNone result (2 ^ 64 ≤ (before.variables + sum_by spec.variables_of list.now) + (before.loops + sum_by spec.loops_of list.now)) }
 {
     let mut counts = before;
     for i in 0..list.len() {
@@ -92,33 +85,28 @@ fn with_statements(before: Counts, list: &[Stmt]) -> Option<Counts>
 }
 
 #[cycle(count)]
-#[tactic(auto, using(away_core::proofs::CountLemmas::node_rules, crate::proofs::CountLemmas::count_rules))]
+#[tactic(auto, using(crate::proofs::CountLemmas::count_rules))]
 fn with_arms(before: Counts, list: &[Arm]) -> Option<Counts>
-    ensures nodes { IfSome result (λ sum. sum.nodes ≡ before.nodes + sum_by core.nodes_of_arm list.now) }
     ensures variables { IfSome result (λ sum. sum.variables ≡ before.variables + sum_by spec.variables_of_arm list.now) }
     ensures loops { IfSome result (λ sum. sum.loops ≡ before.loops + sum_by spec.loops_of_arm list.now) }
-    ensures full { IfNone result (2 ^ 64 ≤ (before.nodes + sum_by core.nodes_of_arm list.now) + (before.variables + sum_by spec.variables_of_arm list.now) + (before.loops + sum_by spec.loops_of_arm list.now)) }
+    ensures full { IfNone result (2 ^ 64 ≤ (before.variables + sum_by spec.variables_of_arm list.now) + (before.loops + sum_by spec.loops_of_arm list.now)) }
 {
     let mut counts = before;
     for i in 0..list.len() {
-        let body = list[i].body.as_slice();
-        counts = with_statements(counts.plus(1, 0, 0)?, body)?;
+        counts = with_statements(counts, list[i].body.as_slice())?;
     }
     Some(counts)
 }
 
 /// The counts of a function, where each fits into 64 bits.
-#[tactic(auto, unfolding(away_core::specs::Count::nodes, crate::specs::Counts::variables, crate::specs::Counts::loops))]
+#[tactic(auto, unfolding(away_trees::specs::Limits::variables, away_trees::specs::Limits::loops))]
 pub fn counts_of(f: &Function) -> Option<Counts>
-    ensures nodes { IfSome result (λ sum. sum.nodes ≡ core.nodes f.now) }
     ensures variables { IfSome result (λ sum. sum.variables ≡ spec.variables f.now) }
     ensures loops { IfSome result (λ sum. sum.loops ≡ spec.loops f.now) }
-    ensures full { IfNone result (2 ^ 64 ≤ core.nodes f.now + spec.variables f.now + spec.loops f.now) }
+    ensures full { IfNone result (2 ^ 64 ≤ spec.variables f.now + spec.loops f.now) }
 {
-    let params = f.params.len() as u64;
     let before = Counts {
-        nodes: params,
-        variables: params,
+        variables: f.params.len() as u64,
         loops: 0,
     };
     with_statement(before, &f.body)

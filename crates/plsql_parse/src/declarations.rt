@@ -1,15 +1,17 @@
 //! Declarations of variables (PostgreSQL manual, PL/pgSQL: Declarations).
 
 ghost use Rattle.std.specs.Prelude.{◌≡◌, ◌≤◌, ◌<◌, true, false, length, IfOk};
-ghost use Rattle.away_core.specs.FunctionGrammar.{decl, decls, default};
+ghost use Rattle.away_grammar.specs.FunctionGrammar.{decl, decls, default};
 ghost use Rattle.sql_text.specs.Plans.{Gives};
 ghost use Rattle.plsql_parse.specs.Sorts.{AnyTree, part};
 ghost use Rattle.plsql_parse.specs.Bodies.{decls_plan, decl_plan, typed_plan, valued_plan, default_plan, default_value};
 ghost use Rattle.plsql_parse.specs.Plans.{any_plan};
 
 use crate::expressions::{unboxed, value_of};
-use crate::looks::sees_name;
-use away_core::{Decl, Expr, Mark, Name, Ty};
+use crate::lookahead::sees_name;
+use away_grammar::Mark;
+use away_trees::{Decl, Expr};
+use away_values::{Name, Ty};
 use sql_text::{Cursor, Refusal};
 use sqlite_items::{Boxed, Items};
 use std::alloc::Global;

@@ -1,13 +1,14 @@
 //! Expressions among statements.
 
 ghost use Rattle.std.specs.Prelude.{◌≡◌, ◌≤◌, length};
-ghost use Rattle.away_core.specs.declared.grammar.Level.TheVariants.{Or};
-ghost use Rattle.away_core.specs.Grammar.{at};
+ghost use Rattle.away_grammar.specs.declared.grammar.Level.TheVariants.{Or};
+ghost use Rattle.away_grammar.specs.Grammar.{at};
 ghost use Rattle.sql_text.specs.Plans.{Gives};
 ghost use Rattle.plsql_parse.specs.Sorts.{AnyTree, sql};
 ghost use Rattle.plsql_parse.specs.Plans.{any_plan};
 
-use away_core::{Expr, Level};
+use away_grammar::Level;
+use away_trees::Expr;
 use sql_text::{Cursor, Refusal, expression};
 use sqlite_items::Boxed;
 use std::alloc::Global;

@@ -1,8 +1,8 @@
 //! The reader of what stands around a function's body (PostgreSQL manual, CREATE FUNCTION).
 
 ghost use Rattle.std.specs.Prelude.{◌≡◌, ◌≤◌, ◌<◌, length, IfOk};
-ghost use Rattle.away_core.specs.FunctionGrammar.{function, parameter, parameters, signature};
-ghost use Rattle.away_core.specs.Reserved.{folded};
+ghost use Rattle.away_grammar.specs.FunctionGrammar.{function, parameter, parameters, signature};
+ghost use Rattle.away_grammar.specs.Reserved.{folded};
 ghost use Rattle.sql_text.specs.Plans.{Gives};
 ghost use Rattle.plsql_parse.specs.HeaderRead as spec;
 ghost use Rattle.plsql_parse.specs.HeaderRead.{HeaderRead, WordExpected};
@@ -11,8 +11,10 @@ ghost use Rattle.plsql_parse.specs.Plans.{any_plan};
 ghost use Rattle.plsql_parse.specs.Sorts.{AnyTree, part, qualified_name};
 
 use crate::attributes::{attributes_of, makes_strict, may_stand};
-use crate::next::eat_word;
-use away_core::{Function, Mark, Name, Stmt, Ty};
+use crate::words_and_strings::eat_word;
+use away_grammar::Mark;
+use away_trees::{Function, Stmt};
+use away_values::{Name, Ty};
 use sql_text::{Cursor, Refusal, is_public};
 use sqlite_items::{Boxed, Items};
 use std::alloc::Global;

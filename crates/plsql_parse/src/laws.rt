@@ -1,15 +1,15 @@
 //! What holds of the grammar of functions and of the plans of its readers.
 
 ghost use Rattle.std.specs.Prelude.{◌≡◌, ◌↔◌, ℕ, false, List, ◌∷◌, ◌++◌, Option, Some, None};
-ghost use Rattle.away_core.specs.declared.statements.Function.{Function};
-ghost use Rattle.away_core.specs.declared.queries.Expr.{Expr};
-ghost use Rattle.away_core.specs.declared.grammar.Level.TheVariants.{Or};
-ghost use Rattle.away_core.specs.declared.grammar.Mark.TheVariants.{Dots, End, Loop};
-ghost use Rattle.away_core.specs.Signs.{Sign, mark};
-ghost use Rattle.away_core.specs.Grammar.{Reads, Sort, Tree, at};
-ghost use Rattle.away_core.specs.Tokens.{Lexeme};
-ghost use Rattle.away_core.specs.FunctionFile.{LexesFile};
-ghost use Rattle.away_core.specs.FunctionGrammar.{Part, PartTree, ReadsPart, ReadsFunction, opens_loop, step};
+ghost use Rattle.away_trees.specs.declared.statements.Function.{Function};
+ghost use Rattle.away_trees.specs.declared.queries.Expr.{Expr};
+ghost use Rattle.away_grammar.specs.declared.grammar.Level.TheVariants.{Or};
+ghost use Rattle.away_grammar.specs.declared.grammar.Mark.TheVariants.{Dots, End, Loop};
+ghost use Rattle.away_grammar.specs.Signs.{Sign, mark};
+ghost use Rattle.away_grammar.specs.Grammar.{Reads, Sort, Tree, at};
+ghost use Rattle.away_grammar.specs.Tokens.{Lexeme};
+ghost use Rattle.away_grammar.specs.FunctionFile.{LexesFile};
+ghost use Rattle.away_grammar.specs.FunctionGrammar.{Part, PartTree, ReadsPart, ReadsFunction, opens_loop, step};
 ghost use Rattle.sql_text.specs.Plans.{Runs};
 ghost use Rattle.sql_text.specs.Descent.{plan};
 ghost use Rattle.plsql_parse.specs.Sorts.{AnyTree, part, sql};

@@ -7,15 +7,15 @@ mod counts;
 mod declarations;
 mod expressions;
 mod headers;
-mod kinds;
 mod laws;
-mod looks;
-mod next;
+mod lookahead;
+mod loop_kinds;
 mod outside;
 mod read;
-mod simple;
+mod simple_statements;
 mod statements;
-mod worked;
+mod words_and_strings;
+mod worked_functions;
 
 pub use laws::{
     a_condition_ends_with_no_end, a_file_is_one_function, a_file_reads_as_the_plans_give,
@@ -23,7 +23,7 @@ pub use laws::{
     what_a_plan_gives_is_read, what_is_not_given_is_not_read, what_is_read_is_given,
 };
 pub use read::read_function;
-pub use worked::{
+pub use worked_functions::{
     a_function_with_for_reads, a_function_with_while_reads, end_loop_ends_no_case,
     every_kind_of_statement_reads, words_outside_are_found,
 };

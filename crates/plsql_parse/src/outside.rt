@@ -1,9 +1,9 @@
 //! Words of PL/pgSQL and SQL that aren't read.
 
 ghost use Rattle.std.specs.Prelude.{◌≡◌, map, option_map, codes, IfSome};
-ghost use Rattle.away_core.specs.OutsideWords as spec;
-ghost use Rattle.away_core.specs.Spellings.{IsNameText};
-ghost use Rattle.away_core.specs.Tokens.{AreSpelled};
+ghost use Rattle.away_grammar.specs.OutsideWords as spec;
+ghost use Rattle.away_grammar.specs.Spellings.{IsNameText};
+ghost use Rattle.away_grammar.specs.Tokens.{AreSpelled, is_word_kind};
 ghost use Rattle.away_lex.specs.Lexed.{seen};
 
 use away_lex::{Token, TokenKind};
@@ -123,7 +123,7 @@ fn says_word(token: &Token<'_>, word: &str) -> bool
 }
 
 fn is_word(token: &Token<'_>) -> bool
-    ensures { result ≡ spec.is_word (token.now).kind }
+    ensures { result ≡ is_word_kind (token.now).kind }
 {
     match token.kind {
         TokenKind::Word => true,
@@ -131,7 +131,7 @@ fn is_word(token: &Token<'_>) -> bool
     }
 }
 
-#[tactic(auto, unfolding(away_core::specs::OutsideWords::is_outside))]
+#[tactic(auto, unfolding(away_grammar::specs::OutsideWords::is_outside))]
 fn is_outside(word: &str) -> bool
     ensures { result ≡ spec.is_outside word.now }
 {

@@ -1,23 +1,24 @@
 //! The reader of functions.
 
 ghost use Rattle.std.specs.Prelude.{◌≡◌, map, IfOk, IfErr};
-ghost use Rattle.away_core.specs.FunctionGrammar.{ReadsFunction, body, function};
-ghost use Rattle.away_core.specs.Signs.{all_say};
-ghost use Rattle.away_core.specs.Tokens.{AreSpelled};
+ghost use Rattle.away_grammar.specs.FunctionGrammar.{ReadsFunction, body, function};
+ghost use Rattle.away_grammar.specs.Signs.{all_say};
+ghost use Rattle.away_grammar.specs.Tokens.{AreSpelled};
 ghost use Rattle.away_lex.specs.Lexed.{seen};
-ghost use Rattle.away_lex.specs.declared.kind.ReadRefusal.TheVariants.{Limit};
+ghost use Rattle.away_lex.specs.declared.refusals.ReadRefusal.TheVariants.{Limit};
 ghost use Rattle.plsql_parse.specs.FileRead.{FileRead, HeaderIs, PartRead, RefusesFunction, RefusesLists, RefusesWords};
-ghost use Rattle.plsql_parse.specs.Refusals.{HasFewTokens, KeepsLimits, MayBeRead, Refuses};
+ghost use Rattle.away_trees.specs.Limits.{KeepsLimits};
+ghost use Rattle.plsql_parse.specs.Refusals.{HasFewTokens, MayBeRead, Refuses};
 
 use crate::bodies::body_of;
 use crate::counts::counts_of;
 use crate::headers::{Header, header_of};
 use crate::outside::outside_word;
-use away_core::{Function, Stmt};
 use away_lex::{
     FunctionTokens, LimitKind, ReadRefusal, Token, TokensRefusal, folded, function_tokens, nesting,
 };
-use sql_text::{Cursor, Refusal, as_text};
+use away_trees::{Function, Stmt, node_count};
+use sql_text::{Cursor, Refusal, as_text, signs_of};
 use sqlite_items::Boxed;
 use std::alloc::Global;
 
@@ -87,7 +88,8 @@ fn whole_body(alloc: Global, inner: &[Token<'_>]) -> Result<Boxed<Stmt>, Refusal
     requires { AreSpelled (map seen inner.now) }
     ensures { PartRead body (all_say (map seen inner.now)) result }
 {
-    let mut left = Cursor::new(inner, 0);
+    let signs = signs_of(alloc, inner)?;
+    let mut left = Cursor::new(signs.as_slice(), 0);
     match body_of(alloc, &mut left) {
         Ok(inside) => {
             if left.left() == 0 {
@@ -105,7 +107,8 @@ fn whole_header(alloc: Global, outer: &[Token<'_>]) -> Result<Header, Refusal>
     requires { AreSpelled (map seen outer.now) }
     ensures { HeaderIs (all_say (map seen outer.now)) result }
 {
-    let mut left = Cursor::new(outer, 0);
+    let signs = signs_of(alloc, outer)?;
+    let mut left = Cursor::new(signs.as_slice(), 0);
     match header_of(alloc, &mut left) {
         Ok(header) => {
             if left.left() == 0 {
@@ -153,11 +156,11 @@ fn within_limits(f: Function) -> Result<Function, ReadRefusal>
     ensures ok { IfOk result (λ kept. (kept ≡ f) × KeepsLimits f) }
     ensures err { IfErr result (RefusesFunction f) }
 {
-    let Some(counts) = counts_of(&f) else {
+    let (Some(nodes), Some(counts)) = (node_count(&f), counts_of(&f)) else {
         return Err(ReadRefusal::NoMemory);
     };
-    if counts.nodes > MOST_NODES {
-        return Err(limit(LimitKind::Nodes, counts.nodes));
+    if nodes > MOST_NODES {
+        return Err(limit(LimitKind::Nodes, nodes));
     }
     if counts.variables > MOST_VARIABLES {
         return Err(limit(LimitKind::Variables, counts.variables));

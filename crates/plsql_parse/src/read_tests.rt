@@ -1,8 +1,8 @@
 //! What files read as, and what they are refused for.
 
 use crate::read::read_function;
-use away_core::Function;
 use away_lex::{LimitKind, ReadRefusal};
+use away_trees::Function;
 use sqlite_items::Boxed;
 use std::alloc::{AllocError, Global};
 use std::test::Fail;

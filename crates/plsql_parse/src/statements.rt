@@ -2,11 +2,11 @@
 
 ghost use Rattle.std.specs.Prelude.{◌≡◌, ◌≤◌, ◌<◌, ◌∷◌, ◌⊎◌, length, IfOk, Some, None};
 ghost use Rattle.std.specs.Bool.{OnTrue, OnFalse};
-ghost use Rattle.away_core.specs.declared.grammar.Mark.TheVariants.{Elsif, Elseif};
-ghost use Rattle.away_core.specs.declared.statements.Stmt.TheVariants as made;
-ghost use Rattle.away_core.specs.Signs.{mark};
-ghost use Rattle.away_core.specs.FunctionGrammar as grammar;
-ghost use Rattle.away_core.specs.FunctionGrammar.{branch, elsifs, whens, statement, statements};
+ghost use Rattle.away_grammar.specs.declared.grammar.Mark.TheVariants.{Elsif, Elseif};
+ghost use Rattle.away_trees.specs.declared.statements.Stmt.TheVariants as made;
+ghost use Rattle.away_grammar.specs.Signs.{mark};
+ghost use Rattle.away_grammar.specs.FunctionGrammar as grammar;
+ghost use Rattle.away_grammar.specs.FunctionGrammar.{branch, elsifs, whens, statement, statements};
 ghost use Rattle.sql_text.specs.Plans.{Begins, Gives};
 ghost use Rattle.plsql_parse.specs.Sorts.{AnyTree, part};
 ghost use Rattle.plsql_parse.specs.Bodies.{statements_plan, statement_plan, labelled_plan, marked_plan, if_plan, cases_plan, elsif_plan, when_plan, branch_plan, otherwise_plan, block_plan, begun_plan, repeated_plan, repeating_plan};
@@ -15,11 +15,13 @@ ghost use Rattle.plsql_parse.specs.Taken.{EndTaken, arm_with};
 
 use crate::declarations::decls_of;
 use crate::expressions::value_of;
-use crate::kinds::kind_of;
-use crate::looks::{sees_block, sees_closing, sees_opening};
-use crate::simple::{assignment, exit, go_on, nothing, raised, returned};
-use away_core::{Arm, Decl, Expr, LoopKind, Mark, Name, Stmt};
+use crate::lookahead::{sees_block, sees_closing, sees_opening};
+use crate::loop_kinds::kind_of;
+use crate::simple_statements::{assignment, exit, go_on, nothing, raised, returned};
+use away_grammar::Mark;
 use away_lex::folded;
+use away_trees::{Arm, Decl, Expr, LoopKind, Stmt};
+use away_values::Name;
 use sql_text::{Cursor, Refusal, Sign};
 use sqlite_items::{Boxed, Items};
 use std::alloc::Global;

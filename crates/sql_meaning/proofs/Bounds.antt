@@ -1,11 +1,11 @@
 -- The working tables at a bound, and the answer at greater ones.
 use Rattle.std.proofs.Common.{◌≡◌, ◌≢◌, refl, ap, sym, ◌∙◌, ℕ, zero, suc, ◌+◌, ◌-◌, ◌≤◌, List, [], ◌∷◌, ◌++◌, Option, Some, None, Ok, Err, arith}
-use Rattle.away_core.specs.declared.values.Value.{Value}
-use Rattle.away_core.specs.declared.values.Class.{Class}
-use Rattle.away_core.specs.declared.values.Answer.TheVariants as answer
-use Rattle.away_core.specs.declared.queries.Query.{Query}
-use Rattle.away_core.specs.Results.{Or, and_then, mapped}
-use Rattle.away_core.specs.Algebra.{query_of}
+use Rattle.away_values.specs.declared.values.Value.{Value}
+use Rattle.away_values.specs.declared.values.Class.{Class}
+use Rattle.away_values.specs.declared.values.Answer.TheVariants as answer
+use Rattle.away_trees.specs.declared.queries.Query.{Query}
+use Rattle.away_values.specs.Results.{Or, and_then, mapped}
+use Rattle.away_trees.specs.Algebra.{query_of}
 use Rattle.sql_meaning.specs.Context.{Rows, outermost}
 use Rattle.sql_meaning.specs.Expressions.{SelectMeaning, RecursiveMeaning}
 use Rattle.sql_meaning.specs.Laws.{AreFilledBefore}

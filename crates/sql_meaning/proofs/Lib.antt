@@ -14,3 +14,11 @@ pub mod Returns
 pub mod Theorem
 pub mod Stops
 pub mod Sorting
+pub mod KeyOrders
+pub mod SortedRows
+pub mod GivesRules
+pub mod NodeRules
+pub mod WalkRules
+pub mod AggregateRules
+pub mod SelectRules
+pub mod BoundRules

@@ -1,7 +1,7 @@
 -- Lists under two functions.
 use Rattle.std.proofs.Common.{◌≡◌, refl, ap, Bool, ◌||◌, List, [], ◌∷◌, ◌++◌, map, Option, Some, None}
 use Rattle.std.specs.List.{list_any}
-use Rattle.away_core.specs.Results.{Or, and_then, mapped, each, each_joined}
+use Rattle.away_values.specs.Results.{Or, and_then, mapped, each, each_joined}
 
 pub fused : {A B C : Type 0} (f : B → C) (g : A → B) (xs : List A) → map f (map g xs) ≡ map (λ x. f (g x)) xs
 fused f g [] = refl

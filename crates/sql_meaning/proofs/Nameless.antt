@@ -1,19 +1,19 @@
 -- A tree without its names means what it means with them.
 use Rattle.std.proofs.Common.{◌≡◌, refl, ap, sym, ◌∙◌, ℕ, List, [], ◌∷◌, map, take, slice_index_or, Option, Some, None, option_map, Ok}
 use Rattle.std.specs.Str.Parse.{digits_value}
-use Rattle.away_core.specs.declared.values.Value.{Value}
-use Rattle.away_core.specs.declared.operators.ChainOp.{ChainOp}
-use Rattle.away_core.specs.declared.queries.Expr.{Expr}
-use Rattle.away_core.specs.declared.queries.Expr.TheOpen as ex
-use Rattle.away_core.specs.declared.queries.Source.{Source}
-use Rattle.away_core.specs.declared.queries.FromItem.{FromItem}
-use Rattle.away_core.specs.declared.queries.Item.{Item}
-use Rattle.away_core.specs.declared.queries.Key.{Key}
-use Rattle.away_core.specs.declared.queries.Select.{Select}
-use Rattle.away_core.specs.declared.queries.Recursive.{Recursive}
-use Rattle.away_core.specs.declared.queries.Query.{Query}
-use Rattle.away_core.specs.Algebra.{expr_of, item_of, key_of, source_of, from_of, select_of, recursive_of, query_of}
-use Rattle.away_core.proofs.Equations as eq
+use Rattle.away_values.specs.declared.values.Value.{Value}
+use Rattle.away_values.specs.declared.operators.ChainOp.{ChainOp}
+use Rattle.away_trees.specs.declared.queries.Expr.{Expr}
+use Rattle.away_trees.specs.declared.queries.Expr.TheOpen as ex
+use Rattle.away_trees.specs.declared.queries.Source.{Source}
+use Rattle.away_trees.specs.declared.queries.FromItem.{FromItem}
+use Rattle.away_trees.specs.declared.queries.Item.{Item}
+use Rattle.away_trees.specs.declared.queries.Key.{Key}
+use Rattle.away_trees.specs.declared.queries.Select.{Select}
+use Rattle.away_trees.specs.declared.queries.Recursive.{Recursive}
+use Rattle.away_trees.specs.declared.queries.Query.{Query}
+use Rattle.away_trees.specs.Algebra.{expr_of, item_of, key_of, source_of, from_of, select_of, recursive_of, query_of}
+use Rattle.away_trees.proofs.Equations as eq
 use Rattle.sql_meaning.specs.Context.{Rows}
 use Rattle.sql_meaning.specs.Expressions.{ExprMeaning, SourceMeaning, FromMeaning, SelectMeaning, KeyMeaning, RecursiveMeaning, QueryMeaning, expr_meaning}
 use Rattle.sql_meaning.specs.Meaning.{meaning}

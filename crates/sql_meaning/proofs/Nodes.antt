@@ -1,21 +1,21 @@
 -- What the meaning gives at each kind of node, by what it gives at the parts.
 use Rattle.std.proofs.Common.{◌≡◌, ◌≢◌, refl, ap, sym, ◌∙◌, ℕ, ◌||◌, Bool, true, false, List, map, Option, Some, None, Ok, Err, option_map}
 use Rattle.std.specs.List.{list_any}
-use Rattle.away_core.specs.declared.values.Value.{Value}
-use Rattle.away_core.specs.declared.values.Value.TheVariants as val
-use Rattle.away_core.specs.declared.types.Ty.TheVariants as ty
-use Rattle.away_core.specs.declared.operators.IntOp.{IntOp}
-use Rattle.away_core.specs.declared.operators.ChainOp.{ChainOp}
-use Rattle.away_core.specs.declared.operators.ChainOp.TheVariants as chain
-use Rattle.away_core.specs.declared.queries.Expr.{Expr}
-use Rattle.away_core.specs.declared.queries.Expr.TheVariants as expr
-use Rattle.away_core.specs.declared.queries.Query.{Query}
-use Rattle.away_core.specs.declared.queries.Recursive.{Recursive}
-use Rattle.away_core.specs.declared.queries.Expr.TheViews.{out-Query, out-Recursive, roll-out-Recursive}
-use Rattle.away_core.specs.Operators.{int_op, negated, small, negation_if}
-use Rattle.away_core.specs.Results.{Or, and_then, mapped, each, each_joined}
-use Rattle.away_core.specs.Algebra.{expr_of, recursive_of, select_of}
-use Rattle.away_core.proofs.Equations as eq
+use Rattle.away_values.specs.declared.values.Value.{Value}
+use Rattle.away_values.specs.declared.values.Value.TheVariants as val
+use Rattle.away_values.specs.declared.types.Ty.TheVariants as ty
+use Rattle.away_values.specs.declared.operators.IntOp.{IntOp}
+use Rattle.away_values.specs.declared.operators.ChainOp.{ChainOp}
+use Rattle.away_values.specs.declared.operators.ChainOp.TheVariants as chain
+use Rattle.away_trees.specs.declared.queries.Expr.{Expr}
+use Rattle.away_trees.specs.declared.queries.Expr.TheVariants as expr
+use Rattle.away_trees.specs.declared.queries.Query.{Query}
+use Rattle.away_trees.specs.declared.queries.Recursive.{Recursive}
+use Rattle.away_trees.specs.declared.queries.Expr.TheViews.{out-Query, out-Recursive, roll-out-Recursive}
+use Rattle.away_values.specs.Operators.{int_op, negated, small, negation_if}
+use Rattle.away_values.specs.Results.{Or, and_then, mapped, each, each_joined}
+use Rattle.away_trees.specs.Algebra.{expr_of, recursive_of, select_of}
+use Rattle.away_trees.proofs.Equations as eq
 use Rattle.sql_meaning.specs.Context.{Rows, Context, at_row, outermost}
 use Rattle.sql_meaning.specs.Equations.{all_values, known, recursive_part}
 use Rattle.sql_meaning.specs.Expressions.{ExprMeaning, values, over_group, called}

@@ -1,10 +1,10 @@
 -- An expression has the same value in two contexts that agree on what it reads.
 use Rattle.std.proofs.Common.{◌≡◌, refl, ap, ℕ, suc, Bool, true, nat_lt, List, [], ◌++◌, slice_index_or, Option, Ok}
 use Rattle.std.specs.List.{list_all, flat_map}
-use Rattle.away_core.specs.declared.operators.ChainOp.{ChainOp}
-use Rattle.away_core.specs.declared.queries.Expr.{Expr}
-use Rattle.away_core.specs.Results.{Or}
-use Rattle.away_core.specs.Algebra.{expr_of}
+use Rattle.away_values.specs.declared.operators.ChainOp.{ChainOp}
+use Rattle.away_trees.specs.declared.queries.Expr.{Expr}
+use Rattle.away_values.specs.Results.{Or}
+use Rattle.away_trees.specs.Algebra.{expr_of}
 use Rattle.sql_meaning.specs.Context.{Context, argument, at}
 use Rattle.sql_meaning.specs.Expressions.{ExprMeaning, SourceMeaning, FromMeaning, SelectMeaning, KeyMeaning, QueryMeaning}
 use Rattle.sql_meaning.specs.Meaning.{meaning}

@@ -1,18 +1,18 @@
 -- Three algebras whose steps keep a relation give related results on every tree.
 use Rattle.std.proofs.Common.{◌≡◌, refl, ℕ, ℤ, Bool, List, [], ◌∷◌, Option, Some, None}
-use Rattle.away_core.specs.declared.types.Ty.{Ty}
-use Rattle.away_core.specs.declared.operators.ChainOp.{ChainOp}
-use Rattle.away_core.specs.declared.operators.CmpOp.{CmpOp}
-use Rattle.away_core.specs.declared.operators.IsTest.{IsTest}
-use Rattle.away_core.specs.declared.queries.Col.{Col}
-use Rattle.away_core.specs.declared.queries.Expr.{Expr}
-use Rattle.away_core.specs.declared.queries.Source.{Source}
-use Rattle.away_core.specs.declared.queries.Select.{Select}
-use Rattle.away_core.specs.declared.queries.Recursive.{Recursive}
-use Rattle.away_core.specs.declared.queries.Query.{Query}
-use Rattle.away_core.specs.declared.queries.Expr.TheOpen as ex
-use Rattle.away_core.specs.declared.queries.Expr.TheBlock as b
-use Rattle.away_core.specs.Algebra.{Algebra, head_or, expr_of, exprs_of, links_of, arms_of, other_of, filter_of, items_of, keys_of, source_of, froms_of, select_of, selects_of, recursive_of, with_of, query_of, queries_of}
+use Rattle.away_values.specs.declared.types.Ty.{Ty}
+use Rattle.away_values.specs.declared.operators.ChainOp.{ChainOp}
+use Rattle.away_values.specs.declared.operators.CmpOp.{CmpOp}
+use Rattle.away_values.specs.declared.operators.IsTest.{IsTest}
+use Rattle.away_trees.specs.declared.queries.Col.{Col}
+use Rattle.away_trees.specs.declared.queries.Expr.{Expr}
+use Rattle.away_trees.specs.declared.queries.Source.{Source}
+use Rattle.away_trees.specs.declared.queries.Select.{Select}
+use Rattle.away_trees.specs.declared.queries.Recursive.{Recursive}
+use Rattle.away_trees.specs.declared.queries.Query.{Query}
+use Rattle.away_trees.specs.declared.queries.Expr.TheOpen as ex
+use Rattle.away_trees.specs.declared.queries.Expr.TheBlock as b
+use Rattle.away_trees.specs.Algebra.{Algebra, head_or, expr_of, exprs_of, links_of, arms_of, other_of, filter_of, items_of, keys_of, source_of, froms_of, select_of, selects_of, recursive_of, with_of, query_of, queries_of}
 
 -- ---- lists whose members correspond
 

@@ -1,28 +1,28 @@
 -- A replaced expression has in one context the value that the expression has in another.
 use Rattle.std.proofs.Common.{◌≡◌, refl, ap, sym, ◌∙◌, subst, ℕ, suc, Bool, true, nat_lt, List, [], ◌++◌, map, slice_index_or, Option, option_map, Ok}
 use Rattle.std.specs.List.{list_all, flat_map}
-use Rattle.away_core.specs.declared.types.Ty.{Ty}
-use Rattle.away_core.specs.declared.types.Ty.TheVariants as ty
-use Rattle.away_core.specs.declared.values.Value.{Value}
-use Rattle.away_core.specs.declared.values.Value.TheVariants as val
-use Rattle.away_core.specs.declared.operators.ChainOp.{ChainOp}
-use Rattle.away_core.specs.declared.operators.CmpOp.{CmpOp}
-use Rattle.away_core.specs.declared.operators.IsTest.{IsTest}
-use Rattle.away_core.specs.declared.queries.Expr.{Expr}
-use Rattle.away_core.specs.declared.queries.Expr.TheVariants as expr
-use Rattle.away_core.specs.declared.queries.Expr.TheOpen as ex
-use Rattle.away_core.specs.declared.queries.Source.{Source}
-use Rattle.away_core.specs.declared.queries.Source.TheVariants as source
-use Rattle.away_core.specs.declared.queries.FromItem.{FromItem}
-use Rattle.away_core.specs.declared.queries.Item.{Item}
-use Rattle.away_core.specs.declared.queries.Key.{Key}
-use Rattle.away_core.specs.declared.queries.Select.{Select}
-use Rattle.away_core.specs.declared.queries.Recursive.{Recursive}
-use Rattle.away_core.specs.declared.queries.Query.{Query}
-use Rattle.away_core.specs.Operators.{cast}
-use Rattle.away_core.specs.Results.{Or}
-use Rattle.away_core.specs.Algebra.{expr_of, item_of, key_of, source_of, from_of, select_of, query_of}
-use Rattle.away_core.proofs.Equations as eq
+use Rattle.away_values.specs.declared.types.Ty.{Ty}
+use Rattle.away_values.specs.declared.types.Ty.TheVariants as ty
+use Rattle.away_values.specs.declared.values.Value.{Value}
+use Rattle.away_values.specs.declared.values.Value.TheVariants as val
+use Rattle.away_values.specs.declared.operators.ChainOp.{ChainOp}
+use Rattle.away_values.specs.declared.operators.CmpOp.{CmpOp}
+use Rattle.away_values.specs.declared.operators.IsTest.{IsTest}
+use Rattle.away_trees.specs.declared.queries.Expr.{Expr}
+use Rattle.away_trees.specs.declared.queries.Expr.TheVariants as expr
+use Rattle.away_trees.specs.declared.queries.Expr.TheOpen as ex
+use Rattle.away_trees.specs.declared.queries.Source.{Source}
+use Rattle.away_trees.specs.declared.queries.Source.TheVariants as source
+use Rattle.away_trees.specs.declared.queries.FromItem.{FromItem}
+use Rattle.away_trees.specs.declared.queries.Item.{Item}
+use Rattle.away_trees.specs.declared.queries.Key.{Key}
+use Rattle.away_trees.specs.declared.queries.Select.{Select}
+use Rattle.away_trees.specs.declared.queries.Recursive.{Recursive}
+use Rattle.away_trees.specs.declared.queries.Query.{Query}
+use Rattle.away_values.specs.Operators.{cast}
+use Rattle.away_values.specs.Results.{Or}
+use Rattle.away_trees.specs.Algebra.{expr_of, item_of, key_of, source_of, from_of, select_of, query_of}
+use Rattle.away_trees.proofs.Equations as eq
 use Rattle.sql_meaning.specs.Context.{Context, argument}
 use Rattle.sql_meaning.specs.Expressions.{ExprMeaning, SourceMeaning, FromMeaning, SelectMeaning, KeyMeaning, RecursiveMeaning, QueryMeaning, constant, expr_meaning}
 use Rattle.sql_meaning.specs.Meaning.{meaning}

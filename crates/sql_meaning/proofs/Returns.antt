@@ -2,21 +2,21 @@
 use Rattle.std.proofs.Common.{◌≡◌, refl, ap, sym, ◌∙◌, subst, ℕ, suc, ◌+◌, ◌<◌, ◌^◌, pos, Bool, true, false, ◌||◌, if◌then◌else◌, nat_lt, List, [], ◌∷◌, ◌++◌, map, length, slice_index_or, decimal, Some, None, Ok, Err, arith}
 use Rattle.std.proofs.lemmas.List.{get_or_append_left}
 use Rattle.std.proofs.lemmas.Bool.{ltb-true}
-use Rattle.away_core.specs.declared.types.Ty.{Ty}
-use Rattle.away_core.specs.declared.types.Ty.TheVariants as ty
-use Rattle.away_core.specs.declared.values.Class.{Class}
-use Rattle.away_core.specs.declared.values.Value.{Value}
-use Rattle.away_core.specs.declared.values.Value.TheVariants as val
-use Rattle.away_core.specs.declared.operators.CmpOp.TheVariants as cmp
-use Rattle.away_core.specs.declared.queries.Expr.{Expr}
-use Rattle.away_core.specs.declared.queries.Expr.TheVariants as expr
-use Rattle.away_core.specs.declared.queries.FromItem.{FromItem}
-use Rattle.away_core.specs.declared.queries.Select.{Select}
-use Rattle.away_core.specs.Operators.{compare, is_true, negation, cast, fits_small}
-use Rattle.away_core.specs.Values.{HasType}
-use Rattle.away_core.specs.Results.{Or, and_then, mapped}
-use Rattle.away_core.specs.Algebra.{expr_of, from_of}
-use Rattle.away_core.proofs.Equations as eq
+use Rattle.away_values.specs.declared.types.Ty.{Ty}
+use Rattle.away_values.specs.declared.types.Ty.TheVariants as ty
+use Rattle.away_values.specs.declared.values.Class.{Class}
+use Rattle.away_values.specs.declared.values.Value.{Value}
+use Rattle.away_values.specs.declared.values.Value.TheVariants as val
+use Rattle.away_values.specs.declared.operators.CmpOp.TheVariants as cmp
+use Rattle.away_trees.specs.declared.queries.Expr.{Expr}
+use Rattle.away_trees.specs.declared.queries.Expr.TheVariants as expr
+use Rattle.away_trees.specs.declared.queries.FromItem.{FromItem}
+use Rattle.away_trees.specs.declared.queries.Select.{Select}
+use Rattle.away_values.specs.Operators.{compare, is_true, negation, cast, fits_small}
+use Rattle.away_values.specs.Values.{HasType}
+use Rattle.away_values.specs.Results.{Or, and_then, mapped}
+use Rattle.away_trees.specs.Algebra.{expr_of, from_of}
+use Rattle.away_trees.proofs.Equations as eq
 use Rattle.sql_meaning.specs.Context.{Rows, Frame, Context, at, column, inside, outermost}
 use Rattle.sql_meaning.specs.Expressions.{FromMeaning, values}
 use Rattle.sql_meaning.specs.Meaning.{meaning, value, has_aggregate, rows_of_item, rows_of_select}

@@ -2,8 +2,8 @@
 use Rattle.std.proofs.Common.{◌≡◌, refl, ap, ◌∙◌, ℕ, zero, suc, true, nat_lt, List, [], ◌∷◌, ◌++◌, map, length, slice_index_or}
 use Rattle.std.proofs.lemmas.List.{get_or_append_left}
 use Rattle.std.proofs.lemmas.Bool.{ltb-true}
-use Rattle.away_core.specs.declared.values.Value.{Value}
-use Rattle.away_core.specs.declared.values.Value.TheVariants as val
+use Rattle.away_values.specs.declared.values.Value.{Value}
+use Rattle.away_values.specs.declared.values.Value.TheVariants as val
 use Rattle.sql_meaning.specs.Context.{Rows, at}
 use Rattle.sql_meaning.specs.Template.{count_from, below}
 use Rattle.sql_meaning.specs.Working.{with_table}

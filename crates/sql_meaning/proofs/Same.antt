@@ -4,21 +4,23 @@ use Rattle.std.proofs.Common.{◌≡◌, refl, ℕ, suc, ◌<◌, Bool, true, fa
 use Rattle.std.proofs.Math.ListN.{get_or-append}
 use Rattle.std.proofs.lemmas.Bool.{ltb-true}
 use Rattle.std.specs.List.{list_any}
-use Rattle.away_core.specs.declared.types.Ty.{Ty}
-use Rattle.away_core.specs.declared.values.Value.{Value}
-use Rattle.away_core.specs.declared.values.Value.TheVariants as val
-use Rattle.away_core.specs.declared.operators.ChainOp.{ChainOp}
-use Rattle.away_core.specs.declared.operators.CmpOp.{CmpOp}
-use Rattle.away_core.specs.declared.operators.IsTest.{IsTest}
-use Rattle.away_core.specs.declared.queries.Col.{Col}
-use Rattle.away_core.specs.declared.queries.Expr.TheOpen as ex
-use Rattle.away_core.specs.Operators.{compare, is_null, negated, negation, negation_if, passes, cast, small}
-use Rattle.away_core.specs.Results.{Or, and_then, mapped, each, each_joined}
+use Rattle.away_values.specs.declared.types.Ty.{Ty}
+use Rattle.away_values.specs.declared.values.Value.{Value}
+use Rattle.away_values.specs.declared.values.Value.TheVariants as val
+use Rattle.away_values.specs.declared.operators.ChainOp.{ChainOp}
+use Rattle.away_values.specs.declared.operators.CmpOp.{CmpOp}
+use Rattle.away_values.specs.declared.operators.IsTest.{IsTest}
+use Rattle.away_trees.specs.declared.queries.Col.{Col}
+use Rattle.away_trees.specs.declared.queries.Expr.TheOpen as ex
+use Rattle.away_values.specs.Operators.{compare, is_null, negated, negation, negation_if, passes, cast, small}
+use Rattle.away_values.specs.Results.{Or, and_then, mapped, each, each_joined}
 use Rattle.sql_meaning.specs.Context.{Rows, Frame, Context, at_row}
 use Rattle.sql_meaning.specs.Expressions.{ExprMeaning, FromMeaning, SelectMeaning, KeyMeaning, QueryMeaning, answers, link_answers, arm_answers, values, any_aggregates, other_value, other_aggregates, over_group, called, expr_meaning}
 use Rattle.sql_meaning.specs.Functions.{Function, Coalesce, function, is_aggregate, aggregate, scalar}
 use Rattle.sql_meaning.specs.Parts.{between, chained, among, chosen, first_known, only, has_row}
-use Rattle.sql_meaning.specs.Selects.{extend, product, keep, kept, comes_before, precedes, sorted, ordered, taken, cut, listed, select_meaning, union}
+use Rattle.std.specs.Ordering.{is_lt}
+use Rattle.sql_meaning.specs.KeyOrder.{keys_cmp}
+use Rattle.sql_meaning.specs.Selects.{extend, product, keep, kept, comes_before, sorted, ordered, taken, cut, listed, select_meaning, union}
 use Rattle.sql_meaning.proofs.Lists.{Zipped, ZippedOption, any_same}
 
 -- so many frames of the expression's own selects, innermost first, and the rows of an aggregate, of which there are none outside its selects
@@ -190,11 +192,13 @@ module _ (one two : Surroundings) where
   kept_same d (Some x) (Some y) h frames l g r = λ i. keep (λ frame. h.1 (frame ∷ l) [] (into d l g r frame []) i) frames
   kept_same d _ _ h frames l g r = absurd h
 
+  falls_same : (d : ℕ) (xs ys : List KeyMeaning) → Zipped (SameKey d) xs ys → map (λ (k : KeyMeaning). k.descending) ys ≡ map (λ (k : KeyMeaning). k.descending) xs
+  falls_same d [] [] h = refl
+  falls_same d (x ∷ xs) (y ∷ ys) h = λ i. h.0.0 i ∷ falls_same d xs ys h.1 i
+  falls_same d _ _ h = absurd h
+
   before_same : (d : ℕ) (xs ys : List KeyMeaning) → Zipped (SameKey d) xs ys → comes_before ys ≡ comes_before xs
-  before_same d [] [] h = refl
-  before_same d (x ∷ xs) (y ∷ ys) h =
-      λ i as_ bs. precedes (h.0.0 i) (slice_index_or as_ 0 val.Null) (slice_index_or bs 0 val.Null) || (not (precedes (h.0.0 i) (slice_index_or bs 0 val.Null) (slice_index_or as_ 0 val.Null)) && before_same d xs ys h.1 i (drop 1 as_) (drop 1 bs))
-  before_same d _ _ h = absurd h
+  before_same d xs ys h = λ i as_ bs. is_lt (keys_cmp (falls_same d xs ys h i) as_ bs)
 
   keys_same : (d : ℕ) (xs ys : List KeyMeaning) → Zipped (SameKey d) xs ys → Gives d (λ cx. each (λ (s : KeyMeaning). s.value cx) xs) (λ cx. each (λ (s : KeyMeaning). s.value cx) ys)
   keys_same d [] [] h l g r = refl

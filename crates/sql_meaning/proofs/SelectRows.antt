@@ -1,19 +1,19 @@
 -- The rows of a select, of a table and of a LATERAL subquery, by those of their parts.
 use Rattle.std.proofs.Common.{◌≡◌, refl, ap, ◌∙◌, ℕ, ◌<◌, ◌^◌, ℤ, Bool, true, false, ◌||◌, cond, List, [], ◌∷◌, ◌++◌, map, slice_index_or, Option, None, Ok, Err, option_map}
 use Rattle.std.proofs.lemmas.Fmt.{decimal_is_IsNumeral}
-use Rattle.away_core.specs.declared.types.Ty.{Ty}
-use Rattle.away_core.specs.declared.types.Ty.TheVariants as ty
-use Rattle.away_core.specs.declared.values.Class.{Class}
-use Rattle.away_core.specs.declared.values.Value.{Value}
-use Rattle.away_core.specs.declared.values.Value.TheVariants as val
-use Rattle.away_core.specs.declared.queries.Expr.{Expr}
-use Rattle.away_core.specs.declared.queries.Expr.TheVariants as expr
-use Rattle.away_core.specs.declared.queries.FromItem.{FromItem}
-use Rattle.away_core.specs.declared.queries.Select.{Select}
-use Rattle.away_core.specs.Operators.{cast}
-use Rattle.away_core.specs.Results.{Or, and_then, mapped, each}
-use Rattle.away_core.specs.Algebra.{expr_of, item_of, from_of}
-use Rattle.away_core.proofs.Equations as eq
+use Rattle.away_values.specs.declared.types.Ty.{Ty}
+use Rattle.away_values.specs.declared.types.Ty.TheVariants as ty
+use Rattle.away_values.specs.declared.values.Class.{Class}
+use Rattle.away_values.specs.declared.values.Value.{Value}
+use Rattle.away_values.specs.declared.values.Value.TheVariants as val
+use Rattle.away_trees.specs.declared.queries.Expr.{Expr}
+use Rattle.away_trees.specs.declared.queries.Expr.TheVariants as expr
+use Rattle.away_trees.specs.declared.queries.FromItem.{FromItem}
+use Rattle.away_trees.specs.declared.queries.Select.{Select}
+use Rattle.away_values.specs.Operators.{cast}
+use Rattle.away_values.specs.Results.{Or, and_then, mapped, each}
+use Rattle.away_trees.specs.Algebra.{expr_of, item_of, from_of}
+use Rattle.away_trees.proofs.Equations as eq
 use Rattle.sql_meaning.specs.Context.{Rows, Frame, Context, inside, over, column}
 use Rattle.sql_meaning.specs.Expressions.{ExprMeaning, FromMeaning, values, any_aggregates}
 use Rattle.sql_meaning.specs.Meaning.{meaning, value, has_aggregate, rows_of_item, rows_of_select}

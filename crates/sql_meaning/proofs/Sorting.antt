@@ -1,7 +1,7 @@
 -- The rows in their order are the same rows, in order, and ties keep theirs.
 use Rattle.std.proofs.Common.{◌≡◌, refl, ap, sym, ◌∙◌, suc, Bool, true, false, not, ◌&&◌, if◌then◌else◌, List, [], ◌∷◌, filter, length}
 use Rattle.std.specs.List.{AllByRecursion}
-use Rattle.away_core.specs.declared.values.Value.{Value}
+use Rattle.away_values.specs.declared.values.Value.{Value}
 use Rattle.sql_meaning.specs.Ordered.{Keyed, Before, IsOrder, ties, InOrder}
 use Rattle.sql_meaning.specs.Selects.{put, sorted}
 

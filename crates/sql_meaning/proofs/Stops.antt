@@ -1,12 +1,12 @@
 -- An operator that stops gives what it would give of all its operands.
 use Rattle.std.proofs.Common.{◌≡◌, refl, sym, Bool, true, false, ◌&&◌, ◌||◌, if◌then◌else◌, List, [], ◌∷◌, map, Ok}
 use Rattle.std.specs.List.{list_any}
-use Rattle.away_core.specs.declared.values.Value.{Value}
-use Rattle.away_core.specs.declared.values.Value.TheVariants as val
-use Rattle.away_core.specs.declared.operators.ChainOp.TheVariants as chain
-use Rattle.away_core.specs.declared.operators.CmpOp.TheVariants as cmp
-use Rattle.away_core.specs.Operators.{compare, conjunction, disjunction, is_true, is_false, is_null}
-use Rattle.away_core.specs.Results.{Or}
+use Rattle.away_values.specs.declared.values.Value.{Value}
+use Rattle.away_values.specs.declared.values.Value.TheVariants as val
+use Rattle.away_values.specs.declared.operators.ChainOp.TheVariants as chain
+use Rattle.away_values.specs.declared.operators.CmpOp.TheVariants as cmp
+use Rattle.away_values.specs.Operators.{compare, conjunction, disjunction, is_true, is_false, is_null}
+use Rattle.away_values.specs.Results.{Or}
 use Rattle.sql_meaning.specs.Decided.{is_among, is_between}
 use Rattle.sql_meaning.specs.Parts.{pair, between, among}
 

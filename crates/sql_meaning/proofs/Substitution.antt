@@ -3,18 +3,18 @@ use Rattle.std.proofs.Common.{◌≡◌, refl, ap, sym, ◌∙◌, ℕ, suc, ◌
 use Rattle.std.proofs.lemmas.Bool.{eqb-true, eq-eqb}
 use Rattle.std.proofs.lemmas.List.{get_or-append-add}
 use Rattle.std.specs.List.{list_all, list_any, filter_map}
-use Rattle.away_core.specs.declared.types.Ty.{Ty}
-use Rattle.away_core.specs.declared.values.Value.{Value}
-use Rattle.away_core.specs.declared.values.Value.TheVariants as val
-use Rattle.away_core.specs.declared.queries.Col.{Col}
-use Rattle.away_core.specs.declared.queries.Expr.{Expr}
-use Rattle.away_core.specs.declared.queries.Expr.TheVariants as expr
-use Rattle.away_core.specs.declared.queries.Expr.TheBlock as b
-use Rattle.away_core.specs.declared.queries.Expr.TheOpen as ex
-use Rattle.away_core.specs.Operators.{cast}
-use Rattle.away_core.specs.Results.{and_then}
-use Rattle.away_core.specs.Algebra.{expr_of}
-use Rattle.away_core.proofs.Equations.{of_cast}
+use Rattle.away_values.specs.declared.types.Ty.{Ty}
+use Rattle.away_values.specs.declared.values.Value.{Value}
+use Rattle.away_values.specs.declared.values.Value.TheVariants as val
+use Rattle.away_trees.specs.declared.queries.Col.{Col}
+use Rattle.away_trees.specs.declared.queries.Expr.{Expr}
+use Rattle.away_trees.specs.declared.queries.Expr.TheVariants as expr
+use Rattle.away_trees.specs.declared.queries.Expr.TheBlock as b
+use Rattle.away_trees.specs.declared.queries.Expr.TheOpen as ex
+use Rattle.away_values.specs.Operators.{cast}
+use Rattle.away_values.specs.Results.{and_then}
+use Rattle.away_trees.specs.Algebra.{expr_of}
+use Rattle.away_trees.proofs.Equations.{of_cast}
 use Rattle.sql_meaning.specs.Context.{Context, at, column}
 use Rattle.sql_meaning.specs.Expressions.{constant, expr_meaning}
 use Rattle.sql_meaning.specs.Meaning.{meaning, value}

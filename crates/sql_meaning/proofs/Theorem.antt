@@ -1,13 +1,13 @@
 -- The compiler theorem for one RETURN.
 use Rattle.std.proofs.Common.{◌≡◌, ◌≢◌, refl, ap, sym, ◌∙◌, subst, ℕ, zero, suc, ◌+◌, ◌*◌, ◌<◌, ◌^◌, List, [], ◌∷◌, ◌++◌, length, decimal, Some, Ok, Err, arith}
-use Rattle.away_core.specs.declared.types.Ty.{Ty}
-use Rattle.away_core.specs.declared.values.Value.{Value}
-use Rattle.away_core.specs.declared.values.Answer.{Answer}
-use Rattle.away_core.specs.declared.values.Answer.TheVariants as answer
-use Rattle.away_core.specs.declared.queries.Expr.{Expr}
-use Rattle.away_core.specs.declared.queries.Expr.TheViews.{roll-Recursive}
-use Rattle.away_core.specs.Results.{Or, and_then}
-use Rattle.away_core.proofs.Equations as eq
+use Rattle.away_values.specs.declared.types.Ty.{Ty}
+use Rattle.away_values.specs.declared.values.Value.{Value}
+use Rattle.away_values.specs.declared.values.Answer.{Answer}
+use Rattle.away_values.specs.declared.values.Answer.TheVariants as answer
+use Rattle.away_trees.specs.declared.queries.Expr.{Expr}
+use Rattle.away_trees.specs.declared.queries.Expr.TheViews.{roll-Recursive}
+use Rattle.away_values.specs.Results.{Or, and_then}
+use Rattle.away_trees.proofs.Equations as eq
 use Rattle.sql_meaning.specs.Context.{Rows}
 use Rattle.sql_meaning.specs.Equivalent.{IsEquivalent}
 use Rattle.sql_meaning.specs.Expressions.{RecursiveMeaning}

@@ -1,7 +1,7 @@
 -- What a node reads is what its parts read.
 use Rattle.std.proofs.Common.{◌≡◌, refl, ap, sym, ◌∙◌, ℕ, Bool, true, false, ◌&&◌, if◌then◌else◌, List, [], ◌∷◌, ◌++◌, map, Option, Some, None, option_map}
 use Rattle.std.specs.List.{list_all, flat_map}
-use Rattle.away_core.specs.declared.queries.Col.{Col}
+use Rattle.away_trees.specs.declared.queries.Col.{Col}
 use Rattle.sql_meaning.specs.Reads.{Read, Outer, Reads, of_option}
 use Rattle.sql_meaning.proofs.Related.{Alike, AlikeOption}
 use Rattle.sql_meaning.proofs.Lists.{Zipped, ZippedOption}

@@ -1,8 +1,8 @@
 -- Where an expression stands, and what it sees there.
 use Rattle.std.specs.Prelude.{ℕ, zero, suc, List, [], ◌∷◌, drop, slice_index_or}
-use Rattle.away_core.specs.declared.values.Value.{Value}
-use Rattle.away_core.specs.declared.values.Value.TheVariants as val
-use Rattle.away_core.specs.declared.queries.Col.{Col}
+use Rattle.away_values.specs.declared.values.Value.{Value}
+use Rattle.away_values.specs.declared.values.Value.TheVariants as val
+use Rattle.away_trees.specs.declared.queries.Col.{Col}
 
 -- the rows of a table or of a query, in their order
 abbrev pub Rows : Type 0

@@ -1,10 +1,10 @@
 -- What IN and BETWEEN are, where nothing faults: by all comparisons at once.
 use Rattle.std.specs.Prelude.{true, false, if◌then◌else◌, List}
 use Rattle.std.specs.List.{list_any}
-use Rattle.away_core.specs.declared.values.Value.{Value}
-use Rattle.away_core.specs.declared.values.Value.TheVariants as val
-use Rattle.away_core.specs.declared.operators.CmpOp.TheVariants as cmp
-use Rattle.away_core.specs.Operators.{compare, conjunction, is_true, is_null}
+use Rattle.away_values.specs.declared.values.Value.{Value}
+use Rattle.away_values.specs.declared.values.Value.TheVariants as val
+use Rattle.away_values.specs.declared.operators.CmpOp.TheVariants as cmp
+use Rattle.away_values.specs.Operators.{compare, conjunction, is_true, is_null}
 
 -- true where a comparison is true, otherwise NULL where one is NULL, otherwise false (PostgreSQL manual, Row and Array Comparisons)
 abbrev pub is_among : Value → List Value → Value

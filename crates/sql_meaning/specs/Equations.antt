@@ -1,14 +1,14 @@
 -- Words for the equations of the meaning: what stands in a struct of the trees, and the meanings of its parts.
 use Rattle.std.specs.Prelude.{ℕ, List, map, Option, option_map, not, filter}
-use Rattle.away_core.specs.declared.values.Value.{Value}
-use Rattle.away_core.specs.declared.queries.Expr.{Expr}
-use Rattle.away_core.specs.declared.queries.Recursive.{Recursive}
-use Rattle.away_core.specs.declared.queries.Item.{Item}
-use Rattle.away_core.specs.declared.queries.Key.{Key}
-use Rattle.away_core.specs.declared.queries.Source.{Source}
-use Rattle.away_core.specs.Operators.{is_null}
-use Rattle.away_core.specs.Results.{Or, each}
-use Rattle.away_core.specs.Algebra.{expr_of, item_of, key_of, source_of, recursive_of}
+use Rattle.away_values.specs.declared.values.Value.{Value}
+use Rattle.away_trees.specs.declared.queries.Expr.{Expr}
+use Rattle.away_trees.specs.declared.queries.Recursive.{Recursive}
+use Rattle.away_trees.specs.declared.queries.Item.{Item}
+use Rattle.away_trees.specs.declared.queries.Key.{Key}
+use Rattle.away_trees.specs.declared.queries.Source.{Source}
+use Rattle.away_values.specs.Operators.{is_null}
+use Rattle.away_values.specs.Results.{Or, each}
+use Rattle.away_trees.specs.Algebra.{expr_of, item_of, key_of, source_of, recursive_of}
 use Rattle.sql_meaning.specs.Context.{Rows, Frame, Context}
 use Rattle.sql_meaning.specs.Expressions.{ExprMeaning, KeyMeaning, RecursiveMeaning}
 use Rattle.sql_meaning.specs.Meaning.{meaning, value}

@@ -1,9 +1,9 @@
 -- When a query is equivalent to a function, whatever the function's answers come from.
 use Rattle.std.specs.Prelude.{◌≡◌, ◌≢◌, ℕ, ◌+◌, ◌*◌, List}
-use Rattle.away_core.specs.declared.values.Value.{Value}
-use Rattle.away_core.specs.declared.values.Answer.{Answer}
-use Rattle.away_core.specs.declared.values.Answer.TheVariants as answer
-use Rattle.away_core.specs.declared.queries.Query.{Query}
+use Rattle.away_values.specs.declared.values.Value.{Value}
+use Rattle.away_values.specs.declared.values.Answer.{Answer}
+use Rattle.away_values.specs.declared.values.Answer.TheVariants as answer
+use Rattle.away_trees.specs.declared.queries.Query.{Query}
 use Rattle.sql_meaning.specs.Context.{Rows}
 use Rattle.sql_meaning.specs.Working.{sql}
 

@@ -1,18 +1,18 @@
 -- Small trees, written out, whose meanings the checker computes.
 use Rattle.std.specs.Prelude.{ℕ, Bool, false, ℤ, pos, negsuc, List, [], ◌∷◌, map, Option, Some, None, codes, Err}
-use Rattle.away_core.specs.declared.types.Ty.TheVariants as ty
-use Rattle.away_core.specs.declared.values.Value.{Value}
-use Rattle.away_core.specs.declared.values.Value.TheVariants as val
-use Rattle.away_core.specs.declared.operators.IntOp.TheVariants as op
-use Rattle.away_core.specs.declared.operators.CmpOp.TheVariants as cmp
-use Rattle.away_core.specs.declared.operators.ChainOp.{ChainOp}
-use Rattle.away_core.specs.declared.operators.ChainOp.TheVariants as chain
-use Rattle.away_core.specs.declared.queries.Expr.{Expr}
-use Rattle.away_core.specs.declared.queries.Expr.TheVariants as expr
-use Rattle.away_core.specs.declared.queries.FromItem.{FromItem}
-use Rattle.away_core.specs.declared.queries.Query.{Query}
-use Rattle.away_core.specs.declared.queries.Expr.TheViews.{roll-Key, roll-Select, roll-Recursive, roll-Query}
-use Rattle.away_core.specs.Results.{Or, class}
+use Rattle.away_values.specs.declared.types.Ty.TheVariants as ty
+use Rattle.away_values.specs.declared.values.Value.{Value}
+use Rattle.away_values.specs.declared.values.Value.TheVariants as val
+use Rattle.away_values.specs.declared.operators.IntOp.TheVariants as op
+use Rattle.away_values.specs.declared.operators.CmpOp.TheVariants as cmp
+use Rattle.away_values.specs.declared.operators.ChainOp.{ChainOp}
+use Rattle.away_values.specs.declared.operators.ChainOp.TheVariants as chain
+use Rattle.away_trees.specs.declared.queries.Expr.{Expr}
+use Rattle.away_trees.specs.declared.queries.Expr.TheVariants as expr
+use Rattle.away_trees.specs.declared.queries.FromItem.{FromItem}
+use Rattle.away_trees.specs.declared.queries.Query.{Query}
+use Rattle.away_trees.specs.declared.queries.Expr.TheViews.{roll-Key, roll-Select, roll-Recursive, roll-Query}
+use Rattle.away_values.specs.Results.{Or, class}
 use Rattle.sql_meaning.specs.Context.{Rows, outermost}
 use Rattle.sql_meaning.specs.Meaning.{value, rows_of_query}
 use Rattle.sql_meaning.specs.Trees.{col, null_of, item, subquery, lateral, table_by, select, one}

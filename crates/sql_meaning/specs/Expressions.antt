@@ -1,13 +1,13 @@
 -- What an expression means, by the meanings of its parts.
 use Rattle.std.specs.Prelude.{ℕ, Bool, true, false, not, ◌||◌, if◌then◌else◌, pos, List, map, length, filter, Option, Some, None, Ok}
 use Rattle.std.specs.List.{list_any}
-use Rattle.away_core.specs.declared.values.Value.{Value}
-use Rattle.away_core.specs.declared.values.Value.TheVariants as val
-use Rattle.away_core.specs.declared.operators.ChainOp.{ChainOp}
-use Rattle.away_core.specs.declared.queries.Expr.TheOpen.{Expr-F}
-use Rattle.away_core.specs.declared.queries.Expr.TheOpen as ex
-use Rattle.away_core.specs.Results.{Or, and_then, mapped, each, each_joined}
-use Rattle.away_core.specs.Operators.{negated, small, compare, is_null, negation, negation_if, passes, cast}
+use Rattle.away_values.specs.declared.values.Value.{Value}
+use Rattle.away_values.specs.declared.values.Value.TheVariants as val
+use Rattle.away_values.specs.declared.operators.ChainOp.{ChainOp}
+use Rattle.away_trees.specs.declared.queries.Expr.TheOpen.{Expr-F}
+use Rattle.away_trees.specs.declared.queries.Expr.TheOpen as ex
+use Rattle.away_values.specs.Results.{Or, and_then, mapped, each, each_joined}
+use Rattle.away_values.specs.Operators.{negated, small, compare, is_null, negation, negation_if, passes, cast}
 use Rattle.sql_meaning.specs.Context.{Rows, Frame, Context, at, column, argument, at_row}
 use Rattle.sql_meaning.specs.Parts.{chained, between, among, chosen, first_known, only, has_row}
 use Rattle.sql_meaning.specs.Functions.{Function, Coalesce, function, is_aggregate, aggregate, scalar}

@@ -1,10 +1,10 @@
 -- The functions and the aggregates that a call may name.
 use Rattle.std.specs.Prelude.{ℕ, Bool, true, false, if◌then◌else◌, pos, ◌+ℤ◌, List, [], ◌∷◌, length, fold, Ok, codes, bytes_eq}
 use Rattle.std.specs.List.{list_any, list_all}
-use Rattle.away_core.specs.declared.values.Value.{Value}
-use Rattle.away_core.specs.declared.values.Value.TheVariants as val
-use Rattle.away_core.specs.Results.{Or}
-use Rattle.away_core.specs.Operators.{ranged, is_true, length_of, substr, extreme}
+use Rattle.away_values.specs.declared.values.Value.{Value}
+use Rattle.away_values.specs.declared.values.Value.TheVariants as val
+use Rattle.away_values.specs.Results.{Or}
+use Rattle.away_values.specs.Operators.{ranged, is_true, length_of, substr, extreme}
 use Rattle.sql_meaning.specs.Context.{at}
 
 pub data Function : Type 0 where
@@ -31,7 +31,7 @@ is_aggregate _ = false
 -- whole numbers without bounds
 abbrev pub added : Value → Value → Value
 added (val.Int a) (val.Int b) = val.Int (a +ℤ b)
-added val.Null b = b
+added val.Null (val.Int b) = val.Int b
 added a _ = a
 
 -- a sum is tested for its range once, at its end

@@ -1,7 +1,7 @@
 -- Words for the laws of working tables.
 use Rattle.std.specs.Prelude.{◌≡◌, ℕ, ◌<◌, List, ◌∷◌, Ok}
-use Rattle.away_core.specs.declared.values.Value.{Value}
-use Rattle.away_core.specs.Results.{Or}
+use Rattle.away_values.specs.declared.values.Value.{Value}
+use Rattle.away_values.specs.Results.{Or}
 use Rattle.sql_meaning.specs.Context.{Rows}
 use Rattle.sql_meaning.specs.Expressions.{RecursiveMeaning}
 use Rattle.sql_meaning.specs.Working.{working}

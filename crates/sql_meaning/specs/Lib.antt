@@ -2,6 +2,7 @@ pub mod Context
 pub mod Parts
 pub mod Functions
 pub mod Expressions
+pub mod KeyOrder
 pub mod Selects
 pub mod Meaning
 pub mod Working
@@ -20,3 +21,7 @@ pub mod Equivalent
 pub mod OneReturn
 pub mod Decided
 pub mod Ordered
+pub mod Gives
+pub mod Selected
+pub mod Aggregates
+pub mod AtBound

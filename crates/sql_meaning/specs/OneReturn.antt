@@ -1,12 +1,12 @@
 -- A function whose body is one RETURN, and that every query which is its template but for names is equivalent to it.
 use Rattle.std.specs.Prelude.{◌≡◌, ℕ, ◌^◌, ◌<◌, true, false, List, [], length, nat_lt, Ok, Err}
-use Rattle.away_core.specs.declared.types.Ty.{Ty}
-use Rattle.away_core.specs.declared.values.Value.{Value}
-use Rattle.away_core.specs.declared.values.Answer.{Answer}
-use Rattle.away_core.specs.declared.values.Answer.TheVariants as answer
-use Rattle.away_core.specs.declared.queries.Expr.{Expr}
-use Rattle.away_core.specs.declared.queries.Query.{Query}
-use Rattle.away_core.specs.Results.{Or}
+use Rattle.away_values.specs.declared.types.Ty.{Ty}
+use Rattle.away_values.specs.declared.values.Value.{Value}
+use Rattle.away_values.specs.declared.values.Answer.{Answer}
+use Rattle.away_values.specs.declared.values.Answer.TheVariants as answer
+use Rattle.away_trees.specs.declared.queries.Expr.{Expr}
+use Rattle.away_trees.specs.declared.queries.Query.{Query}
+use Rattle.away_values.specs.Results.{Or}
 use Rattle.sql_meaning.specs.Context.{Rows, Context}
 use Rattle.sql_meaning.specs.Meaning.{value, has_aggregate}
 use Rattle.sql_meaning.specs.Reads.{fits}

@@ -1,12 +1,12 @@
 -- The parts of an expression that are evaluated one after the other, where an operator stops as soon as it is decided.
 use Rattle.std.specs.Prelude.{Bool, true, false, if◌then◌else◌, List, [], ◌∷◌, Ok, Err, codes}
-use Rattle.away_core.specs.declared.values.Value.{Value}
-use Rattle.away_core.specs.declared.values.Value.TheVariants as val
-use Rattle.away_core.specs.declared.operators.ChainOp.{ChainOp}
-use Rattle.away_core.specs.declared.operators.ChainOp.TheVariants as chain
-use Rattle.away_core.specs.declared.operators.CmpOp.TheVariants as cmp
-use Rattle.away_core.specs.Results.{Or, and_then, mapped, class}
-use Rattle.away_core.specs.Operators.{int_op, small, compare, is_true, is_false, is_null, conjunction, disjunction, concat}
+use Rattle.away_values.specs.declared.values.Value.{Value}
+use Rattle.away_values.specs.declared.values.Value.TheVariants as val
+use Rattle.away_values.specs.declared.operators.ChainOp.{ChainOp}
+use Rattle.away_values.specs.declared.operators.ChainOp.TheVariants as chain
+use Rattle.away_values.specs.declared.operators.CmpOp.TheVariants as cmp
+use Rattle.away_values.specs.Results.{Or, and_then, mapped, class}
+use Rattle.away_values.specs.Operators.{int_op, small, compare, is_true, is_false, is_null, conjunction, disjunction, concat}
 use Rattle.sql_meaning.specs.Context.{Rows, at}
 
 -- The left operand's value and the right operand's answer. A false operand decides AND and a true one decides OR, so that the right one isn't

@@ -1,10 +1,10 @@
 -- An expression with a subquery, for examples of what is read and of what is replaced.
 use Rattle.std.specs.Prelude.{pos, false, [], ◌∷◌, Some, None}
-use Rattle.away_core.specs.declared.operators.ChainOp.TheVariants as chain
-use Rattle.away_core.specs.declared.operators.IntOp.TheVariants as op
-use Rattle.away_core.specs.declared.operators.IsTest.TheVariants as test
-use Rattle.away_core.specs.declared.queries.Expr.{Expr}
-use Rattle.away_core.specs.declared.queries.Expr.TheVariants as expr
+use Rattle.away_values.specs.declared.operators.ChainOp.TheVariants as chain
+use Rattle.away_values.specs.declared.operators.IntOp.TheVariants as op
+use Rattle.away_values.specs.declared.operators.IsTest.TheVariants as test
+use Rattle.away_trees.specs.declared.queries.Expr.{Expr}
+use Rattle.away_trees.specs.declared.queries.Expr.TheVariants as expr
 use Rattle.sql_meaning.specs.Trees.{col, number, lateral, select, one}
 use Rattle.sql_meaning.specs.Examples.{t, chain_of}
 

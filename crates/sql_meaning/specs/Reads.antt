@@ -1,11 +1,11 @@
 -- What an expression reads from outside itself, in the order of its text, a select's list before its FROM.
 use Rattle.std.specs.Prelude.{ℕ, suc, Bool, false, not, ◌==◌, nat_lt, if◌then◌else◌, List, [], ◌∷◌, ◌++◌, filter, flat_map, filter_map, Option, Some, None}
 use Rattle.std.specs.List.{list_all}
-use Rattle.away_core.specs.declared.queries.Col.{Col}
-use Rattle.away_core.specs.declared.queries.Expr.{Expr}
-use Rattle.away_core.specs.declared.queries.Expr.TheOpen.{Expr-F, Source-F, FromItem-F, Item-F, Key-F, Select-F, Recursive-F, Query-F}
-use Rattle.away_core.specs.declared.queries.Expr.TheOpen as ex
-use Rattle.away_core.specs.Algebra.{Algebra, expr_of}
+use Rattle.away_trees.specs.declared.queries.Col.{Col}
+use Rattle.away_trees.specs.declared.queries.Expr.{Expr}
+use Rattle.away_trees.specs.declared.queries.Expr.TheOpen.{Expr-F, Source-F, FromItem-F, Item-F, Key-F, Select-F, Recursive-F, Query-F}
+use Rattle.away_trees.specs.declared.queries.Expr.TheOpen as ex
+use Rattle.away_trees.specs.Algebra.{Algebra, expr_of}
 use Rattle.sql_meaning.specs.Selects.{place_of}
 
 -- a variable of the function, a parameter, a table by its place, or a column of a select that encloses the expression

@@ -1,8 +1,8 @@
 -- An expression of a function has the same value wherever it is placed in a query, and only what it reads matters to it.
 use Rattle.std.specs.Prelude.{◌≡◌, ℕ, Bool, true, nat_lt, [], slice_index_or, All}
-use Rattle.away_core.specs.declared.types.Ty.{Ty}
-use Rattle.away_core.specs.declared.queries.Col.{Col}
-use Rattle.away_core.specs.declared.queries.Expr.{Expr}
+use Rattle.away_values.specs.declared.types.Ty.{Ty}
+use Rattle.away_trees.specs.declared.queries.Col.{Col}
+use Rattle.away_trees.specs.declared.queries.Expr.{Expr}
 use Rattle.sql_meaning.specs.Context.{Context, at, argument, column}
 use Rattle.sql_meaning.specs.Meaning.{value, has_aggregate}
 use Rattle.sql_meaning.specs.Placed.{placed, placed_at}

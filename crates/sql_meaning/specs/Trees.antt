@@ -1,15 +1,15 @@
 -- Small trees, for templates and examples.
 use Rattle.std.specs.Prelude.{ℕ, Bool, true, ℤ, List, [], ◌∷◌, map, Option, None, decimal}
-use Rattle.away_core.specs.declared.types.Ty.{Ty}
-use Rattle.away_core.specs.declared.types.Ty.TheVariants as ty
-use Rattle.away_core.specs.declared.queries.Expr.{Expr}
-use Rattle.away_core.specs.declared.queries.Expr.TheVariants as expr
-use Rattle.away_core.specs.declared.queries.Source.TheVariants as source
-use Rattle.away_core.specs.declared.queries.FromItem.{FromItem}
-use Rattle.away_core.specs.declared.queries.Item.{Item}
-use Rattle.away_core.specs.declared.queries.Select.{Select}
-use Rattle.away_core.specs.declared.queries.Query.{Query}
-use Rattle.away_core.specs.declared.queries.Expr.TheViews.{roll-FromItem, roll-Item, roll-Select, roll-Query}
+use Rattle.away_values.specs.declared.types.Ty.{Ty}
+use Rattle.away_values.specs.declared.types.Ty.TheVariants as ty
+use Rattle.away_trees.specs.declared.queries.Expr.{Expr}
+use Rattle.away_trees.specs.declared.queries.Expr.TheVariants as expr
+use Rattle.away_trees.specs.declared.queries.Source.TheVariants as source
+use Rattle.away_trees.specs.declared.queries.FromItem.{FromItem}
+use Rattle.away_trees.specs.declared.queries.Item.{Item}
+use Rattle.away_trees.specs.declared.queries.Select.{Select}
+use Rattle.away_trees.specs.declared.queries.Query.{Query}
+use Rattle.away_trees.specs.declared.queries.Expr.TheViews.{roll-FromItem, roll-Item, roll-Select, roll-Query}
 
 -- a column: how many selects further out, of which item, at which place
 abbrev pub col : ℕ → ℕ → ℕ → Expr

@@ -1,13 +1,13 @@
 -- The working tables of a recursive query, and what it answers at a bound.
-use Rattle.std.specs.Prelude.{ℕ, zero, suc, Bool, not, ◌&&◌, ◌||◌, if◌then◌else◌, ◌==◌, nat_le, List, [], ◌∷◌, ◌++◌, length, Option, Some, None, Ok, Err, codes, bytes_eq}
-use Rattle.std.specs.List.{list_all}
-use Rattle.away_core.specs.declared.values.Value.{Value}
-use Rattle.away_core.specs.declared.values.Value.TheVariants as val
-use Rattle.away_core.specs.declared.values.Answer.{Answer}
-use Rattle.away_core.specs.declared.values.Answer.TheVariants as answer
-use Rattle.away_core.specs.declared.queries.Query.{Query}
-use Rattle.away_core.specs.Results.{Or, and_then, mapped, class}
-use Rattle.away_core.specs.Algebra.{query_of}
+use Rattle.std.specs.Prelude.{ℕ, zero, suc, if◌then◌else◌, List, [], ◌∷◌, ◌++◌, length, Option, Some, None, Ok, Err}
+use Rattle.away_values.specs.declared.values.Value.{Value}
+use Rattle.away_values.specs.declared.values.Value.TheVariants as val
+use Rattle.away_values.specs.declared.values.Answer.{Answer}
+use Rattle.away_values.specs.declared.values.Answer.TheVariants as answer
+use Rattle.away_trees.specs.declared.queries.Query.{Query}
+use Rattle.away_values.specs.Classes.{is_class}
+use Rattle.away_values.specs.Results.{Or, and_then, mapped, class}
+use Rattle.away_trees.specs.Algebra.{query_of}
 use Rattle.sql_meaning.specs.Context.{Rows, outermost}
 use Rattle.sql_meaning.specs.Expressions.{SelectMeaning, RecursiveMeaning}
 use Rattle.sql_meaning.specs.Meaning.{meaning}
@@ -62,13 +62,6 @@ abbrev pub rows : Query → List Rows → List Value → ℕ → Bounded Rows
 rows q = rows_with (query_of meaning q).recursive (query_of meaning q).rows
 
 -- ---- the answer
-
-abbrev pub is_class_char : ℕ → Bool
-is_class_char c = (nat_le 48 c && nat_le c 57) || (nat_le 65 c && nat_le c 90)
-
--- five digits or upper-case letters, and not 00000 (PostgreSQL manual, appendix PostgreSQL Error Codes)
-abbrev pub is_class : List ℕ → Bool
-is_class t = length t == 5 && (list_all is_class_char t && not (bytes_eq t (codes "00000")))
 
 -- One row of a value and NULL is that value, one row of NULL and a class is that fault, and other rows are told by their number. (Our own.)
 abbrev pub answer_of_rows : Rows → Answer

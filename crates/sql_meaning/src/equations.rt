@@ -23,15 +23,15 @@ ghost use Rattle.std.specs.Prelude.{
   slice_index_or,
 };
 ghost use Rattle.std.specs.List.{list_any};
-ghost use Rattle.away_core.specs.declared.operators.ChainOp.{ChainOp};
-ghost use Rattle.away_core.specs.declared.operators.ChainOp.TheVariants as chain;
-ghost use Rattle.away_core.specs.declared.operators.CmpOp.{CmpOp};
-ghost use Rattle.away_core.specs.declared.operators.IntOp.{IntOp};
-ghost use Rattle.away_core.specs.declared.operators.IsTest.{IsTest};
-ghost use Rattle.away_core.specs.declared.queries.Col.{Col};
-ghost use Rattle.away_core.specs.declared.queries.Expr.{Expr};
-ghost use Rattle.away_core.specs.declared.queries.Expr.TheVariants as expr;
-ghost use Rattle.away_core.specs.declared.queries.Expr.TheViews.{
+ghost use Rattle.away_values.specs.declared.operators.ChainOp.{ChainOp};
+ghost use Rattle.away_values.specs.declared.operators.ChainOp.TheVariants as chain;
+ghost use Rattle.away_values.specs.declared.operators.CmpOp.{CmpOp};
+ghost use Rattle.away_values.specs.declared.operators.IntOp.{IntOp};
+ghost use Rattle.away_values.specs.declared.operators.IsTest.{IsTest};
+ghost use Rattle.away_trees.specs.declared.queries.Col.{Col};
+ghost use Rattle.away_trees.specs.declared.queries.Expr.{Expr};
+ghost use Rattle.away_trees.specs.declared.queries.Expr.TheVariants as expr;
+ghost use Rattle.away_trees.specs.declared.queries.Expr.TheViews.{
   out-FromItem,
   out-Item,
   out-Key,
@@ -39,19 +39,19 @@ ghost use Rattle.away_core.specs.declared.queries.Expr.TheViews.{
   out-Recursive,
   out-Select,
 };
-ghost use Rattle.away_core.specs.declared.queries.FromItem.{FromItem};
-ghost use Rattle.away_core.specs.declared.queries.Item.{Item};
-ghost use Rattle.away_core.specs.declared.queries.Key.{Key};
-ghost use Rattle.away_core.specs.declared.queries.Query.{Query};
-ghost use Rattle.away_core.specs.declared.queries.Recursive.{Recursive};
-ghost use Rattle.away_core.specs.declared.queries.Select.{Select};
-ghost use Rattle.away_core.specs.declared.queries.Source.TheVariants as source;
-ghost use Rattle.away_core.specs.declared.types.Ty.TheVariants as ty;
-ghost use Rattle.away_core.specs.declared.types.Ty.{Ty};
-ghost use Rattle.away_core.specs.declared.values.Value.TheVariants as val;
-ghost use Rattle.away_core.specs.declared.values.Value.{Value};
-ghost use Rattle.away_core.specs.Algebra.{expr_of, item_of, key_of};
-ghost use Rattle.away_core.specs.Operators.{
+ghost use Rattle.away_trees.specs.declared.queries.FromItem.{FromItem};
+ghost use Rattle.away_trees.specs.declared.queries.Item.{Item};
+ghost use Rattle.away_trees.specs.declared.queries.Key.{Key};
+ghost use Rattle.away_trees.specs.declared.queries.Query.{Query};
+ghost use Rattle.away_trees.specs.declared.queries.Recursive.{Recursive};
+ghost use Rattle.away_trees.specs.declared.queries.Select.{Select};
+ghost use Rattle.away_trees.specs.declared.queries.Source.TheVariants as source;
+ghost use Rattle.away_values.specs.declared.types.Ty.TheVariants as ty;
+ghost use Rattle.away_values.specs.declared.types.Ty.{Ty};
+ghost use Rattle.away_values.specs.declared.values.Value.TheVariants as val;
+ghost use Rattle.away_values.specs.declared.values.Value.{Value};
+ghost use Rattle.away_trees.specs.Algebra.{expr_of, item_of, key_of};
+ghost use Rattle.away_values.specs.Operators.{
   cast,
   compare,
   negated,
@@ -60,7 +60,7 @@ ghost use Rattle.away_core.specs.Operators.{
   passes,
   small,
 };
-ghost use Rattle.away_core.specs.Results.{Or, and_then, each_joined, mapped};
+ghost use Rattle.away_values.specs.Results.{Or, and_then, each_joined, mapped};
 ghost use Rattle.sql_meaning.specs.Context.{
   argument,
   at,

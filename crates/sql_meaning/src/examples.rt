@@ -15,14 +15,14 @@ ghost use Rattle.std.specs.Prelude.{
   ◌∷◌,
   ◌≡◌,
 };
-ghost use Rattle.away_core.specs.declared.operators.ChainOp.TheVariants as chain;
-ghost use Rattle.away_core.specs.declared.operators.IntOp.TheVariants as op;
-ghost use Rattle.away_core.specs.declared.operators.IsTest.TheVariants as test;
-ghost use Rattle.away_core.specs.declared.queries.Expr.TheVariants as expr;
-ghost use Rattle.away_core.specs.declared.types.Ty.TheVariants as ty;
-ghost use Rattle.away_core.specs.declared.values.Answer.TheVariants as answer;
-ghost use Rattle.away_core.specs.declared.values.Value.TheVariants as val;
-ghost use Rattle.away_core.specs.Results.{class};
+ghost use Rattle.away_values.specs.declared.operators.ChainOp.TheVariants as chain;
+ghost use Rattle.away_values.specs.declared.operators.IntOp.TheVariants as op;
+ghost use Rattle.away_values.specs.declared.operators.IsTest.TheVariants as test;
+ghost use Rattle.away_trees.specs.declared.queries.Expr.TheVariants as expr;
+ghost use Rattle.away_values.specs.declared.types.Ty.TheVariants as ty;
+ghost use Rattle.away_values.specs.declared.values.Answer.TheVariants as answer;
+ghost use Rattle.away_values.specs.declared.values.Value.TheVariants as val;
+ghost use Rattle.away_values.specs.Results.{class};
 ghost use Rattle.sql_meaning.specs.Examples.{
   aggregated,
   alone,
@@ -50,6 +50,7 @@ ghost use Rattle.sql_meaning.specs.Examples.{
   whole,
   with_null,
 };
+ghost use Rattle.sql_meaning.specs.Functions.{Sum, aggregate};
 ghost use Rattle.sql_meaning.specs.Trees.{col, null_of};
 ghost use Rattle.sql_meaning.specs.Working.{sql};
 
@@ -66,13 +67,18 @@ pub fn recursion_needs_its_bound()
     ensures fault { sql to_a_fault [] [] 1 ≡ answer.Fault (class (codes "22012")) }
 {}
 
-/// A query answers a value or a fault by one row, and any other result tells the number of its rows.
+/// A query answers a value or a fault by one row of two columns, and any other result tells the number of its rows: a text that is no class, 00000 among them, a value
+/// beside a class, and rows of one column or of three.
 pub fn a_query_is_asked_for_one_row()
     ensures three { sql (keys_where None) (three ∷ []) [] 0 ≡ answer.Shape 3 }
     ensures none { sql (keys_where (Some (expr.Bool false))) (three ∷ []) [] 0 ≡ answer.Shape 0 }
     ensures value { sql (keys_where None) (numbers (pos 7 ∷ []) ∷ []) [] 0 ≡ answer.Value (int 7) }
     ensures fault { sql (whole (expr.Null ∷ expr.Str (codes "AB123") ∷ []) None [] None) (numbers (pos 7 ∷ []) ∷ []) [] 0 ≡ answer.Fault (class (codes "AB123")) }
     ensures text { sql (whole (expr.Null ∷ expr.Str (codes "ab123") ∷ []) None [] None) (numbers (pos 7 ∷ []) ∷ []) [] 0 ≡ answer.Shape 1 }
+    ensures success { sql (whole (expr.Null ∷ expr.Str (codes "00000") ∷ []) None [] None) (numbers (pos 7 ∷ []) ∷ []) [] 0 ≡ answer.Shape 1 }
+    ensures both { sql (whole (n 1 ∷ expr.Str (codes "22012") ∷ []) None [] None) (numbers (pos 7 ∷ []) ∷ []) [] 0 ≡ answer.Shape 1 }
+    ensures third { sql (whole (n 1 ∷ expr.Null ∷ expr.Null ∷ []) None [] None) (numbers (pos 7 ∷ []) ∷ []) [] 0 ≡ answer.Shape 1 }
+    ensures single { sql (whole (n 1 ∷ []) None [] None) (numbers (pos 7 ∷ []) ∷ []) [] 0 ≡ answer.Shape 1 }
 {}
 
 /// A scalar subquery of two rows is a fault and of none is NULL. An item beside no row isn't evaluated. EXISTS evaluates its list.
@@ -130,12 +136,14 @@ pub fn operators_stop_where_decided()
     ensures first_fault { alone (expr.Chain (n 9223372036854775807) ((chain.Int op.Add, n 1) ∷ (chain.Int op.Add, by_zero) ∷ [])) ≡ fails (codes "22003") }
 {}
 
-/// Aggregates skip NULLs and are NULL over nothing, except the counts. A sum is tested for its range at its end alone.
+/// Aggregates skip NULLs and are NULL over nothing, except the counts. A sum is tested for its range at its end alone, and adds numbers alone.
 pub fn aggregates_skip_null()
     ensures some { over aggregated (with_null ∷ []) ≡ Ok ((int 3 ∷ int 2 ∷ int 2 ∷ int 5 ∷ int 7 ∷ val.Bool false ∷ val.Bool true ∷ []) ∷ []) }
     ensures none { over aggregated ([] ∷ []) ≡ Ok ((int 0 ∷ int 0 ∷ val.Null ∷ val.Null ∷ val.Null ∷ val.Null ∷ val.Null ∷ []) ∷ []) }
     ensures comes_back { over summed (numbers (pos 9223372036854775807 ∷ pos 1 ∷ negsuc 0 ∷ []) ∷ []) ≡ Ok ((int 9223372036854775807 ∷ []) ∷ []) }
     ensures leaves { over summed (numbers (pos 9223372036854775807 ∷ pos 1 ∷ []) ∷ []) ≡ fails (codes "22003") }
+    ensures second { over aggregated (numbers (pos 1 ∷ pos 5 ∷ []) ∷ []) ≡ Ok ((int 2 ∷ int 2 ∷ int 1 ∷ int 5 ∷ int 6 ∷ val.Bool false ∷ val.Bool true ∷ []) ∷ []) }
+    ensures numbers_alone { aggregate Sum (text (codes "a") ∷ int 3 ∷ text (codes "b") ∷ int 4 ∷ []) ≡ Ok (int 7) }
     ensures untaken { over (whole (expr.Cases ((expr.Bool false, call (codes "max") by_zero) ∷ []) (Some expr.CountRows) ∷ []) None [] None) (three ∷ []) ≡ Ok ((int 3 ∷ []) ∷ []) }
 {}
 

@@ -12,27 +12,30 @@ ghost use Rattle.std.specs.Prelude.{
   ◌≡◌,
   ◌≢◌,
   ◌≤◌,
+  ◌∷◌,
   map,
   false,
-  filter,
-  length,
   Bool,
 };
-ghost use Rattle.away_core.specs.declared.operators.ChainOp.TheVariants as chain;
-ghost use Rattle.away_core.specs.declared.queries.Query.{Query};
-ghost use Rattle.away_core.specs.declared.values.Answer.TheVariants as answer;
-ghost use Rattle.away_core.specs.declared.values.Class.{Class};
-ghost use Rattle.away_core.specs.declared.values.Value.TheVariants as val;
-ghost use Rattle.away_core.specs.declared.values.Value.{Value};
-ghost use Rattle.away_core.specs.Operators.{conjunction, disjunction};
-ghost use Rattle.away_core.specs.Results.{Or};
-ghost use Rattle.sql_meaning.specs.Context.{Rows};
+ghost use Rattle.away_values.specs.declared.operators.ChainOp.TheVariants as chain;
+ghost use Rattle.away_trees.specs.declared.queries.Query.{Query};
+ghost use Rattle.away_values.specs.declared.values.Answer.TheVariants as answer;
+ghost use Rattle.away_values.specs.declared.values.Class.{Class};
+ghost use Rattle.away_values.specs.declared.values.Value.TheVariants as val;
+ghost use Rattle.away_values.specs.declared.values.Value.{Value};
+ghost use Rattle.away_values.specs.declared.types.Ty.{Ty};
+ghost use Rattle.away_values.specs.Values.{HasType};
+ghost use Rattle.std.specs.Ordering.{is_lt};
+ghost use Rattle.away_values.specs.Operators.{conjunction, disjunction};
+ghost use Rattle.away_values.specs.Results.{Or};
+ghost use Rattle.sql_meaning.specs.Context.{Context, Frame, Rows};
 ghost use Rattle.sql_meaning.specs.Decided.{is_among, is_between};
-ghost use Rattle.sql_meaning.specs.Expressions.{RecursiveMeaning};
+ghost use Rattle.sql_meaning.specs.Expressions.{KeyMeaning, RecursiveMeaning};
 ghost use Rattle.sql_meaning.specs.Laws.{AreFilledBefore};
-ghost use Rattle.sql_meaning.specs.Ordered.{Before, InOrder, IsOrder, Keyed, ties};
+ghost use Rattle.sql_meaning.specs.KeyOrder.{directed, precedes};
+ghost use Rattle.sql_meaning.specs.Ordered.{IsOrdered, IsSorted, Keyed, keyed};
 ghost use Rattle.sql_meaning.specs.Parts.{among, between, pair};
-ghost use Rattle.sql_meaning.specs.Selects.{sorted};
+ghost use Rattle.sql_meaning.specs.Selects.{comes_before, ordered, sorted};
 ghost use Rattle.sql_meaning.specs.Working.{
   all_working,
   answered,
@@ -70,9 +73,15 @@ pub fn stopping_changes_no_value()
     ensures among { (v : Value) (ws : List Value) → among v (map (λ w. Ok w) ws) (val.Bool false) ≡ Ok (is_among v ws) }
 {}
 
-/// ORDER BY gives the same rows, in their order, and rows with equal keys keep the order of the list, where the keys are in an order at all.
+/// ORDER BY gives the same rows, in the order of their keys, and rows with equal keys keep the order of the list: for all keys, of whatever values.
+/// Without a key the rows stay as they are.
 pub fn sorting_is_stable()
-    ensures same { (before : Before) (xs : List Keyed) (test : Keyed → Bool) → length (filter test (sorted before xs)) ≡ length (filter test xs) }
-    ensures in_order { (before : Before) (xs : List Keyed) → IsOrder before → InOrder before (sorted before xs) }
-    ensures ties { (before : Before) (xs : List Keyed) (keys : List Value) → IsOrder before → filter (λ x. ties before keys x.0) (sorted before xs) ≡ filter (λ x. ties before keys x.0) xs }
+    ensures sorted { (keys : List KeyMeaning) (xs : List Keyed) → IsSorted (comes_before keys) xs (sorted (comes_before keys) xs) }
+    ensures rows { (cx : Context) (key : KeyMeaning) (more : List KeyMeaning) (frames : List Frame) (rows : Rows) (old : List Keyed) → keyed cx (key ∷ more) frames rows ≡ Ok old → IsOrdered (key ∷ more) old (ordered cx (key ∷ more) frames rows) }
+    ensures no_key { (cx : Context) (frames : List Frame) (rows : Rows) → ordered cx [] frames rows ≡ Ok rows }
+{}
+
+/// On the values of one type the order of a key is that of the operators, with NULL last where it rises and first where it falls.
+pub fn keys_order_as_the_operators_do()
+    ensures { (falls : Bool) (t : Ty) (a b : Value) → HasType a t → HasType b t → precedes falls a b ≡ is_lt (directed falls a b) }
 {}

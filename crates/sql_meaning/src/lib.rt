@@ -18,8 +18,8 @@ pub use examples::{
     recursion_needs_its_bound, rows_are_put_in_order,
 };
 pub use laws::{
-    answers_are_told_by_rows, answers_stay, sorting_is_stable, stopping_changes_no_value,
-    the_first_empty_or_faulty_table_decides,
+    answers_are_told_by_rows, answers_stay, keys_order_as_the_operators_do, sorting_is_stable,
+    stopping_changes_no_value, the_first_empty_or_faulty_table_decides,
 };
 pub use one_return::one_return_is_equivalent;
 pub use places::{

@@ -10,9 +10,9 @@ ghost use Rattle.std.specs.Prelude.{
   ◌∷◌,
   ◌≡◌,
 };
-ghost use Rattle.away_core.specs.declared.queries.Expr.{Expr};
-ghost use Rattle.away_core.specs.declared.queries.Query.{Query};
-ghost use Rattle.away_core.specs.declared.values.Value.{Value};
+ghost use Rattle.away_trees.specs.declared.queries.Expr.{Expr};
+ghost use Rattle.away_trees.specs.declared.queries.Query.{Query};
+ghost use Rattle.away_values.specs.declared.values.Value.{Value};
 ghost use Rattle.sql_meaning.specs.Context.{Context, Rows};
 ghost use Rattle.sql_meaning.specs.Meaning.{value};
 ghost use Rattle.sql_meaning.specs.Names.{bare, bare_value};

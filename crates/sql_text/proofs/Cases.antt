@@ -2,19 +2,19 @@
 use Rattle.std.proofs.Common.{◌≡◌, ℕ, ◌^◌, pos, nat_lt, Bool, true, false, if◌then◌else◌, List, [], ◌∷◌, Some, None, Result, Ok, Err, refl, sym, subst, codes, bytes_eq, arith}
 use Rattle.std.specs.Bool.{OnTrue, OnFalse, IsTrue}
 use Rattle.std.proofs.lemmas.Bool.Decides.{nat_tests}
-use Rattle.away_core.specs.declared.grammar.Mark.{Mark}
-use Rattle.away_core.specs.declared.grammar.Mark.TheVariants as m
-use Rattle.away_core.specs.declared.grammar.Level.TheVariants as l
-use Rattle.away_core.specs.declared.queries.Expr.{Expr}
-use Rattle.away_core.specs.declared.queries.Expr.TheVariants as e
-use Rattle.away_core.specs.declared.queries.Key.{Key}
-use Rattle.away_core.specs.declared.queries.Select.{Select}
-use Rattle.away_core.specs.Signs.{Sign, mark, integer}
-use Rattle.away_core.specs.Grammar.{at, arms, query, selects, key, Tree, literal_of, called, is_number, may_join}
+use Rattle.away_grammar.specs.declared.grammar.Mark.{Mark}
+use Rattle.away_grammar.specs.declared.grammar.Mark.TheVariants as m
+use Rattle.away_grammar.specs.declared.grammar.Level.TheVariants as l
+use Rattle.away_trees.specs.declared.queries.Expr.{Expr}
+use Rattle.away_trees.specs.declared.queries.Expr.TheVariants as e
+use Rattle.away_trees.specs.declared.queries.Key.{Key}
+use Rattle.away_trees.specs.declared.queries.Select.{Select}
+use Rattle.away_grammar.specs.Signs.{Sign, mark, integer}
+use Rattle.away_grammar.specs.Grammar.{at, arms, query, selects, key, Tree, literal_of, called, is_number, may_join}
 use Rattle.sql_text.specs.declared.refusal.Refusal.{Refusal}
 use Rattle.sql_text.specs.declared.refusal.Refusal.TheVariants.{NoTree, NoMemory}
 use Rattle.sql_text.specs.Said.{Found, Numbered}
-use Rattle.sql_text.specs.Plans.{Plan, done, fail, eat, read, expect, Begins, Gives, tree, no_tree, no_memory, ends, fails}
+use Rattle.sql_text.specs.Plans.{Plan, done, fail, eat, read, expect, Begins, Gives, tree, no_tree, no_memory, ends, fails, leaves}
 use Rattle.sql_text.specs.Descent.{plan, case_plan, cases_with, primary_with, primary_by, word_plan, arguments_plan, within_plan, test_plan, rows_plan, key_with, key_plan, query_with, query_plan}
 use Rattle.sql_text.proofs.Steps.{read_on, failed, finished, eaten, left}
 
@@ -69,6 +69,10 @@ pub range_on : (x : Expr) (b : Bool) (r : Result Expr Refusal) (middle next new 
     → Gives Tree plan (at l.Range) (within_plan x b) next r new → Gives Tree plan (at l.Range) (eat m.Not (within_plan x true) (within_plan x false)) middle r new
 range_on x true r middle next new y n d = eaten m.Not y d
 range_on x false r middle next new y n d = left m.Not n d
+
+pub unranged : {x : Expr} {ts : List Sign} → ¬ (Begins ts m.Not) × ¬ (Begins ts m.Between) × ¬ (Begins ts m.In)
+    → Gives Tree plan (at l.Range) (eat m.Not (within_plan x true) (within_plan x false)) ts (Ok x) ts
+unranged h = tree (leaves h.0 (leaves h.1 (leaves h.2 ends)))
 
 pub test_on : (x : Expr) (b : Bool) (r : Result Expr Refusal) (middle next new : List Sign) → OnTrue b (middle ≡ mark m.Not ∷ next) → OnFalse b ((next ≡ middle) × ¬ (Begins middle m.Not))
     → Gives Tree plan (at l.Is) (test_plan x b) next r new → Gives Tree plan (at l.Is) (eat m.Not (test_plan x true) (test_plan x false)) middle r new

@@ -1,10 +1,10 @@
 -- Columns with commas between them, and tables one behind the other.
 use Rattle.std.proofs.Common.{◌≡◌, ℕ, List, [], ◌∷◌, ◌++◌, Option, Some, None, Ok, Err, sym, subst, append-nil}
-use Rattle.away_core.specs.declared.grammar.Mark.TheVariants as m
-use Rattle.away_core.specs.declared.schemas.ColumnSchema.{ColumnSchema}
-use Rattle.away_core.specs.declared.schemas.TableSchema.{TableSchema}
-use Rattle.away_core.specs.Signs.{Sign, mark}
-use Rattle.away_core.specs.Grammar.{column, columns, tables, Tree}
+use Rattle.away_grammar.specs.declared.grammar.Mark.TheVariants as m
+use Rattle.away_trees.specs.declared.schemas.ColumnSchema.{ColumnSchema}
+use Rattle.away_trees.specs.declared.schemas.TableSchema.{TableSchema}
+use Rattle.away_grammar.specs.Signs.{Sign, mark}
+use Rattle.away_grammar.specs.Grammar.{column, columns, tables, Tree}
 use Rattle.sql_text.specs.declared.refusal.Refusal.{Refusal}
 use Rattle.sql_text.specs.Plans.{Plan, done, read, eat, expect, Begins, Runs, ends, eats, leaves, reads, breaks, Gives, tree, no_tree, no_memory}
 use Rattle.sql_text.specs.Descent.{plan, qualified_name}

@@ -1,8 +1,8 @@
 -- What the grammar reads and stops, the plan gives.
 use Rattle.std.proofs.Common.{List, Some}
-use Rattle.away_core.specs.Signs.{Sign}
-use Rattle.away_core.specs.Grammar as g
-use Rattle.away_core.specs.Grammar.{Sort, Tree, Reads, Stops}
+use Rattle.away_grammar.specs.Signs.{Sign}
+use Rattle.away_grammar.specs.Grammar as g
+use Rattle.away_grammar.specs.Grammar.{Sort, Tree, Reads, Stops}
 use Rattle.sql_text.specs.Plans.{Runs}
 use Rattle.sql_text.specs.Descent.{plan}
 use Rattle.sql_text.proofs.Starts.{starts}

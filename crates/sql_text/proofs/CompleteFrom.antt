@@ -1,17 +1,17 @@
 -- Items, what stands behind FROM, and keys: what the grammar reads, the plans give, step by step.
 use Rattle.std.proofs.Common.{◌≡◌, ℕ, Bool, true, false, List, [], ◌∷◌, Option, Some, None, refl, lit≤, lit<}
 use Rattle.std.specs.Prelude.{if◌then◌else◌, bytes_eq, codes}
-use Rattle.away_core.specs.declared.grammar.Mark.{Mark}
-use Rattle.away_core.specs.declared.grammar.Mark.TheVariants as m
-use Rattle.away_core.specs.declared.grammar.Level.TheVariants as l
-use Rattle.away_core.specs.declared.queries.Expr.{Expr}
-use Rattle.away_core.specs.declared.queries.Source.TheVariants as source
-use Rattle.away_core.specs.declared.queries.Item.{Item}
-use Rattle.away_core.specs.declared.queries.FromItem.{FromItem}
-use Rattle.away_core.specs.declared.queries.Key.{Key}
-use Rattle.away_core.specs.declared.queries.Query.{Query}
-use Rattle.away_core.specs.Signs.{Sign, mark, name}
-use Rattle.away_core.specs.Grammar.{Sort, at, item, items, from_item, from_items, key, keys, names, query, Tree, perhaps, qualified, is_number}
+use Rattle.away_grammar.specs.declared.grammar.Mark.{Mark}
+use Rattle.away_grammar.specs.declared.grammar.Mark.TheVariants as m
+use Rattle.away_grammar.specs.declared.grammar.Level.TheVariants as l
+use Rattle.away_trees.specs.declared.queries.Expr.{Expr}
+use Rattle.away_trees.specs.declared.queries.Source.TheVariants as source
+use Rattle.away_trees.specs.declared.queries.Item.{Item}
+use Rattle.away_trees.specs.declared.queries.FromItem.{FromItem}
+use Rattle.away_trees.specs.declared.queries.Key.{Key}
+use Rattle.away_trees.specs.declared.queries.Query.{Query}
+use Rattle.away_grammar.specs.Signs.{Sign, mark, name}
+use Rattle.away_grammar.specs.Grammar.{Sort, at, item, items, from_item, from_items, key, keys, names, query, Tree, perhaps, qualified, is_number}
 use Rattle.sql_text.specs.Plans.{Plan, eat, Begins, Runs, ends, eats, leaves, reads}
 use Rattle.sql_text.specs.Next.{name_in}
 use Rattle.sql_text.specs.Descent.{plan, a_name, item_with, from_with, key_with, table_plan, sub_plan, columns_plan, qualified_name}

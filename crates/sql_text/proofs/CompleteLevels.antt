@@ -2,18 +2,18 @@
 use Rattle.std.proofs.Common.{◌≡◌, ℕ, ◌≤◌, ◌<◌, Bool, true, false, List, [], ◌∷◌, Some, None, refl, ap, arith, lit≤, lit<, negsuc}
 use Rattle.std.specs.Prelude.{◌^◌, ◌-◌, ◌==◌, nat_lt, if◌then◌else◌}
 use Rattle.std.proofs.lemmas.Bool.Decides.{nat_tests}
-use Rattle.away_core.specs.declared.grammar.Mark.{Mark}
-use Rattle.away_core.specs.declared.grammar.Mark.TheVariants as m
-use Rattle.away_core.specs.declared.grammar.Level.{Level}
-use Rattle.away_core.specs.declared.grammar.Level.TheVariants as l
-use Rattle.away_core.specs.declared.types.Ty.{Ty}
-use Rattle.away_core.specs.declared.operators.ChainOp.{ChainOp}
-use Rattle.away_core.specs.declared.operators.CmpOp.{CmpOp}
-use Rattle.away_core.specs.declared.operators.IsTest.{IsTest}
-use Rattle.away_core.specs.declared.queries.Expr.{Expr}
-use Rattle.away_core.specs.declared.queries.Expr.TheVariants as e
-use Rattle.away_core.specs.Signs.{Sign, mark, name, integer, string, parameter, quote}
-use Rattle.away_core.specs.Grammar.{at, links, list, Tree, operands, operator_of, comparison_of, test_of, type_named, mark_binds, IsChain, chained, perhaps}
+use Rattle.away_grammar.specs.declared.grammar.Mark.{Mark}
+use Rattle.away_grammar.specs.declared.grammar.Mark.TheVariants as m
+use Rattle.away_grammar.specs.declared.grammar.Level.{Level}
+use Rattle.away_grammar.specs.declared.grammar.Level.TheVariants as l
+use Rattle.away_values.specs.declared.types.Ty.{Ty}
+use Rattle.away_values.specs.declared.operators.ChainOp.{ChainOp}
+use Rattle.away_values.specs.declared.operators.CmpOp.{CmpOp}
+use Rattle.away_values.specs.declared.operators.IsTest.{IsTest}
+use Rattle.away_trees.specs.declared.queries.Expr.{Expr}
+use Rattle.away_trees.specs.declared.queries.Expr.TheVariants as e
+use Rattle.away_grammar.specs.Signs.{Sign, mark, name, integer, string, parameter, quote}
+use Rattle.away_grammar.specs.Grammar.{at, links, list, Tree, operands, operator_of, comparison_of, test_of, type_named, mark_binds, IsChain, chained, perhaps}
 use Rattle.sql_text.specs.Plans.{Begins, Runs, ends, takes, eats, leaves, sees, misses, reads}
 use Rattle.sql_text.specs.Next.{operator_in, comparison_in, test_in, type_in, is_least}
 use Rattle.sql_text.specs.Descent.{plan, chain_plan, within_plan, test_plan}

@@ -2,15 +2,15 @@
 use Rattle.std.proofs.Common.{◌≡◌, ℕ, ◌≤◌, ◌<◌, true, false, List, [], ◌∷◌, Some, None, refl, ap, arith, lit≤, lit<, pos}
 use Rattle.std.specs.Prelude.{◌^◌, nat_lt, codes}
 use Rattle.std.proofs.lemmas.Bool.Decides.{nat_tests}
-use Rattle.away_core.specs.declared.grammar.Mark.{Mark}
-use Rattle.away_core.specs.declared.grammar.Mark.TheVariants as m
-use Rattle.away_core.specs.declared.grammar.Level.TheVariants as l
-use Rattle.away_core.specs.declared.types.Ty.{Ty}
-use Rattle.away_core.specs.declared.queries.Expr.{Expr}
-use Rattle.away_core.specs.declared.queries.Expr.TheVariants as e
-use Rattle.away_core.specs.declared.queries.Query.{Query}
-use Rattle.away_core.specs.Signs.{Sign, mark, name, integer, string, parameter, quote}
-use Rattle.away_core.specs.Grammar.{Tree, at, list, arms, query, literal_of, called, type_named}
+use Rattle.away_grammar.specs.declared.grammar.Mark.{Mark}
+use Rattle.away_grammar.specs.declared.grammar.Mark.TheVariants as m
+use Rattle.away_grammar.specs.declared.grammar.Level.TheVariants as l
+use Rattle.away_values.specs.declared.types.Ty.{Ty}
+use Rattle.away_trees.specs.declared.queries.Expr.{Expr}
+use Rattle.away_trees.specs.declared.queries.Expr.TheVariants as e
+use Rattle.away_trees.specs.declared.queries.Query.{Query}
+use Rattle.away_grammar.specs.Signs.{Sign, mark, name, integer, string, parameter, quote}
+use Rattle.away_grammar.specs.Grammar.{Tree, at, list, arms, query, literal_of, called, type_named}
 use Rattle.sql_text.specs.Plans.{Plan, done, Begins, ends, takes, eats, leaves, sees, misses, reads}
 use Rattle.sql_text.specs.Next.{name_in, type_in, parameter_in, is_select}
 use Rattle.sql_text.specs.Descent.{primary_by, arguments_plan}

@@ -1,19 +1,19 @@
 -- Selects, queries, files and schemas: what the grammar reads, the plans give, step by step.
 use Rattle.std.proofs.Common.{◌≡◌, ℕ, Bool, true, false, List, [], ◌∷◌, ◌++◌, Option, Some, None, refl, sym, ap, subst, lit≤, lit<}
-use Rattle.away_core.specs.declared.grammar.Mark.TheVariants as m
-use Rattle.away_core.specs.declared.grammar.Level.TheVariants as l
-use Rattle.away_core.specs.declared.types.Ty.{Ty}
-use Rattle.away_core.specs.declared.queries.Expr.{Expr}
-use Rattle.away_core.specs.declared.queries.Item.{Item}
-use Rattle.away_core.specs.declared.queries.FromItem.{FromItem}
-use Rattle.away_core.specs.declared.queries.Key.{Key}
-use Rattle.away_core.specs.declared.queries.Select.{Select}
-use Rattle.away_core.specs.declared.queries.Recursive.{Recursive}
-use Rattle.away_core.specs.declared.queries.Query.{Query}
-use Rattle.away_core.specs.declared.schemas.ColumnSchema.{ColumnSchema}
-use Rattle.away_core.specs.declared.schemas.TableSchema.{TableSchema}
-use Rattle.away_core.specs.Signs.{Sign, mark, name}
-use Rattle.away_core.specs.Grammar.{at, items, from_items, from_clause, where_clause, keys, order_clause, limit_clause, select, selects, query, names, recursive, file, column, columns, tables, Tree, StopsAt, may_join, perhaps, qualified, not_null, type_named}
+use Rattle.away_grammar.specs.declared.grammar.Mark.TheVariants as m
+use Rattle.away_grammar.specs.declared.grammar.Level.TheVariants as l
+use Rattle.away_values.specs.declared.types.Ty.{Ty}
+use Rattle.away_trees.specs.declared.queries.Expr.{Expr}
+use Rattle.away_trees.specs.declared.queries.Item.{Item}
+use Rattle.away_trees.specs.declared.queries.FromItem.{FromItem}
+use Rattle.away_trees.specs.declared.queries.Key.{Key}
+use Rattle.away_trees.specs.declared.queries.Select.{Select}
+use Rattle.away_trees.specs.declared.queries.Recursive.{Recursive}
+use Rattle.away_trees.specs.declared.queries.Query.{Query}
+use Rattle.away_trees.specs.declared.schemas.ColumnSchema.{ColumnSchema}
+use Rattle.away_trees.specs.declared.schemas.TableSchema.{TableSchema}
+use Rattle.away_grammar.specs.Signs.{Sign, mark, name}
+use Rattle.away_grammar.specs.Grammar.{at, items, from_items, from_clause, where_clause, keys, order_clause, limit_clause, select, selects, query, names, recursive, file, column, columns, tables, Tree, StopsAt, may_join, perhaps, qualified, not_null, type_named}
 use Rattle.sql_text.specs.Plans.{Plan, done, eat, expect, Begins, Runs, ends, eats, leaves, sees, misses, reads}
 use Rattle.sql_text.specs.Next.{name_in, type_in, is_with}
 use Rattle.sql_text.specs.Descent.{plan, select_with, query_with, recursive_with, parted, put_first, file_with}

@@ -1,9 +1,9 @@
 -- Steps of a run that a finding in the signs decides.
 use Rattle.std.proofs.Common.{◌≡◌, ℕ, Bool, true, false, List, ◌∷◌, Option, Some, None, sym, ap, subst}
 use Rattle.std.specs.Prelude.{if◌then◌else◌}
-use Rattle.away_core.specs.declared.grammar.Mark.{Mark}
-use Rattle.away_core.specs.Signs.{Sign, mark, name}
-use Rattle.away_core.specs.Grammar.{Sort, Tree, Stops}
+use Rattle.away_grammar.specs.declared.grammar.Mark.{Mark}
+use Rattle.away_grammar.specs.Signs.{Sign, mark, name}
+use Rattle.away_grammar.specs.Grammar.{Sort, Tree, Stops}
 use Rattle.sql_text.specs.Plans.{Plan, first, tail, Begins, with, want, perhaps_a, is_some, Runs, takes, sees, misses}
 use Rattle.sql_text.specs.Descent.{plan}
 

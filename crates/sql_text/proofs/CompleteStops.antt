@@ -1,14 +1,14 @@
 -- What can't continue a sort.
 use Rattle.std.proofs.Common.{◌≡◌, ℕ, ◌≤◌, ◌<◌, List, [], ◌∷◌, Option, Some, None, refl, subst, arith, lit≤, lit<}
-use Rattle.away_core.specs.declared.grammar.Mark.{Mark}
-use Rattle.away_core.specs.declared.grammar.Mark.TheVariants as m
-use Rattle.away_core.specs.declared.grammar.Level.{Level}
-use Rattle.away_core.specs.declared.grammar.Level.TheVariants as l
-use Rattle.away_core.specs.declared.operators.ChainOp.{ChainOp}
-use Rattle.away_core.specs.declared.operators.CmpOp.{CmpOp}
-use Rattle.away_core.specs.Signs.{Sign, mark, name, integer, string, parameter, quote}
-use Rattle.away_core.specs.Grammar as g
-use Rattle.away_core.specs.Grammar.{Sort, at, links, arms, from_clause, where_clause, order_clause, limit_clause, Tree, Reads, operands, rank, operator_of, comparison_of, mark_binds, binds, StopsAt}
+use Rattle.away_grammar.specs.declared.grammar.Mark.{Mark}
+use Rattle.away_grammar.specs.declared.grammar.Mark.TheVariants as m
+use Rattle.away_grammar.specs.declared.grammar.Level.{Level}
+use Rattle.away_grammar.specs.declared.grammar.Level.TheVariants as l
+use Rattle.away_values.specs.declared.operators.ChainOp.{ChainOp}
+use Rattle.away_values.specs.declared.operators.CmpOp.{CmpOp}
+use Rattle.away_grammar.specs.Signs.{Sign, mark, name, integer, string, parameter, quote}
+use Rattle.away_grammar.specs.Grammar as g
+use Rattle.away_grammar.specs.Grammar.{Sort, at, links, arms, from_clause, where_clause, order_clause, limit_clause, Tree, Reads, operands, rank, operator_of, comparison_of, mark_binds, binds, StopsAt}
 use Rattle.sql_text.specs.Plans.{Begins, first}
 use Rattle.sql_text.specs.Next.{operator_in, comparison_in, name_in}
 use Rattle.sql_text.proofs.Starts.{rank_operands}

@@ -1,13 +1,14 @@
 -- What has to hold so that a relation has what a plan gives. `plan_gives` shows that it is enough.
 use Rattle.std.proofs.Common.{◌≡◌, ℕ, Bool, true, false, if◌then◌else◌, List, [], ◌∷◌, Option, Some, None, refl, ap, subst}
-use Rattle.away_core.specs.declared.grammar.Mark.{Mark}
-use Rattle.away_core.specs.Signs.{Sign, mark, name, parameter}
-use Rattle.away_core.specs.declared.types.Ty.{Ty}
-use Rattle.away_core.specs.declared.grammar.Level.{Level}
-use Rattle.away_core.specs.declared.operators.ChainOp.{ChainOp}
-use Rattle.away_core.specs.declared.operators.CmpOp.{CmpOp}
-use Rattle.away_core.specs.declared.operators.IsTest.{IsTest}
-use Rattle.away_core.specs.Grammar.{type_named, operator_of, comparison_of, test_of}
+use Rattle.std.proofs.lemmas.Option.{same_Some}
+use Rattle.away_grammar.specs.declared.grammar.Mark.{Mark}
+use Rattle.away_grammar.specs.Signs.{Sign, mark, name, parameter}
+use Rattle.away_values.specs.declared.types.Ty.{Ty}
+use Rattle.away_grammar.specs.declared.grammar.Level.{Level}
+use Rattle.away_values.specs.declared.operators.ChainOp.{ChainOp}
+use Rattle.away_values.specs.declared.operators.CmpOp.{CmpOp}
+use Rattle.away_values.specs.declared.operators.IsTest.{IsTest}
+use Rattle.away_grammar.specs.Grammar.{type_named, operator_of, comparison_of, test_of}
 use Rattle.sql_text.specs.Next.{name_in, type_in, parameter_in, operator_in, comparison_in, test_in}
 use Rattle.sql_text.specs.Plans.{Plan, done, fail, take, eat, look, read, first, with, Runs, ends, fails, takes, eats, leaves, sees, misses, reads, breaks}
 
@@ -27,15 +28,12 @@ Nothing ts = Unit {0}
 abbrev pub here : (ts : List Sign) → Nothing ts → List Sign
 here ts k = ts
 
-pub some_same : {A : Type 0} {a b : A} → Some a ≡ Some b → a ≡ b
-some_same {a = a} e = ap (λ o. elim o [ None ↦ a | Some v ↦ v ]) e
-
 pub plan_gives : {S : Type 0} {T : S → Type 0} {plan : (n : S) → Plan T n} (D : (n : S) → List Sign → T n → List Sign → Type 0)
     → ((n : S) → Holds D n (plan n) Nothing here)
     → (n : S) {p : Plan T n} {ts : List Sign} {o : Option (T n × List Sign)} (x : T n) (rest : List Sign) → Runs T plan n p ts o → o ≡ Some (x, rest)
     → (Known : List Sign → Type 0) (begun : (ts : List Sign) → Known ts → List Sign) → Holds D n p Known begun → (k : Known ts) → D n (begun ts k) x rest
 plan_gives {T = T} D all n x rest (ends {x = y} {ts = ts}) e Known begun h k =
-    let pair : (y, ts) ≡ (x, rest) = some_same e in
+    let pair : (y, ts) ≡ (x, rest) = same_Some _ _ e in
     subst (λ (p : T n × List Sign). D n (begun ts k) p.0 p.1) pair (h ts k)
 plan_gives D all n x rest fails e Known begun h k = absurd (cc e)
 plan_gives D all n x rest (takes {ts = []} d) e Known begun h k = plan_gives D all n x rest d e (λ ts. (ts ≡ []) × Known ts) (λ ts k. begun ts k.1) h.0 (refl, k)

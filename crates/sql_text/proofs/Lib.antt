@@ -21,17 +21,3 @@ pub mod Marks
 pub mod Places
 pub mod Undoubled
 pub mod Cases
-pub mod PrintLevels
-pub mod PrintExpressions
-pub mod PrintQueries
-pub mod PrintBack
-pub mod PrintClear
-pub mod PrintClearQueries
-pub mod PrintSpoken
-pub mod PrintTokens
-pub mod PrintTexts
-pub mod Adding
-pub mod Doubled
-pub mod LaidOut
-pub mod PrintNodes
-pub mod TextSigns

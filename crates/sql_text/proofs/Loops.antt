@@ -1,22 +1,22 @@
 -- What a loop has read so far, and what is left of its plan.
-use Rattle.std.proofs.Common.{◌≡◌, List, [], ◌∷◌, ◌++◌, Option, Some, None, Result, Ok, Err, refl, sym, ap, subst, append_assoc, append-nil}
-use Rattle.away_core.specs.declared.operators.ChainOp.{ChainOp}
-use Rattle.away_core.specs.declared.grammar.Level.{Level}
-use Rattle.away_core.specs.declared.queries.Expr.{Expr}
-use Rattle.away_core.specs.declared.queries.Item.{Item}
-use Rattle.away_core.specs.declared.queries.FromItem.{FromItem}
-use Rattle.away_core.specs.declared.queries.Key.{Key}
-use Rattle.away_core.specs.declared.queries.Select.{Select}
-use Rattle.away_core.specs.declared.grammar.Level.TheVariants as l
-use Rattle.away_core.specs.declared.grammar.Mark.TheVariants as m
-use Rattle.away_core.specs.Signs.{Sign, mark}
-use Rattle.away_core.specs.Grammar.{at, links, list, arms, item, items, from_item, from_items, from_clause, key, keys, order_clause, select, selects, Tree, chained, operands}
+use Rattle.std.proofs.Common.{◌≡◌, false, List, [], ◌∷◌, ◌++◌, Option, Some, None, Result, Ok, Err, refl, sym, ap, subst, append_assoc, append-nil}
+use Rattle.away_values.specs.declared.operators.ChainOp.{ChainOp}
+use Rattle.away_grammar.specs.declared.grammar.Level.{Level}
+use Rattle.away_trees.specs.declared.queries.Expr.{Expr}
+use Rattle.away_trees.specs.declared.queries.Item.{Item}
+use Rattle.away_trees.specs.declared.queries.FromItem.{FromItem}
+use Rattle.away_trees.specs.declared.queries.Key.{Key}
+use Rattle.away_trees.specs.declared.queries.Select.{Select}
+use Rattle.away_grammar.specs.declared.grammar.Level.TheVariants as l
+use Rattle.away_grammar.specs.declared.grammar.Mark.TheVariants as m
+use Rattle.away_grammar.specs.Signs.{Sign, mark}
+use Rattle.away_grammar.specs.Grammar.{at, links, list, arms, item, items, from_item, from_items, from_clause, key, keys, order_clause, select, selects, Tree, chained, operands}
 use Rattle.sql_text.specs.declared.refusal.Refusal.{Refusal}
 use Rattle.sql_text.specs.declared.refusal.Refusal.TheVariants.{NoTree}
 use Rattle.sql_text.specs.Next.{operator_in}
 use Rattle.sql_text.specs.Plans.{Plan, done, read, eat, expect, with, is_some, first, tail, Begins, Runs, ends, fails, takes, eats, leaves, sees, misses, reads, breaks, Gives, tree, no_tree, no_memory}
-use Rattle.sql_text.proofs.Steps.{run_of, read_no}
-use Rattle.sql_text.specs.Descent.{plan, chain_plan}
+use Rattle.sql_text.proofs.Steps.{run_of, read_no, read_on}
+use Rattle.sql_text.specs.Descent.{plan, chain_plan, links_plan}
 
 -- these, behind those that were found
 abbrev pub behind : {A : Type 0} → List A → Option (List A × List Sign) → Option (List A × List Sign)
@@ -30,12 +30,8 @@ ListLeads old found now = (o : Option (List Expr × List Sign)) → Runs Tree pl
 abbrev pub ArmsLead : List Sign → List (Expr × Expr) → List Sign → Type 0
 ArmsLead old found now = (o : Option (List (Expr × Expr) × List Sign)) → Runs Tree plan arms (plan arms) now o → Runs Tree plan arms (plan arms) old (behind found o)
 
-abbrev pub chain_behind : Expr → List (ChainOp × Expr) → Option (List (ChainOp × Expr) × List Sign) → Option (Expr × List Sign)
-chain_behind x found None = None
-chain_behind x found (Some p) = Some (chained x (found ++ p.0), p.1)
-
-abbrev pub LinksLead : Level → List Sign → Expr → List (ChainOp × Expr) → List Sign → Type 0
-LinksLead level old x found now = (o : Option (List (ChainOp × Expr) × List Sign)) → Runs Tree plan (links level) (plan (links level)) now o → Runs Tree plan (at level) (chain_plan level) old (chain_behind x found o)
+abbrev pub LinksLead : Level → List Sign → List (ChainOp × Expr) → List Sign → Type 0
+LinksLead level old found now = (o : Option (List (ChainOp × Expr) × List Sign)) → Runs Tree plan (links level) (plan (links level)) now o → Runs Tree plan (links level) (plan (links level)) old (behind found o)
 
 -- ---- lists with commas
 
@@ -100,19 +96,23 @@ links_on : {level : Level} {x : ChainOp × Expr} {ts : List Sign} (o : Option (L
 links_on None d = breaks d
 links_on (Some p) d = reads d ends
 
-chain_both : (x : Expr) (found : List (ChainOp × Expr)) (link : ChainOp × Expr) (o : Option (List (ChainOp × Expr) × List Sign)) → chain_behind x found (behind (link ∷ []) o) ≡ chain_behind x (found ++ link ∷ []) o
-chain_both x found link None = refl
-chain_both x found link (Some p) = ap (λ xs. Some (chained x xs, p.1)) (sym (append_assoc found (link ∷ []) p.0))
-
 at_level : {a b : Level} {ts new : List Sign} {r : Result Expr Refusal} → a ≡ b → Gives Tree plan (at a) (plan (at a)) ts r new → Gives Tree plan (at b) (plan (at b)) ts r new
 at_level {ts = ts} {new = new} {r = r} e d = subst (λ a. Gives Tree plan (at a) (plan (at a)) ts r new) e d
 
 pub chain_fails : {level inner : Level} {ts middle new : List Sign} {e : Refusal} → inner ≡ operands level → Gives Tree plan (at inner) (plan (at inner)) ts (Err e) middle → Gives Tree plan (at level) (chain_plan level) ts (Err e) new
 chain_fails e d = read_no (at_level e d)
 
-pub links_begin : {level inner : Level} {old now : List Sign} {x : Expr} → inner ≡ operands level → Gives Tree plan (at inner) (plan (at inner)) old (Ok x) now → LinksLead level old x [] now
-links_begin e d None r = reads (run_of (at_level e d)) (breaks r)
-links_begin e d (Some p) r = reads (run_of (at_level e d)) (reads r ends)
+pub chain_alone : {level inner : Level} {ts new : List Sign} {x : Expr} → inner ≡ operands level → Gives Tree plan (at inner) (plan (at inner)) ts (Ok x) new → false ≡ is_some (operator_in level (first new))
+    → Gives Tree plan (at level) (chain_plan level) ts (Ok x) new
+chain_alone e d h = read_on (at_level e d) (tree (reads (misses (sym h) ends) ends))
+
+pub chain_on : {level inner : Level} {ts middle new : List Sign} {x : Expr} {r : Result Expr Refusal} → inner ≡ operands level → Gives Tree plan (at inner) (plan (at inner)) ts (Ok x) middle
+    → Gives Tree plan (at level) (read (links level) (λ xs. done (chained x xs))) middle r new → Gives Tree plan (at level) (chain_plan level) ts r new
+chain_on e d rest = read_on (at_level e d) rest
+
+pub links_begin : (level : Level) (old : List Sign) → LinksLead level old [] old
+links_begin level old None d = d
+links_begin level old (Some p) d = d
 
 link_runs : {level inner : Level} {now after new : List Sign} {o : ChainOp} {x : Expr} → Some o ≡ operator_in level (first now) → after ≡ tail now → inner ≡ operands level → Gives Tree plan (at inner) (plan (at inner)) after (Ok x) new
     → (given : Option (List (ChainOp × Expr) × List Sign)) → Runs Tree plan (links level) (plan (links level)) new given → Runs Tree plan (links level) (plan (links level)) now (behind ((o, x) ∷ []) given)
@@ -121,22 +121,22 @@ link_runs {level = level} {now = now} {new = new} {o = o} {x = x} f q e d given 
     (takes (subst (λ found. Runs Tree plan (links level) (with (λ o. read (at (operands level)) (λ x. read (links level) (λ xs. done ((o, x) ∷ xs)))) found) (tail now) (behind ((o, x) ∷ []) given)) f
     (reads (subst (λ ts. Runs Tree plan (at (operands level)) (plan (at (operands level))) ts (Some (x, new))) q (run_of (at_level e d))) (links_on given r))))
 
-pub links_more : {level inner : Level} {old now after new : List Sign} {x : Expr} {o : ChainOp} (first_one : Expr) (found : List (ChainOp × Expr)) → LinksLead level old first_one found now → Some o ≡ operator_in level (first now) → after ≡ tail now
-    → inner ≡ operands level → Gives Tree plan (at inner) (plan (at inner)) after (Ok x) new → LinksLead level old first_one (found ++ (o, x) ∷ []) new
-links_more {level = level} {old = old} {x = x} {o = o} first_one found b f q e d given r =
-    subst (λ o. Runs Tree plan (at level) (chain_plan level) old o) (chain_both first_one found (o, x) given) (b (behind ((o, x) ∷ []) given) (link_runs f q e d given r))
+pub links_more : {level inner : Level} {old now after new : List Sign} {x : Expr} {o : ChainOp} (found : List (ChainOp × Expr)) → LinksLead level old found now → Some o ≡ operator_in level (first now) → after ≡ tail now
+    → inner ≡ operands level → Gives Tree plan (at inner) (plan (at inner)) after (Ok x) new → LinksLead level old (found ++ (o, x) ∷ []) new
+links_more {level = level} {old = old} {x = x} {o = o} found b f q e d given r =
+    subst (λ o. Runs Tree plan (links level) (plan (links level)) old o) (behind_both found (o, x) given) (b (behind ((o, x) ∷ []) given) (link_runs f q e d given r))
 
-pub links_fail : {level inner : Level} {old now after new other : List Sign} {o : ChainOp} {e : Refusal} (first_one : Expr) (found : List (ChainOp × Expr)) → LinksLead level old first_one found now → Some o ≡ operator_in level (first now) → after ≡ tail now
-    → inner ≡ operands level → Gives Tree plan (at inner) (plan (at inner)) after (Err e) new → Gives Tree plan (at level) (chain_plan level) old (Err e) other
-links_fail first_one found b f q e no_memory = no_memory
-links_fail {level = level} {now = now} {after = after} first_one found b f q e (no_tree d) =
+pub links_fail : {level inner : Level} {old now after new other : List Sign} {o : ChainOp} {e : Refusal} (found : List (ChainOp × Expr)) → LinksLead level old found now → Some o ≡ operator_in level (first now) → after ≡ tail now
+    → inner ≡ operands level → Gives Tree plan (at inner) (plan (at inner)) after (Err e) new → Gives Tree plan (links level) (links_plan level) old (Err e) other
+links_fail found b f q e no_memory = no_memory
+links_fail {level = level} {now = now} {after = after} found b f q e (no_tree d) =
     no_tree (b None (sees (ap is_some (sym f)) (takes (subst (λ found. Runs Tree plan (links level) (with (λ o. read (at (operands level)) (λ x. read (links level) (λ xs. done ((o, x) ∷ xs)))) found) (tail now) None) f
     (breaks (subst (λ ts. Runs Tree plan (at (operands level)) (plan (at (operands level))) ts None) q (subst (λ a. Runs Tree plan (at a) (plan (at a)) after None) e d)))))))
 
-pub links_end : {level : Level} {old now new : List Sign} (first_one : Expr) (found : List (ChainOp × Expr)) → LinksLead level old first_one found now → None ≡ operator_in level (first now) → new ≡ now
-    → Gives Tree plan (at level) (chain_plan level) old (Ok (chained first_one found)) new
-links_end {level = level} {old = old} {now = now} {new = new} first_one found b f e =
-    subst (λ xs. Gives Tree plan (at level) (chain_plan level) old (Ok (chained first_one xs)) new) (append-nil found)
+pub links_end : {level : Level} {old now new : List Sign} {found : List (ChainOp × Expr)} → LinksLead level old found now → None ≡ operator_in level (first now) → new ≡ now
+    → Gives Tree plan (links level) (links_plan level) old (Ok found) new
+links_end {level = level} {old = old} {now = now} {new = new} {found = found} b f e =
+    subst (λ xs. Gives Tree plan (links level) (links_plan level) old (Ok xs) new) (append-nil found)
     (tree (b (Some ([], new)) (misses (ap is_some (sym f)) (subst (λ ts. Runs Tree plan (links level) (done []) now (Some ([], ts))) (sym e) ends))))
 
 -- ---- levels

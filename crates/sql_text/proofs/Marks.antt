@@ -1,8 +1,8 @@
 -- Searches over tables of texts and their marks, and the numbers that digits spell, one step further.
 use Rattle.std.proofs.Common.{◌≡◌, ◌≤◌, ℕ, zero, suc, ◌+◌, ◌*◌, ◌-◌, ◌<◌, Bool, true, false, List, [], ◌∷◌, length, get_or, drop, map, Some, sym, ap, ◌∙◌, arith, Bor}
-use Rattle.away_core.specs.declared.grammar.Mark.{Mark}
-use Rattle.away_core.specs.Signs.{first_mark}
-use Rattle.away_core.specs.Spellings.{number_from}
+use Rattle.away_grammar.specs.declared.grammar.Mark.{Mark}
+use Rattle.away_grammar.specs.Signs.{first_mark}
+use Rattle.away_grammar.specs.Spellings.{number_from}
 use Rattle.away_lex.proofs.Steps.{number_ge, at_cons}
 use Rattle.sql_text.specs.Said.{entry}
 

@@ -1,10 +1,10 @@
 -- Names, one behind the other or behind `public.`.
 use Rattle.std.proofs.Common.{◌≡◌, ℕ, Bool, true, false, if◌then◌else◌, List, [], ◌∷◌, ◌++◌, Option, Some, None, Result, Ok, Err, codes, bytes_eq, refl, sym, ap, subst, append_assoc}
 use Rattle.std.specs.Bool.{OnTrue, OnFalse}
-use Rattle.away_core.specs.declared.grammar.Mark.{Mark}
-use Rattle.away_core.specs.declared.grammar.Mark.TheVariants as m
-use Rattle.away_core.specs.Signs.{Sign, mark}
-use Rattle.away_core.specs.Grammar.{Sort, names, Tree}
+use Rattle.away_grammar.specs.declared.grammar.Mark.{Mark}
+use Rattle.away_grammar.specs.declared.grammar.Mark.TheVariants as m
+use Rattle.away_grammar.specs.Signs.{Sign, mark}
+use Rattle.away_grammar.specs.Grammar.{Sort, names, Tree}
 use Rattle.sql_text.specs.declared.refusal.Refusal.{Refusal}
 use Rattle.sql_text.specs.declared.refusal.Refusal.TheVariants.{NoTree, NoMemory}
 use Rattle.sql_text.specs.Next.{name_in}

@@ -1,13 +1,14 @@
 -- What a plan gave is what the text reads as, and no text reads as two trees.
 use Rattle.std.proofs.Common.{◌≡◌, ◌≤◌, ℕ, ◌+◌, ◌-◌, List, [], ◌∷◌, ◌++◌, length, drop, Option, Some, None, Ok, Err, refl, sym, ◌∙◌, ap, subst, arith, append_assoc}
+use Rattle.std.proofs.lemmas.Option.{same_Some}
 use Rattle.std.proofs.lemmas.List.{drop-drop, drop-map, length-map, length-append, length-drop}
 use Rattle.std.proofs.Math.Seq.{drop-append_seam}
-use Rattle.away_core.specs.declared.grammar.Level.TheVariants as l
-use Rattle.away_core.specs.declared.queries.Expr.{Expr}
-use Rattle.away_core.specs.Grammar.{Sort, at, Tree, Reads, Stops}
-use Rattle.away_core.specs.Signs.{Sign, says, all_say}
-use Rattle.away_core.specs.Texts.{IsExpression}
-use Rattle.away_core.specs.Tokens.{Lexeme, Lexes}
+use Rattle.away_grammar.specs.declared.grammar.Level.TheVariants as l
+use Rattle.away_trees.specs.declared.queries.Expr.{Expr}
+use Rattle.away_grammar.specs.Grammar.{Sort, at, Tree, Reads, Stops}
+use Rattle.away_grammar.specs.Signs.{Sign, says, all_say}
+use Rattle.away_grammar.specs.Texts.{IsExpression}
+use Rattle.away_grammar.specs.Tokens.{Lexeme, Lexes}
 use Rattle.away_lex.proofs.Reading.{one_list}
 use Rattle.sql_text.specs.declared.refusal.Refusal.TheVariants.{NoTree}
 use Rattle.sql_text.specs.Descent.{plan}
@@ -18,9 +19,6 @@ use Rattle.sql_text.proofs.Sound.{sound}
 use Rattle.sql_text.proofs.Steps.{run_of}
 
 -- ---- what is left
-
-some_same : {A : Type 0} {a b : A} → Some a ≡ Some b → a ≡ b
-some_same {a = a} e = ap (λ o. elim o [ None ↦ a | Some v ↦ v ]) e
 
 -- what a plan leaves is the end of the signs
 abbrev Leaves : {A : Type 0} → Option (A × List Sign) → List Sign → Type 0
@@ -52,7 +50,7 @@ leaves_end (breaks c) = tt
 -- signs read as one tree where it stops, and nothing else is given
 pub one_given : {n : Sort} {ts rest other : List Sign} {x y : Tree n} → Runs Tree plan n (plan n) ts (Some (x, rest)) → Reads n ts y other → Stops n other → (y ≡ x) × (other ≡ rest)
 one_given d r s =
-    let same = some_same (one d (complete r s)) in
+    let same = same_Some _ _ (one d (complete r s)) in
     (ap (λ p. p.0) same, ap (λ p. p.1) same)
 
 -- all of the signs read as what is given where nothing is left

@@ -1,43 +1,52 @@
--- What the tokens from a place on say, and that each is spelled.
-use Rattle.std.proofs.Common.{◌≡◌, ℕ, zero, suc, ◌+◌, ◌<◌, ◌≤◌, List, [], ◌∷◌, length, get_or, drop, map, Some, refl, arith}
-use Rattle.away_core.specs.declared.grammar.Mark.{Mark}
-use Rattle.away_core.specs.Signs.{Sign, mark, says, all_say}
-use Rattle.away_core.specs.Spellings.{Spells}
-use Rattle.away_core.specs.Tokens.{AreSpelled}
+-- What the signs from a place on are, and that each token of a list is spelled.
+use Rattle.std.proofs.Common.{◌≡◌, ℕ, zero, suc, ◌+◌, ◌<◌, ◌≤◌, List, [], ◌∷◌, ◌++◌, length, get_or, drop, map, Some, refl, sym, ap, ◌∙◌, arith}
+use Rattle.away_grammar.specs.declared.grammar.Mark.{Mark}
+use Rattle.away_grammar.specs.Signs.{Sign, mark, says, all_say}
+use Rattle.away_grammar.specs.Spellings.{Spells}
+use Rattle.away_grammar.specs.Tokens.{AreSpelled}
 use Rattle.away_lex.specs.Lexed.{seen}
-use Rattle.away_lex.specs.declared.kind.Token as declared
+use Rattle.away_lex.specs.declared.slices.Token as declared
 use Rattle.sql_text.specs.Plans.{first, tail, Begins}
+use Rattle.sql_text.specs.Said.{said}
+use Rattle.sql_text.specs.declared.signs.Sign as code
 
-pub said_on : (l : List declared.Token) (at : ℕ) → at < length l → all_say (map seen (drop (at + 1) l)) ≡ tail (all_say (map seen (drop at l)))
+pub said_on : (l : List code.Sign) (at : ℕ) → at < length l → map said (drop (at + 1) l) ≡ tail (map said (drop at l))
 said_on [] at lt = absurd (omega arith)
 said_on (t ∷ l) zero lt = refl
 said_on (t ∷ l) (suc at) lt = let n : suc at + 1 ≡ suc (at + 1) = omega arith in rw n (said_on l at (omega arith))
 
-pub said_next_at : (l : List declared.Token) (at : ℕ) (none : declared.Token) → at < length l → Some (says (seen (get_or l at none))) ≡ first (all_say (map seen (drop at l)))
-said_next_at [] at none lt = absurd (omega arith)
-said_next_at (t ∷ l) zero none lt = refl
-said_next_at (t ∷ l) (suc at) none lt = said_next_at l at none (omega arith)
-
-pub said_end : (l : List declared.Token) (at : ℕ) → length l ≤ at → all_say (map seen (drop at l)) ≡ []
-said_end [] zero le = refl
-said_end [] (suc at) le = refl
-said_end (t ∷ l) zero le = absurd (omega arith)
-said_end (t ∷ l) (suc at) le = said_end l at (omega arith)
+pub said_first : (l : List code.Sign) (at : ℕ) (none : code.Sign) → at < length l → Some (said (get_or l at none)) ≡ first (map said (drop at l))
+said_first [] at none lt = absurd (omega arith)
+said_first (t ∷ l) zero none lt = refl
+said_first (t ∷ l) (suc at) none lt = said_first l at none (omega arith)
 
 pub spelled_at : (l : List declared.Token) (at : ℕ) (none : declared.Token) → AreSpelled (map seen l) → at < length l → Spells (get_or l at none).kind (get_or l at none).text.now
 spelled_at [] at none are lt = absurd (omega arith)
 spelled_at (t ∷ l) zero none are lt = are.0
 spelled_at (t ∷ l) (suc at) none are lt = spelled_at l at none are.1 (omega arith)
 
--- ---- what is left is shorter
+pub spelled_from : (l : List declared.Token) (at : ℕ) → AreSpelled (map seen l) → AreSpelled (map seen (drop at l))
+spelled_from l zero are = are
+spelled_from [] (suc at) are = are
+spelled_from (t ∷ l) (suc at) are = spelled_from l at are.1
 
-pub tail_shrinks : (ts : List Sign) → length (tail ts) ≤ length ts
-tail_shrinks [] = omega arith
-tail_shrinks (s ∷ ts) = omega arith
+-- ---- the sign of one token more
 
-pub tail_shorter : (ts : List Sign) (s : Sign) → Some s ≡ first ts → length (tail ts) < length ts
-tail_shorter [] s e = absurd (cc)
-tail_shorter (t ∷ ts) s e = omega arith
+says_at : (l : List declared.Token) (at : ℕ) (none : declared.Token) → at < length l → all_say (map seen (drop at l)) ≡ says (seen (get_or l at none)) ∷ all_say (map seen (drop (at + 1) l))
+says_at [] at none lt = absurd (omega arith)
+says_at (t ∷ l) zero none lt = refl
+says_at (t ∷ l) (suc at) none lt = let n : suc at + 1 ≡ suc (at + 1) = omega arith in rw n (says_at l at none (omega arith))
+
+said_behind : (signs : List code.Sign) (s : code.Sign) (rest : List Sign) → map said (signs ++ s ∷ []) ++ rest ≡ map said signs ++ said s ∷ rest
+said_behind [] s rest = refl
+said_behind (first ∷ signs) s rest = ap (λ l. said first ∷ l) (said_behind signs s rest)
+
+pub signs_more : (signs : List code.Sign) (s : code.Sign) (l : List declared.Token) (at : ℕ) (none : declared.Token) (all : List Sign) → at < length l → said s ≡ says (seen (get_or l at none))
+    → map said signs ++ all_say (map seen (drop at l)) ≡ all → map said (signs ++ s ∷ []) ++ all_say (map seen (drop (at + 1) l)) ≡ all
+signs_more signs s l at none all lt is h =
+    said_behind signs s (all_say (map seen (drop (at + 1) l)))
+    ∙ ap (λ rest. map said signs ++ rest) (ap (λ first. first ∷ all_say (map seen (drop (at + 1) l))) is ∙ sym (says_at l at none lt))
+    ∙ h
 
 pub begins_first : (ts : List Sign) (m : Mark) → Some (mark m) ≡ first ts → Begins ts m
 begins_first [] m e = absurd (cc)

@@ -1,6 +1,7 @@
 -- What a plan gives is one thing.
 use Rattle.std.proofs.Common.{◌≡◌, true, false, List, ◌∷◌, ◌⊎◌, inl, inr, Option, Some, None, refl, ap, subst}
-use Rattle.away_core.specs.Signs.{Sign, mark}
+use Rattle.std.proofs.lemmas.Option.{same_Some}
+use Rattle.away_grammar.specs.Signs.{Sign, mark}
 use Rattle.sql_text.specs.Plans.{Plan, done, fail, take, eat, look, read, first, tail, Begins, Runs, ends, fails, takes, eats, leaves, sees, misses, reads, breaks}
 
 abbrev pub Inside : {S : Type 0} (T : S → Type 0) (plan : (n : S) → Plan T n) (n : S) → Plan T n → List Sign → Option (T n × List Sign) → Type 0
@@ -22,9 +23,6 @@ inside (misses h d) = inr (h, d)
 inside (reads {middle = middle} {x = x} c d) = inl (x, middle, c, d)
 inside (breaks c) = inr (c, refl)
 
-some_same : {A : Type 0} {a b : A} → Some a ≡ Some b → a ≡ b
-some_same {a = a} e = ap (λ o. elim o [ None ↦ a | Some v ↦ v ]) e
-
 pub one : {S : Type 0} {T : S → Type 0} {plan : (n : S) → Plan T n} {n : S} {p : Plan T n} {ts : List Sign} {a b : Option (T n × List Sign)} → Runs T plan n p ts a → Runs T plan n p ts b → b ≡ a
 one ends w = inside w
 one fails w = inside w
@@ -37,7 +35,7 @@ one {T = T} {plan = plan} (reads {n = n} {s = s} {f = f} {middle = middle} {x = 
     elim (inside w) [
       | inl v ↦ (
           let same : Some (v.0, v.1) ≡ Some (x, middle) = one c v.2 in
-          let pair : (v.0, v.1) ≡ (x, middle) = some_same same in
+          let pair : (v.0, v.1) ≡ (x, middle) = same_Some _ _ same in
           let first_same : v.0 ≡ x = ap (λ p. p.0) pair in
           let rest_same : v.1 ≡ middle = ap (λ p. p.1) pair in
           one d (subst (λ r. Runs T plan n (f x) r _) rest_same (subst (λ y. Runs T plan n (f y) v.1 _) first_same v.3)))

@@ -1,8 +1,8 @@
 -- What the plan of a sort gives, the grammar reads.
 use Rattle.std.proofs.Common.{List, Some, refl}
-use Rattle.away_core.specs.Signs.{Sign}
-use Rattle.away_core.specs.declared.grammar.Level.TheVariants as l
-use Rattle.away_core.specs.Grammar.{Sort, at, links, list, arms, item, items, from_item, from_items, from_clause, where_clause, key, keys, order_clause, limit_clause, select, selects, query, names, recursive, file, column, columns, tables, Tree, Reads}
+use Rattle.away_grammar.specs.Signs.{Sign}
+use Rattle.away_grammar.specs.declared.grammar.Level.TheVariants as l
+use Rattle.away_grammar.specs.Grammar.{Sort, at, links, list, arms, item, items, from_item, from_items, from_clause, where_clause, key, keys, order_clause, limit_clause, select, selects, query, names, recursive, file, column, columns, tables, Tree, Reads}
 use Rattle.sql_text.specs.Plans.{Runs}
 use Rattle.sql_text.specs.Descent.{plan}
 use Rattle.sql_text.proofs.SoundExpressions.{chain_holds, links_hold, not_holds, is_holds, compare_holds, range_holds, sign_holds, cast_holds, primary_holds, list_holds, arms_hold}

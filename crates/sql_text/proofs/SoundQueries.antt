@@ -1,15 +1,16 @@
 -- What the plans of queries and schemas give, the grammar reads.
 use Rattle.std.proofs.Common.{◌≡◌, ℕ, Bool, true, false, List, [], ◌∷◌, ◌++◌, Option, Some, None, refl, sym, ap, subst, codes, bytes_eq}
+use Rattle.std.proofs.lemmas.Option.{same_Some}
 use Rattle.std.proofs.lemmas.Slice.Eq.{bytes_eq-Decides}
-use Rattle.away_core.specs.declared.grammar.Mark.TheVariants as m
-use Rattle.away_core.specs.declared.queries.Source.TheVariants as source
-use Rattle.away_core.specs.declared.queries.Select.{Select}
-use Rattle.away_core.specs.declared.queries.Query.{Query}
-use Rattle.away_core.specs.Signs.{Sign, mark, name}
-use Rattle.away_core.specs.Grammar.{Sort, item, items, from_item, from_items, from_clause, where_clause, key, keys, order_clause, limit_clause, select, selects, query, names, recursive, file, column, columns, tables, Tree, is_number, may_join, perhaps, qualified, Reads, item_alone, item_as, last_item, another_item, table_alone, table_as, sub_alone, sub_columns, last_from, another_from, last_name, another_name, key_alone, ascending, descending, last_key, another_key, no_from, from, no_where, where_of, no_order, order_by, no_limit, limit_of, select_of, last_select, another_select, query_of, recursive_of, plain_file, with_file, column_of, last_column, another_column, no_table, table}
+use Rattle.away_grammar.specs.declared.grammar.Mark.TheVariants as m
+use Rattle.away_trees.specs.declared.queries.Source.TheVariants as source
+use Rattle.away_trees.specs.declared.queries.Select.{Select}
+use Rattle.away_trees.specs.declared.queries.Query.{Query}
+use Rattle.away_grammar.specs.Signs.{Sign, mark, name}
+use Rattle.away_grammar.specs.Grammar.{Sort, item, items, from_item, from_items, from_clause, where_clause, key, keys, order_clause, limit_clause, select, selects, query, names, recursive, file, column, columns, tables, Tree, is_number, may_join, perhaps, qualified, Reads, item_alone, item_as, last_item, another_item, table_alone, table_as, sub_alone, sub_columns, last_from, another_from, last_name, another_name, key_alone, ascending, descending, last_key, another_key, no_from, from, no_where, where_of, no_order, order_by, no_limit, limit_of, select_of, last_select, another_select, query_of, recursive_of, plain_file, with_file, column_of, last_column, another_column, no_table, table}
 use Rattle.sql_text.specs.Plans.{Plan}
 use Rattle.sql_text.specs.Descent.{a_name, qualified_name, item_plan, items_plan, table_plan, columns_plan, sub_plan, from_item_plan, from_items_plan, from_clause_plan, where_plan, key_plan, keys_plan, order_plan, limit_plan, select_plan, selects_plan, query_plan, names_plan, put_first, parted, recursive_with, recursive_plan, file_plan, column_plan, table_columns_plan, tables_plan}
-use Rattle.sql_text.proofs.Holds.{Holds, Nothing, here, some_same, if_holds, with_holds, name_taken, type_taken}
+use Rattle.sql_text.proofs.Holds.{Holds, Nothing, here, if_holds, with_holds, name_taken, type_taken}
 
 pub item_holds : Holds Reads item item_plan Nothing here
 item_holds x = ((tt, name_taken Reads _ _ _ (λ n ts k. item_as k.2)), λ ts k. item_alone k.2)
@@ -107,11 +108,11 @@ Parts ss p = (s : Select) × (more : List Select) × (ss ≡ s ∷ (more ++ p.1 
 put_parts : (s t : Select) (ss : List Select) (o : Option (List Select × Select)) (p : List Select × Select) → parted (t ∷ ss) ≡ o → ((r : List Select × Select) → o ≡ Some r → Parts (t ∷ ss) r) → put_first s o t ≡ Some p → Parts (s ∷ t ∷ ss) p
 put_parts s t ss None p is inner e =
     let none : ss ≡ [] = alone t ss is in
-    let same : (s ∷ [], t) ≡ p = some_same e in
+    let same : (s ∷ [], t) ≡ p = same_Some _ _ e in
     subst (Parts (s ∷ t ∷ ss)) same (s, [], ap (λ rest. s ∷ t ∷ rest) none, refl)
 put_parts s t ss (Some r) p is inner e =
     let parts : Parts (t ∷ ss) r = inner r refl in
-    let same : (s ∷ r.0, r.1) ≡ p = some_same e in
+    let same : (s ∷ r.0, r.1) ≡ p = same_Some _ _ e in
     let all : t ∷ ss ≡ r.0 ++ r.1 ∷ [] = subst (λ front. t ∷ ss ≡ front ++ r.1 ∷ []) (sym parts.3) parts.2 in
     subst (Parts (s ∷ t ∷ ss)) same (s, r.0, ap (λ rest. s ∷ rest) all, refl)
 

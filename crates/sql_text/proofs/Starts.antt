@@ -2,14 +2,14 @@
 use Rattle.std.proofs.Common.{◌≡◌, ℕ, ◌≤◌, ◌<◌, ◌^◌, true, false, List, ◌∷◌, Some, refl, sym, subst, arith, lit≤}
 use Rattle.std.specs.Prelude.{if◌then◌else◌, nat_lt}
 use Rattle.std.proofs.lemmas.Bool.Decides.{nat_tests}
-use Rattle.away_core.specs.declared.grammar.Mark.{Mark}
-use Rattle.away_core.specs.declared.grammar.Mark.TheVariants as m
-use Rattle.away_core.specs.declared.grammar.Level.{Level}
-use Rattle.away_core.specs.declared.grammar.Level.TheVariants as l
-use Rattle.away_core.specs.declared.queries.Expr.{Expr}
-use Rattle.away_core.specs.Signs.{Sign, mark, name, integer, string, parameter, quote}
-use Rattle.away_core.specs.Grammar as g
-use Rattle.away_core.specs.Grammar.{Sort, at, list, item, items, key, keys, select, selects, query, recursive, Tree, Reads, operands, rank, literal_of, called}
+use Rattle.away_grammar.specs.declared.grammar.Mark.{Mark}
+use Rattle.away_grammar.specs.declared.grammar.Mark.TheVariants as m
+use Rattle.away_grammar.specs.declared.grammar.Level.{Level}
+use Rattle.away_grammar.specs.declared.grammar.Level.TheVariants as l
+use Rattle.away_trees.specs.declared.queries.Expr.{Expr}
+use Rattle.away_grammar.specs.Signs.{Sign, mark, name, integer, string, parameter, quote}
+use Rattle.away_grammar.specs.Grammar as g
+use Rattle.away_grammar.specs.Grammar.{Sort, at, list, item, items, key, keys, select, selects, query, recursive, Tree, Reads, operands, rank, literal_of, called}
 use Rattle.sql_text.specs.Plans.{Begins}
 use Rattle.sql_text.specs.Next.{is_typed_parameter}
 

@@ -1,9 +1,9 @@
 -- One step of a plan each.
 use Rattle.std.proofs.Common.{◌≡◌, Bool, true, false, List, ◌∷◌, Option, Some, None, Result, Ok, Err, sym, ap, subst}
-use Rattle.away_core.specs.declared.grammar.Mark.{Mark}
+use Rattle.away_grammar.specs.declared.grammar.Mark.{Mark}
 use Rattle.sql_text.specs.declared.refusal.Refusal.{Refusal}
 use Rattle.sql_text.specs.declared.refusal.Refusal.TheVariants.{NoTree, NoMemory}
-use Rattle.away_core.specs.Signs.{Sign, mark}
+use Rattle.away_grammar.specs.Signs.{Sign, mark}
 use Rattle.sql_text.specs.Said.{Found}
 use Rattle.sql_text.specs.Plans.{Plan, done, fail, take, eat, look, read, first, tail, Begins, with, want, perhaps_a, expect, is_some, Runs, ends, fails, takes, eats, leaves, sees, misses, reads, breaks, Gives, tree, no_tree, no_memory}
 

@@ -6,9 +6,9 @@ use Rattle.std.proofs.lemmas.Bool.{cases_Bool}
 use Rattle.std.proofs.lemmas.Bool.Decides.{nat_tests}
 use Rattle.std.specs.Str.Pattern.{FindsText, LacksTextAt}
 use Rattle.std.specs.Str.Replace.{ReplacesMatches}
-use Rattle.away_core.specs.Signs.{undoubled, between_quotes}
+use Rattle.away_grammar.specs.Signs.{undoubled, between_quotes}
 use Rattle.away_lex.proofs.Alone.{undoubled-doubled}
-use Rattle.away_core.specs.Spellings.{doubled, quoted}
+use Rattle.away_grammar.specs.Spellings.{doubled, quoted}
 
 abbrev pub pair : List ℕ
 pair = 39 ∷ 39 ∷ []

@@ -1,23 +1,23 @@
 -- How the reader of expressions, queries and schemas descends: by what stands next, and never back.
 use Rattle.std.specs.Prelude.{ℕ, ◌^◌, ◌-◌, pos, negsuc, nat_lt, Bool, true, false, if◌then◌else◌, List, [], ◌∷◌, Option, Some, None, codes, bytes_eq}
-use Rattle.away_core.specs.declared.grammar.Mark.{Mark}
-use Rattle.away_core.specs.declared.grammar.Mark.TheVariants as m
-use Rattle.away_core.specs.declared.grammar.Level.{Level}
-use Rattle.away_core.specs.declared.grammar.Level.TheVariants as l
-use Rattle.away_core.specs.declared.types.Ty.{Ty}
-use Rattle.away_core.specs.declared.queries.Expr.{Expr}
-use Rattle.away_core.specs.declared.queries.Expr.TheVariants as e
-use Rattle.away_core.specs.declared.queries.Source.{Source}
-use Rattle.away_core.specs.declared.queries.Source.TheVariants as source
-use Rattle.away_core.specs.declared.queries.Item.{Item}
-use Rattle.away_core.specs.declared.queries.FromItem.{FromItem}
-use Rattle.away_core.specs.declared.queries.Key.{Key}
-use Rattle.away_core.specs.declared.queries.Select.{Select}
-use Rattle.away_core.specs.declared.queries.Recursive.{Recursive}
-use Rattle.away_core.specs.declared.queries.Query.{Query}
-use Rattle.away_core.specs.declared.queries.Expr.TheViews.{roll-Item, roll-FromItem, roll-Key, roll-Select, roll-Recursive, roll-Query}
-use Rattle.away_core.specs.Signs.{Sign, mark, name, integer, string, parameter}
-use Rattle.away_core.specs.Grammar.{Sort, at, links, list, arms, item, items, from_item, from_items, from_clause, where_clause, key, keys, order_clause, limit_clause, select, selects, query, names, recursive, file, column, columns, tables, Tree, literal_of, called, operands, chained, is_number, may_join}
+use Rattle.away_grammar.specs.declared.grammar.Mark.{Mark}
+use Rattle.away_grammar.specs.declared.grammar.Mark.TheVariants as m
+use Rattle.away_grammar.specs.declared.grammar.Level.{Level}
+use Rattle.away_grammar.specs.declared.grammar.Level.TheVariants as l
+use Rattle.away_values.specs.declared.types.Ty.{Ty}
+use Rattle.away_trees.specs.declared.queries.Expr.{Expr}
+use Rattle.away_trees.specs.declared.queries.Expr.TheVariants as e
+use Rattle.away_trees.specs.declared.queries.Source.{Source}
+use Rattle.away_trees.specs.declared.queries.Source.TheVariants as source
+use Rattle.away_trees.specs.declared.queries.Item.{Item}
+use Rattle.away_trees.specs.declared.queries.FromItem.{FromItem}
+use Rattle.away_trees.specs.declared.queries.Key.{Key}
+use Rattle.away_trees.specs.declared.queries.Select.{Select}
+use Rattle.away_trees.specs.declared.queries.Recursive.{Recursive}
+use Rattle.away_trees.specs.declared.queries.Query.{Query}
+use Rattle.away_trees.specs.declared.queries.Expr.TheViews.{roll-Item, roll-FromItem, roll-Key, roll-Select, roll-Recursive, roll-Query}
+use Rattle.away_grammar.specs.Signs.{Sign, mark, name, integer, string, parameter}
+use Rattle.away_grammar.specs.Grammar.{Sort, at, links, list, arms, item, items, from_item, from_items, from_clause, where_clause, key, keys, order_clause, limit_clause, select, selects, query, names, recursive, file, column, columns, tables, Tree, literal_of, called, operands, chained, is_number, may_join}
 use Rattle.sql_text.specs.Plans.{Plan, done, fail, take, eat, look, read, with, want, perhaps_a, expect}
 use Rattle.sql_text.specs.Next.{operator_in, comparison_in, test_in, name_in, type_in, parameter_in, is_least, is_select, is_with, is_typed_parameter}
 
@@ -42,8 +42,12 @@ not_plan = eat m.Not (read (at l.Is) (λ x. done (e.Not x))) (read (at l.Is) (λ
 abbrev pub test_plan : Expr → Bool → Plan Tree (at l.Is)
 test_plan x n = want test_in (λ t. done (e.Is x t n))
 
+-- behind IS
+abbrev pub tested_plan : Expr → Plan Tree (at l.Is)
+tested_plan x = eat m.Not (test_plan x true) (test_plan x false)
+
 abbrev pub is_plan : Plan Tree (at l.Is)
-is_plan = read (at l.Compare) (λ x. eat m.Is (eat m.Not (test_plan x true) (test_plan x false)) (done x))
+is_plan = read (at l.Compare) (λ x. eat m.Is (tested_plan x) (done x))
 
 abbrev pub compare_plan : Plan Tree (at l.Compare)
 compare_plan = read (at l.Range) (λ x. perhaps_a comparison_in (λ o. read (at l.Range) (λ y. done (e.Compare o x y))) (done x))
@@ -72,8 +76,12 @@ sign_plan =
     (look is_least (take (λ s. done (e.Int (negsuc (2 ^ 63 - 1))))) (read (at l.Cast) (λ x. done (e.Neg x))))
     (read (at l.Cast) (λ x. done x))
 
+-- behind `::`
+abbrev pub types_plan : Expr → Plan Tree (at l.Cast)
+types_plan x = a_type (λ t. eat m.Colons (a_type (λ u. done (e.Cast (e.Cast x t) u))) (done (e.Cast x t)))
+
 abbrev pub cast_plan : Plan Tree (at l.Cast)
-cast_plan = read (at l.Primary) (λ x. eat m.Colons (a_type (λ t. eat m.Colons (a_type (λ u. done (e.Cast (e.Cast x t) u))) (done (e.Cast x t)))) (done x))
+cast_plan = read (at l.Primary) (λ x. eat m.Colons (types_plan x) (done x))
 
 -- behind a name, `(` and `*`
 abbrev pub rows_plan : List ℕ → Plan Tree (at l.Primary)
@@ -263,11 +271,12 @@ recursive_plan =
 abbrev pub file_with : Query → Plan Tree file
 file_with q = eat m.Semicolon (done q) (done q)
 
+-- a query behind WITH RECURSIVE
+abbrev pub recursive_file_plan : Plan Tree file
+recursive_file_plan = read recursive (λ r. read selects (λ ss. if may_join ss then file_with (query_with (Some r) ss) else fail))
+
 abbrev pub file_plan : Plan Tree file
-file_plan =
-    look is_with
-    (read recursive (λ r. read selects (λ ss. if may_join ss then file_with (query_with (Some r) ss) else fail)))
-    (read query file_with)
+file_plan = look is_with recursive_file_plan (read query file_with)
 
 -- ---- schemas
 

@@ -1,13 +1,13 @@
 -- What stands next, by its kind.
 use Rattle.std.specs.Prelude.{ℕ, ◌^◌, Bool, true, false, ◌==◌, List, ◌∷◌, Option, Some, None}
-use Rattle.away_core.specs.declared.grammar.Mark.TheVariants as m
-use Rattle.away_core.specs.declared.grammar.Level.{Level}
-use Rattle.away_core.specs.declared.types.Ty.{Ty}
-use Rattle.away_core.specs.declared.operators.ChainOp.{ChainOp}
-use Rattle.away_core.specs.declared.operators.CmpOp.{CmpOp}
-use Rattle.away_core.specs.declared.operators.IsTest.{IsTest}
-use Rattle.away_core.specs.Signs.{Sign, mark, name, integer, parameter}
-use Rattle.away_core.specs.Grammar.{operator_of, comparison_of, test_of, type_named}
+use Rattle.away_grammar.specs.declared.grammar.Mark.TheVariants as m
+use Rattle.away_grammar.specs.declared.grammar.Level.{Level}
+use Rattle.away_values.specs.declared.types.Ty.{Ty}
+use Rattle.away_values.specs.declared.operators.ChainOp.{ChainOp}
+use Rattle.away_values.specs.declared.operators.CmpOp.{CmpOp}
+use Rattle.away_values.specs.declared.operators.IsTest.{IsTest}
+use Rattle.away_grammar.specs.Signs.{Sign, mark, name, integer, parameter}
+use Rattle.away_grammar.specs.Grammar.{operator_of, comparison_of, test_of, type_named}
 
 abbrev pub operator_in : Level → Option Sign → Option ChainOp
 operator_in level (Some (mark sign)) = operator_of level sign

@@ -1,7 +1,7 @@
 -- A name that may stand behind `public.`.
 use Rattle.std.specs.Prelude.{ℕ, List, Option, None, Result, Ok, Err}
-use Rattle.away_core.specs.Signs.{Sign}
-use Rattle.away_core.specs.Grammar.{Sort, Tree}
+use Rattle.away_grammar.specs.Signs.{Sign}
+use Rattle.away_grammar.specs.Grammar.{Sort, Tree}
 use Rattle.sql_text.specs.Plans.{Plan, Runs}
 use Rattle.sql_text.specs.Descent.{plan, qualified_name}
 use Rattle.sql_text.specs.declared.refusal.Refusal.{Refusal}

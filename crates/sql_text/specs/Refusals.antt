@@ -1,12 +1,13 @@
 -- When the public readers give a tree, and what each of their refusals says.
 use Rattle.std.specs.Prelude.{◌≡◌, ◌≤◌, ◌<◌, ℕ, List, Some, None}
-use Rattle.away_core.specs.declared.queries.Expr.{Expr}
-use Rattle.away_core.specs.Tokens.{Lexeme, Lexes}
-use Rattle.away_core.specs.Nesting.{IsNesting}
-use Rattle.away_core.specs.Texts.{IsText, IsExpression}
-use Rattle.away_lex.specs.declared.kind.LimitKind.TheVariants as limit
-use Rattle.away_lex.specs.declared.kind.ReadRefusal.{ReadRefusal}
-use Rattle.away_lex.specs.declared.kind.ReadRefusal.TheVariants.{NotText, Token, NoTree, Outside, Limit, NoMemory}
+use Rattle.away_trees.specs.declared.queries.Expr.{Expr}
+use Rattle.away_grammar.specs.Signs.{Sign, all_say}
+use Rattle.away_grammar.specs.Tokens.{Lexeme, Lexes}
+use Rattle.away_grammar.specs.Nesting.{IsNesting}
+use Rattle.away_grammar.specs.Texts.{IsText, IsExpression}
+use Rattle.away_lex.specs.declared.refusals.LimitKind.TheVariants as limit
+use Rattle.away_lex.specs.declared.refusals.ReadRefusal.{ReadRefusal}
+use Rattle.away_lex.specs.declared.refusals.ReadRefusal.TheVariants.{NotText, Token, NoTree, Outside, Limit, NoMemory}
 
 -- the greatest nesting of tokens that is read
 abbrev pub most_nesting : ℕ
@@ -21,6 +22,12 @@ pub record HasTokens (bytes : List ℕ) (tokens : List Lexeme) (nesting : ℕ) :
 -- The bytes are a text with these tokens and no bad one, and they nest no deeper than is read.
 abbrev pub HasFewTokens : List ℕ → List Lexeme → Type 0
 HasFewTokens bytes tokens = (nesting : ℕ) × HasTokens bytes tokens nesting × (nesting ≤ most_nesting)
+
+-- These are what the tokens say of bytes that are a text with no bad token and nest no deeper than is read.
+pub record HasSigns (bytes : List ℕ) (signs : List Sign) : Type 0 where
+  pub tokens : List Lexeme
+  pub few : HasFewTokens bytes tokens
+  pub says : signs ≡ all_say tokens
 
 -- The bytes are a text without a bad token whose tokens nest no deeper than is read.
 abbrev pub MayBeRead : List ℕ → Type 0

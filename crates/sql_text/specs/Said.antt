@@ -1,12 +1,13 @@
 -- What the code's signs and cursors say.
 use Rattle.std.specs.Prelude.{◌≡◌, ◌<◌, ◌≤◌, ℕ, ◌^◌, pos, List, ◌∷◌, Option, Some, None, chars, Result, Ok, Err}
 use Rattle.std.specs.Borrow.{Bor}
-use Rattle.away_core.specs.Signs.{Sign, mark, name, integer, string, parameter, quote, undoubled, between_quotes, Entry}
-use Rattle.away_core.specs.Reserved.{folded}
-use Rattle.away_core.specs.Spellings.{IsNameText, IsString}
-use Rattle.away_core.specs.declared.grammar.Mark as code_mark
-use Rattle.away_core.specs.declared.queries.Expr.{Expr}
-use Rattle.away_core.specs.declared.queries.Expr.TheVariants.{Int}
+use Rattle.away_grammar.specs.Signs.{Sign, mark, name, integer, string, parameter, quote, undoubled, between_quotes}
+use Rattle.away_grammar.specs.Marks.{Entry}
+use Rattle.away_grammar.specs.Reserved.{folded}
+use Rattle.away_grammar.specs.Spellings.{IsNameText, IsString}
+use Rattle.away_grammar.specs.declared.grammar.Mark as code_mark
+use Rattle.away_trees.specs.declared.queries.Expr.{Expr}
+use Rattle.away_trees.specs.declared.queries.Expr.TheVariants.{Int}
 use Rattle.sql_text.specs.Plans.{Begins, tail}
 use Rattle.sql_text.specs.declared.signs.Sign as code
 use Rattle.sql_text.specs.declared.signs.Sign.TheVariants.{Mark, Name, Integer, Text, Parameter, Quote}

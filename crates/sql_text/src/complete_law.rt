@@ -1,8 +1,8 @@
 //! What the grammar reads, the plans give.
 
 ghost use Rattle.std.specs.Prelude.{List, Some};
-ghost use Rattle.away_core.specs.Signs.{Sign};
-ghost use Rattle.away_core.specs.Grammar.{Sort, Tree, Reads, Stops};
+ghost use Rattle.away_grammar.specs.Signs.{Sign};
+ghost use Rattle.away_grammar.specs.Grammar.{Sort, Tree, Reads, Stops};
 ghost use Rattle.sql_text.specs.Plans.{Runs};
 ghost use Rattle.sql_text.specs.Descent.{plan};
 

@@ -1,68 +1,67 @@
-//! A place in a list of tokens.
+//! A place in a list of signs.
 
-ghost use Rattle.std.specs.Prelude.{◌≡◌, ◌≤◌, ◌<◌, ◌∷◌, true, false, length, map, drop, List, Some, None, IfOk, IfSome, IfNone};
+ghost use Rattle.std.specs.Prelude.{◌≡◌, ◌≤◌, ◌<◌, ◌∷◌, true, false, length, map, drop, All, IfOk, IfSome};
 ghost use Rattle.std.specs.Bool.{OnTrue, OnFalse};
-ghost use Rattle.away_core.specs.declared.grammar.Level.TheVariants as level;
-ghost use Rattle.away_core.specs.Grammar.{at as expression, Stops};
-ghost use Rattle.away_core.specs.Tokens.{AreSpelled};
-ghost use Rattle.away_core.specs.Signs.{mark, all_say};
-ghost use Rattle.away_lex.specs.Lexed.{seen};
-ghost use Rattle.sql_text.specs.Plans.{first, tail, Begins};
+ghost use Rattle.away_grammar.specs.declared.grammar.Level.TheVariants as level;
+ghost use Rattle.away_grammar.specs.declared.grammar.Mark.TheVariants as m;
+ghost use Rattle.away_grammar.specs.Grammar.{at as expression, Stops};
+ghost use Rattle.away_grammar.specs.Signs.{mark};
+ghost use Rattle.sql_text.specs.Plans.{first, is_some, tail, Begins};
 ghost use Rattle.sql_text.specs.Next.{operator_in, comparison_in, test_in, name_in, type_in, parameter_in, is_least, is_select, is_with, is_typed_parameter};
-ghost use Rattle.sql_text.specs.Said.{said_next, IsSaid, Found, Expected, Taken};
+ghost use Rattle.sql_text.specs.Said.{said, said_next, IsSaid, Found, Expected, Taken};
 
 use crate::refusal::Refusal;
-use crate::signs::{Sign, comparison_of, continues, operator_of, sign_of, type_named};
-use away_core::{ChainOp, CmpOp, IsTest, Level, Mark, Name, NoMemory, Ty};
-use away_lex::{Token, folded};
+use crate::signs::{Sign, comparison_of, continues, operator_of, type_named};
+use away_grammar::{Level, Mark};
+use away_lex::folded;
+use away_values::{ChainOp, CmpOp, IsTest, Name, NoMemory, Ty};
 use std::alloc::Global;
 use std::marker::Model;
 
 /// The opposite of the least bigint.
 const LEAST: u64 = 1 << 63;
 
-/// A place in a list of tokens. Contracts see what the tokens from there on say.
+/// A place in a list of signs. Contracts see the signs from there on.
 #[derive(Drop)]
 pub struct Cursor<'a> {
-    list: &'a [Token<'a>],
+    signs: &'a [Sign<'a>],
     at: usize,
 }
 
 impl<'a> Model for Cursor<'a> {
-    ghost use Rattle.std.specs.Prelude.{List, drop, length, map, ◌≤◌};
-    ghost use Rattle.away_core.specs.Signs.{Sign, all_say};
-    ghost use Rattle.away_core.specs.Tokens.{AreSpelled};
-    ghost use Rattle.away_lex.specs.Lexed.{seen};
+    ghost use Rattle.std.specs.Prelude.{List, drop, length, map, All, ◌≤◌};
+    ghost use Rattle.away_grammar.specs.Signs.{Sign};
+    ghost use Rattle.sql_text.specs.Said.{said, IsSaid};
 
     ghost Value = { List Sign };
 
-    ghost view = { λ c. all_say (map seen (drop c.at c.list.now)) };
+    ghost view = { λ c. map said (drop c.at c.signs.now) };
 
-    ghost invariant = { λ c. (c.at ≤ length c.list.now) × AreSpelled (map seen c.list.now) };
+    ghost invariant = { λ c. (c.at ≤ length c.signs.now) × All IsSaid c.signs.now };
 }
 
 impl<'a> Cursor<'a> {
     /// The place of this number in the list, from 0.
-    pub fn new(list: &'a [Token<'a>], at: usize) -> Cursor<'a>
-        requires within { at ≤ length list.now }
-        requires spelled { AreSpelled (map seen list.now) }
-        ensures { result ≡ all_say (map seen (drop at list.now)) }
+    pub fn new(signs: &'a [Sign<'a>], at: usize) -> Cursor<'a>
+        requires within { at ≤ length signs.now }
+        requires spelled { All IsSaid signs.now }
+        ensures { result ≡ map said (drop at signs.now) }
     {
-        Cursor { list, at }
+        Cursor { signs, at }
     }
 
     /// The same place, to look ahead from.
     pub fn ahead(&self) -> Cursor<'a>
         ensures { result ≡ self.now }
     {
-        Cursor::new(self.list, self.at)
+        Cursor::new(self.signs, self.at)
     }
 
-    /// How many tokens are left.
+    /// How many signs are left.
     pub fn left(&self) -> usize
         ensures { result ≡ length self.now }
     {
-        self.list.len() - self.at
+        self.signs.len() - self.at
     }
 
     /// What stands next.
@@ -70,8 +69,8 @@ impl<'a> Cursor<'a> {
         ensures value { said_next result ≡ first self.now }
         ensures spelled { IfSome result IsSaid }
     {
-        if self.at < self.list.len() {
-            Some(sign_of(&self.list[self.at]))
+        if self.at < self.signs.len() {
+            Some(self.signs[self.at])
         } else {
             None
         }
@@ -90,11 +89,11 @@ impl<'a> Cursor<'a> {
         next
     }
 
-    /// Goes on by one token, if one is left.
+    /// Goes on by one sign, if one is left.
     fn step(&mut self)
         ensures { self.new ≡ tail self.old }
     {
-        if self.at < self.list.len() {
+        if self.at < self.signs.len() {
             self.at += 1;
         }
     }
@@ -154,6 +153,16 @@ impl<'a> Cursor<'a> {
         found
     }
 
+    /// Whether an operator of the level stands next.
+    pub fn sees_operator(&self, level: Level) -> bool
+        ensures { result ≡ is_some (operator_in level (first self.now)) }
+    {
+        match self.peek() {
+            Some(Sign::Mark(next)) => operator_of(level, next).is_some(),
+            _ => false,
+        }
+    }
+
     /// Takes the comparison that stands next, if one does.
     pub fn comparison(&mut self) -> Option<CmpOp>
         ensures found { result ≡ comparison_in (first self.old) }
@@ -169,6 +178,16 @@ impl<'a> Cursor<'a> {
             self.step();
         }
         found
+    }
+
+    /// Whether NOT, BETWEEN or IN stands next.
+    pub fn sees_range(&self) -> bool
+        ensures { OnFalse result ((¬ (Begins self.now m.Not)) × (¬ (Begins self.now m.Between)) × (¬ (Begins self.now m.In))) }
+    {
+        match self.peek() {
+            Some(Sign::Mark(next)) => matches!(next, Mark::Not | Mark::Between | Mark::In),
+            _ => false,
+        }
     }
 
     /// Takes what stands next, which has to be a test of IS.
@@ -274,7 +293,7 @@ impl<'a> Cursor<'a> {
     pub fn sees_typed_parameter(&self) -> bool
         ensures { result ≡ is_typed_parameter self.now }
     {
-        let mut ahead = Cursor::new(self.list, self.at);
+        let mut ahead = self.ahead();
         match ahead.take() {
             Some(Sign::Parameter(_)) => ahead.sees(Mark::As),
             _ => false,

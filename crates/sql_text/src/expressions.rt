@@ -1,16 +1,17 @@
 //! Expressions, by descent through the levels (PostgreSQL manual, Operator Precedence).
 
-ghost use Rattle.std.specs.Prelude.{◌≤◌, length};
-ghost use Rattle.away_core.specs.Grammar.{IsChain, Tree, at};
+ghost use Rattle.std.specs.Prelude.{◌≡◌, ◌≤◌, length};
+ghost use Rattle.away_grammar.specs.Grammar.{IsChain, Tree, at, links, operands};
 ghost use Rattle.sql_text.specs.Plans.{Gives};
-ghost use Rattle.sql_text.specs.Descent.{plan, not_plan, is_plan, compare_plan, range_plan, within_plan, between_plan, sign_plan, cast_plan, chain_plan};
+ghost use Rattle.sql_text.specs.Descent.{plan, chain_plan, links_plan, not_plan, is_plan, tested_plan, compare_plan, range_plan, within_plan, between_plan, sign_plan, cast_plan, types_plan};
 
 use crate::cursor::Cursor;
 use crate::leaves::chain_of;
-use crate::operators::level_of_operands;
 use crate::primaries::{list_of, primary};
 use crate::refusal::Refusal;
-use away_core::{Expr, Level, Mark};
+use away_grammar::{Level, Mark};
+use away_trees::Expr;
+use away_values::ChainOp;
 use sqlite_items::{Boxed, Items};
 use std::alloc::Global;
 
@@ -21,15 +22,15 @@ pub fn expression(alloc: Global, tokens: &mut Cursor<'_>, level: Level) -> Resul
     ensures shrinks { length tokens.new ≤ length tokens.old }
 {
     match level {
-        Level::Or => chain(alloc, tokens, Level::Or),
-        Level::And => chain(alloc, tokens, Level::And),
+        Level::Or => chain(alloc, tokens, Level::Or, Level::And),
+        Level::And => chain(alloc, tokens, Level::And, Level::Not),
         Level::Not => negation(alloc, tokens),
         Level::Is => tested(alloc, tokens),
         Level::Compare => compared(alloc, tokens),
         Level::Range => ranged(alloc, tokens),
-        Level::Concat => chain(alloc, tokens, Level::Concat),
-        Level::Sum => chain(alloc, tokens, Level::Sum),
-        Level::Product => chain(alloc, tokens, Level::Product),
+        Level::Concat => chain(alloc, tokens, Level::Concat, Level::Sum),
+        Level::Sum => chain(alloc, tokens, Level::Sum, Level::Product),
+        Level::Product => chain(alloc, tokens, Level::Product, Level::Sign),
         Level::Sign => signed(alloc, tokens),
         Level::Cast => cast(alloc, tokens),
         Level::Primary => primary(alloc, tokens),
@@ -46,19 +47,45 @@ pub fn operand(alloc: Global, tokens: &mut Cursor<'_>, level: Level) -> Result<B
     Ok(Boxed::new(alloc, found)?)
 }
 
-/// Operands with operators of one level between them.
+/// Operands of the inner level with operators of the level between them.
 #[cycle(reader)]
-fn chain(alloc: Global, tokens: &mut Cursor<'_>, level: Level) -> Result<Expr, Refusal>
-    requires { IsChain level }
+fn chain(
+    alloc: Global,
+    tokens: &mut Cursor<'_>,
+    level: Level,
+    inner: Level,
+) -> Result<Expr, Refusal>
+    requires chain { IsChain level }
+    requires inner { inner ≡ operands level }
     ensures found { Gives Tree plan (at level) (chain_plan level) tokens.old result tokens.new }
     ensures shrinks { length tokens.new ≤ length tokens.old }
 {
-    let first = operand(alloc, tokens, level_of_operands(level))?;
-    let mut more = Items::new(alloc);
-    while let Some(op) = tokens.operator(level) {
-        more.push((op, expression(alloc, tokens, level_of_operands(level))?))?;
+    let first = expression(alloc, tokens, inner)?;
+    if !tokens.sees_operator(level) {
+        return Ok(first);
     }
-    Ok(chain_of(first, more))
+    let boxed = Boxed::new(alloc, first)?;
+    let more = links_of(alloc, tokens, level, inner)?;
+    Ok(chain_of(boxed, more))
+}
+
+/// The operators of the level that stand next, each with its operand.
+#[cycle(reader)]
+fn links_of(
+    alloc: Global,
+    tokens: &mut Cursor<'_>,
+    level: Level,
+    inner: Level,
+) -> Result<Items<(ChainOp, Expr)>, Refusal>
+    requires { inner ≡ operands level }
+    ensures found { Gives Tree plan (links level) (links_plan level) tokens.old result tokens.new }
+    ensures shrinks { length tokens.new ≤ length tokens.old }
+{
+    let mut found = Items::new(alloc);
+    while let Some(op) = tokens.operator(level) {
+        found.push((op, expression(alloc, tokens, inner)?))?;
+    }
+    Ok(found)
 }
 
 #[cycle(reader)]
@@ -79,10 +106,18 @@ fn tested(alloc: Global, tokens: &mut Cursor<'_>) -> Result<Expr, Refusal>
     ensures found { Gives Tree plan (at Level.Is) is_plan tokens.old result tokens.new }
     ensures shrinks { length tokens.new ≤ length tokens.old }
 {
-    let operand = operand(alloc, tokens, Level::Compare)?;
+    let operand = expression(alloc, tokens, Level::Compare)?;
     if !tokens.eat(Mark::Is) {
-        return Ok(operand.into_inner());
+        return Ok(operand);
     }
+    test_of(tokens, Boxed::new(alloc, operand)?)
+}
+
+/// The test behind IS.
+fn test_of(tokens: &mut Cursor<'_>, operand: Boxed<Expr>) -> Result<Expr, Refusal>
+    ensures found { Gives Tree plan (at Level.Is) (tested_plan operand) tokens.old result tokens.new }
+    ensures shrinks { length tokens.new ≤ length tokens.old }
+{
     let negated = tokens.eat(Mark::Not);
     let test = tokens.test()?;
     Ok(Expr::Is(operand, test, negated))
@@ -94,11 +129,12 @@ fn compared(alloc: Global, tokens: &mut Cursor<'_>) -> Result<Expr, Refusal>
     ensures found { Gives Tree plan (at Level.Compare) compare_plan tokens.old result tokens.new }
     ensures shrinks { length tokens.new ≤ length tokens.old }
 {
-    let left = operand(alloc, tokens, Level::Range)?;
-    match tokens.comparison() {
-        Some(op) => Ok(Expr::Compare(op, left, operand(alloc, tokens, Level::Range)?)),
-        None => Ok(left.into_inner()),
-    }
+    let left = expression(alloc, tokens, Level::Range)?;
+    let Some(op) = tokens.comparison() else {
+        return Ok(left);
+    };
+    let boxed = Boxed::new(alloc, left)?;
+    Ok(Expr::Compare(op, boxed, operand(alloc, tokens, Level::Range)?))
 }
 
 /// An operand, and BETWEEN or IN behind it or not.
@@ -107,9 +143,13 @@ fn ranged(alloc: Global, tokens: &mut Cursor<'_>) -> Result<Expr, Refusal>
     ensures found { Gives Tree plan (at Level.Range) range_plan tokens.old result tokens.new }
     ensures shrinks { length tokens.new ≤ length tokens.old }
 {
-    let operand = operand(alloc, tokens, Level::Concat)?;
+    let operand = expression(alloc, tokens, Level::Concat)?;
+    if !tokens.sees_range() {
+        return Ok(operand);
+    }
+    let boxed = Boxed::new(alloc, operand)?;
     let negated = tokens.eat(Mark::Not);
-    within(alloc, tokens, operand, negated)
+    within(alloc, tokens, boxed, negated)
 }
 
 /// BETWEEN or IN behind an operand, or, where no NOT was written, neither.
@@ -175,10 +215,18 @@ fn cast(alloc: Global, tokens: &mut Cursor<'_>) -> Result<Expr, Refusal>
     ensures found { Gives Tree plan (at Level.Cast) cast_plan tokens.old result tokens.new }
     ensures shrinks { length tokens.new ≤ length tokens.old }
 {
-    let operand = operand(alloc, tokens, Level::Primary)?;
+    let operand = expression(alloc, tokens, Level::Primary)?;
     if !tokens.eat(Mark::Colons) {
-        return Ok(operand.into_inner());
+        return Ok(operand);
     }
+    casts_of(alloc, tokens, Boxed::new(alloc, operand)?)
+}
+
+/// The types behind `::`, of which there are at most two.
+fn casts_of(alloc: Global, tokens: &mut Cursor<'_>, operand: Boxed<Expr>) -> Result<Expr, Refusal>
+    ensures found { Gives Tree plan (at Level.Cast) (types_plan operand) tokens.old result tokens.new }
+    ensures shrinks { length tokens.new ≤ length tokens.old }
+{
     let first = tokens.type_name()?;
     if !tokens.eat(Mark::Colons) {
         return Ok(Expr::Cast(operand, first));

@@ -1,8 +1,8 @@
 //! What holds of the plans of all sorts.
 
 ghost use Rattle.std.specs.Prelude.{List, Option, Some};
-ghost use Rattle.away_core.specs.Signs.{Sign};
-ghost use Rattle.away_core.specs.Grammar.{Reads, Sort, Tree};
+ghost use Rattle.away_grammar.specs.Signs.{Sign};
+ghost use Rattle.away_grammar.specs.Grammar.{Reads, Sort, Tree};
 ghost use Rattle.sql_text.specs.Plans.{Runs};
 ghost use Rattle.sql_text.specs.Descent.{plan};
 

@@ -1,13 +1,15 @@
 //! The parts of trees that hold no tree of their own sort.
 
 ghost use Rattle.std.specs.Prelude.{◌≡◌, IfOk, ◌^◌, ◌<◌, pos, true, false, None};
-ghost use Rattle.away_core.specs.Grammar.{IsChain, Tree, at, chained, literal_of, called};
-ghost use Rattle.away_core.specs.Grammar as spec;
+ghost use Rattle.away_grammar.specs.Grammar.{IsChain, Tree, at, chained, literal_of, called};
+ghost use Rattle.away_grammar.specs.Grammar as spec;
 ghost use Rattle.sql_text.specs.Descent as descent;
 ghost use Rattle.sql_text.specs.Said.{Found, Numbered};
 
 use crate::refusal::Refusal;
-use away_core::{ChainOp, Expr, Item, Key, Level, Mark, Name, Query, Select, name};
+use away_grammar::{Level, Mark};
+use away_trees::{Expr, Item, Key, Query, Select};
+use away_values::{ChainOp, Name, name};
 use sqlite_items::{Boxed, Items};
 use std::alloc::Global;
 

@@ -1,11 +1,11 @@
 //! One tree for each text.
 
 ghost use Rattle.std.specs.Prelude.{◌≡◌, ℕ, List};
-ghost use Rattle.away_core.specs.declared.queries.Expr.{Expr};
-ghost use Rattle.away_core.specs.declared.queries.Query.{Query};
-ghost use Rattle.away_core.specs.declared.schemas.Schema.{Schema};
-ghost use Rattle.away_core.specs.Texts.{IsExpression, ReadsQuery, ReadsSchema};
-ghost use Rattle.away_core.specs.Tokens.{Lexeme};
+ghost use Rattle.away_trees.specs.declared.queries.Expr.{Expr};
+ghost use Rattle.away_trees.specs.declared.queries.Query.{Query};
+ghost use Rattle.away_trees.specs.declared.schemas.Schema.{Schema};
+ghost use Rattle.away_grammar.specs.Texts.{IsExpression, ReadsQuery, ReadsSchema};
+ghost use Rattle.away_grammar.specs.Tokens.{Lexeme};
 
 /// A text reads as one query and as one schema at most, and at most one expression begins at a place of a token list.
 pub fn a_text_reads_as_one_tree()

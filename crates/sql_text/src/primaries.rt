@@ -1,7 +1,7 @@
 //! The innermost expressions: what stands alone, is called, or stands in parentheses.
 
 ghost use Rattle.std.specs.Prelude.{◌≤◌, length};
-ghost use Rattle.away_core.specs.Grammar.{Tree, at, list, arms};
+ghost use Rattle.away_grammar.specs.Grammar.{Tree, at, list, arms};
 ghost use Rattle.sql_text.specs.Plans.{Gives};
 ghost use Rattle.sql_text.specs.Descent.{plan, primary_plan, named_plan, inside_plan, cast_call_plan, exists_plan, case_plan, parameter_plan, typed_parameter_plan, marked_plan, word_plan, rows_plan, list_plan, arms_plan};
 
@@ -11,8 +11,10 @@ use crate::leaves::{called_name, literal, number};
 use crate::refusal::Refusal;
 use crate::selects::query_of;
 use crate::signs::{Sign, is_count, text_of};
-use away_core::{Expr, Level, Mark, Name};
+use away_grammar::{Level, Mark};
 use away_lex::folded;
+use away_trees::Expr;
+use away_values::Name;
 use sqlite_items::Items;
 use std::alloc::Global;
 

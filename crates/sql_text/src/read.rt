@@ -1,19 +1,23 @@
 //! The readers of queries, schemas and expressions.
 
-ghost use Rattle.std.specs.Prelude.{◌≡◌, ◌≤◌, ℕ, map, length, IfOk, IfErr, MatchOption};
-ghost use Rattle.away_core.specs.Texts.{IsText, IsExpression, ReadsQuery, ReadsSchema};
-ghost use Rattle.away_core.specs.Tokens.{AreSpelled};
-ghost use Rattle.away_core.specs.declared.queries.Expr.{Expr};
+ghost use Rattle.std.specs.Prelude.{◌≡◌, ◌≤◌, ℕ, map, length, All, IfOk, IfErr, MatchOption};
+ghost use Rattle.away_grammar.specs.Texts.{IsText, IsExpression, ReadsQuery, ReadsSchema};
+ghost use Rattle.away_grammar.specs.Tokens.{AreSpelled};
+ghost use Rattle.away_trees.specs.declared.queries.Expr.{Expr};
 ghost use Rattle.away_lex.specs.Lexed.{seen};
-ghost use Rattle.sql_text.specs.Refusals.{HasFewTokens, MayBeRead, NoExpression, Refuses, RefusesTokens};
+ghost use Rattle.sql_text.specs.Said.{said, IsSaid};
+ghost use Rattle.sql_text.specs.Refusals.{HasFewTokens, HasSigns, MayBeRead, NoExpression, Refuses, RefusesTokens};
 
 use crate::cursor::Cursor;
-use crate::expressions::expression;
+use crate::expressions::operand;
 use crate::files::file_of;
 use crate::refusal::Refusal;
 use crate::schemas::tables_of;
-use away_core::{Expr, Level, Query, Schema};
+use crate::signs::{Sign, signs_of};
+use away_grammar::Level;
 use away_lex::{LimitKind, ReadRefusal, Token, TokensRefusal, nesting, tokens};
+use away_trees::{Expr, Query, Schema};
+use sqlite_items::Items;
 use std::alloc::Global;
 
 /// The greatest nesting of tokens that is read.
@@ -24,12 +28,12 @@ pub fn read_query(alloc: Global, bytes: &[u8]) -> Result<Query, ReadRefusal>
     ensures ok { IfOk result (λ query. MayBeRead bytes.now × ReadsQuery bytes.now query) }
     ensures err { IfErr result (Refuses (ReadsQuery bytes.now) bytes.now) }
 {
-    let list = tokens_of(alloc, bytes)?;
-    let mut left = Cursor::new(list.as_slice(), 0);
+    let signs = text_signs(alloc, bytes)?;
+    let mut left = Cursor::new(signs.as_slice(), 0);
     match file_of(alloc, &mut left) {
         Ok(query) => {
             if left.left() == 0 {
-                Ok(query)
+                Ok(query.into_inner())
             } else {
                 Err(ReadRefusal::NoTree)
             }
@@ -44,8 +48,8 @@ pub fn read_schema(alloc: Global, bytes: &[u8]) -> Result<Schema, ReadRefusal>
     ensures ok { IfOk result (λ schema. MayBeRead bytes.now × ReadsSchema bytes.now schema) }
     ensures err { IfErr result (Refuses (ReadsSchema bytes.now) bytes.now) }
 {
-    let list = tokens_of(alloc, bytes)?;
-    let mut left = Cursor::new(list.as_slice(), 0);
+    let signs = text_signs(alloc, bytes)?;
+    let mut left = Cursor::new(signs.as_slice(), 0);
     match tables_of(alloc, &mut left) {
         Ok(tables) => {
             if left.left() == 0 {
@@ -67,17 +71,34 @@ pub fn read_expr(alloc: Global, list: &[Token<'_>], at: usize) -> Result<(Expr, 
     ensures only { IfOk result (λ found. (x : Expr) (end : ℕ) → IsExpression (map seen list.now) at x end → (x ≡ found.0) × (end ≡ found.1)) }
     ensures err { IfErr result (NoExpression (map seen list.now) at) }
 {
-    let mut left = Cursor::new(list, at);
-    match expression(alloc, &mut left, Level::Or) {
+    let behind = &list[at..];
+    let Ok(signs) = signs_of(alloc, behind) else {
+        return Err(ReadRefusal::NoMemory);
+    };
+    let mut left = Cursor::new(signs.as_slice(), 0);
+    match operand(alloc, &mut left, Level::Or) {
         Ok(found) => {
             if left.continues() {
                 Err(ReadRefusal::NoTree)
             } else {
-                Ok((found, list.len() - left.left()))
+                Ok((found.into_inner(), list.len() - left.left()))
             }
         }
         Err(Refusal::NoTree) => Err(ReadRefusal::NoTree),
         Err(Refusal::NoMemory) => Err(ReadRefusal::NoMemory),
+    }
+}
+
+/// What the tokens of bytes say that are a text and nest no deeper than is read.
+fn text_signs<'a>(alloc: Global, bytes: &'a [u8]) -> Result<Items<Sign<'a>>, ReadRefusal>
+    ensures ok { IfOk result (λ signs. HasSigns bytes.now (map said signs)) }
+    ensures spelled { IfOk result (λ signs. All IsSaid signs) }
+    ensures err { IfErr result (RefusesTokens bytes.now) }
+{
+    let list = tokens_of(alloc, bytes)?;
+    match signs_of(alloc, list.as_slice()) {
+        Ok(signs) => Ok(signs),
+        Err(_) => Err(ReadRefusal::NoMemory),
     }
 }
 

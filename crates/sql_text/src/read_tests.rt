@@ -1,8 +1,9 @@
 //! What the readers of queries, schemas and expressions give.
 
 use crate::read::{read_expr, read_query, read_schema};
-use away_core::{Expr, Query, Schema, Select, Ty};
 use away_lex::{LimitKind, ReadRefusal, tokens};
+use away_trees::{Expr, Query, Schema, Select};
+use away_values::Ty;
 use std::alloc::{AllocError, Global};
 use std::test::Fail;
 

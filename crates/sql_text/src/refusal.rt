@@ -1,6 +1,6 @@
 //! Why no tree was read.
 
-use away_core::NoMemory;
+use away_values::NoMemory;
 use std::alloc::AllocError;
 
 /// Why no tree was read from tokens.

@@ -1,14 +1,15 @@
 //! The tables of a schema.
 
 ghost use Rattle.std.specs.Prelude.{◌≡◌, ◌≤◌, length};
-ghost use Rattle.away_core.specs.Grammar.{Tree, column, columns, tables};
+ghost use Rattle.away_grammar.specs.Grammar.{Tree, column, columns, tables};
 ghost use Rattle.sql_text.specs.Plans.{Gives};
 ghost use Rattle.sql_text.specs.Descent.{plan, column_plan, table_columns_plan, tables_plan};
 
 use crate::cursor::Cursor;
 use crate::refusal::Refusal;
 use crate::tables::qualified_name;
-use away_core::{ColumnSchema, Mark, TableSchema};
+use away_grammar::Mark;
+use away_trees::{ColumnSchema, TableSchema};
 use sqlite_items::Items;
 use std::alloc::Global;
 

@@ -3,9 +3,9 @@
 ghost use Rattle.sql_text.specs.Said.{IsSaid};
 
 use crate::cursor::Cursor;
-use crate::signs::{Sign, text_of, type_named};
-use away_core::{NoMemory, Ty};
+use crate::signs::{Sign, signs_of, text_of, type_named};
 use away_lex::tokens;
+use away_values::{NoMemory, Ty};
 use std::alloc::{AllocError, Global};
 use std::test::Fail;
 
@@ -59,7 +59,10 @@ fn shown(alloc: Global, text: &str) -> Result<String, AllocError> {
     let Ok(list) = tokens(alloc, text) else {
         return String::from_str(alloc, "no tokens");
     };
-    let mut left = Cursor::new(list.as_slice(), 0);
+    let Ok(signs) = signs_of(alloc, list.as_slice()) else {
+        return Err(AllocError);
+    };
+    let mut left = Cursor::new(signs.as_slice(), 0);
     for _turn in 0..64 {
         match left.take() {
             None => return Ok(all),

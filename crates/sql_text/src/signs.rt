@@ -1,17 +1,20 @@
 //! What tokens say.
 
-ghost use Rattle.std.specs.Prelude.{◌≡◌, ◌≤◌, ◌^◌, map, nat_le, bytes_eq, codes, chars, IfOk};
+ghost use Rattle.std.specs.Prelude.{◌≡◌, ◌≤◌, ◌^◌, map, All, nat_le, bytes_eq, codes, chars, IfOk};
 ghost use Rattle.std.specs.Str.{str_eq_ignore_ascii_case};
-ghost use Rattle.away_core.specs.declared.grammar.Level.TheVariants as level;
-ghost use Rattle.away_core.specs.Signs as spec;
-ghost use Rattle.away_core.specs.Grammar as grammar;
-ghost use Rattle.away_core.specs.Reserved.{folded};
-ghost use Rattle.away_core.specs.Spellings.{Spells, IsString, number};
+ghost use Rattle.away_grammar.specs.declared.grammar.Level.TheVariants as level;
+ghost use Rattle.away_grammar.specs.Signs as spec;
+ghost use Rattle.away_grammar.specs.Grammar as grammar;
+ghost use Rattle.away_grammar.specs.Reserved.{folded};
+ghost use Rattle.away_grammar.specs.Spellings.{Spells, IsString, number};
+ghost use Rattle.away_grammar.specs.Tokens.{AreSpelled};
 ghost use Rattle.away_lex.specs.Lexed.{seen};
 ghost use Rattle.sql_text.specs.Said.{said, IsSaid, entry};
 
-use away_core::{ChainOp, CmpOp, IntOp, Level, Mark, Name, NoMemory, Ty, Word, word};
+use away_grammar::{Level, Mark};
 use away_lex::{Token, TokenKind};
+use away_values::{ChainOp, CmpOp, IntOp, Name, NoMemory, Ty, Word, word};
+use sqlite_items::Items;
 use std::alloc::Global;
 
 const WORDS: [(&str, Mark); 53] = [
@@ -134,8 +137,21 @@ pub fn sign_of<'a>(token: &Token<'a>) -> Sign<'a>
     }
 }
 
+/// What the tokens say, one after the other.
+pub fn signs_of<'a>(alloc: Global, tokens: &[Token<'a>]) -> Result<Items<Sign<'a>>, NoMemory>
+    requires { AreSpelled (map seen tokens.now) }
+    ensures values { IfOk result (λ signs. map said signs ≡ spec.all_say (map seen tokens.now)) }
+    ensures spelled { IfOk result (λ signs. All IsSaid signs) }
+{
+    let mut signs = Items::from_vec(Vec::with_capacity(alloc, tokens.len())?);
+    for token in tokens {
+        signs.push(sign_of(token))?;
+    }
+    Ok(signs)
+}
+
 /// The mark of a reserved word, in any case.
-#[tactic(auto, unfolding(away_core::specs::Signs::word_mark))]
+#[tactic(auto, unfolding(away_grammar::specs::Signs::word_mark))]
 fn word_mark(word: &str) -> Option<Mark>
     ensures { result ≡ spec.word_mark word.now }
 {
@@ -153,7 +169,7 @@ fn mark_in_any_case(word: &str, entries: &[(&str, Mark)]) -> Option<Mark>
     None
 }
 
-#[tactic(auto, unfolding(away_core::specs::Signs::symbol_mark))]
+#[tactic(auto, unfolding(away_grammar::specs::Signs::symbol_mark))]
 fn symbol_mark(symbol: &str) -> Option<Mark>
     ensures { result ≡ spec.symbol_mark symbol.now }
 {
@@ -172,7 +188,7 @@ fn mark_as_written(symbol: &str, entries: &[(&str, Mark)]) -> Option<Mark>
 }
 
 /// The number that decimal digits spell.
-#[tactic(auto, unfolding(away_core::specs::Spellings::number))]
+#[tactic(auto, unfolding(away_grammar::specs::Spellings::number))]
 fn value_of(digits: &[u8]) -> u64
     requires { number digits.now ≤ 2 ^ 63 }
     ensures { result ≡ number digits.now }
@@ -247,7 +263,7 @@ pub fn continues(mark: Mark) -> bool
 }
 
 /// The type of this name, in any case.
-#[tactic(auto, unfolding(away_core::specs::Grammar::type_named))]
+#[tactic(auto, unfolding(away_grammar::specs::Grammar::type_named))]
 pub fn type_named(text: &str) -> Option<Ty>
     ensures { result ≡ grammar.type_named (folded text.now) }
 {

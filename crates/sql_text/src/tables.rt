@@ -1,7 +1,7 @@
 //! FROM items: tables, and what stands behind a subquery.
 
 ghost use Rattle.std.specs.Prelude.{◌≡◌, ◌≤◌, ◌<◌, length, IfOk};
-ghost use Rattle.away_core.specs.Grammar.{Tree, from_item, names};
+ghost use Rattle.away_grammar.specs.Grammar.{Tree, from_item, names};
 ghost use Rattle.sql_text.specs.Plans.{Gives};
 ghost use Rattle.sql_text.specs.Descent as descent;
 ghost use Rattle.sql_text.specs.Descent.{plan, names_plan, table_plan, columns_plan, alias_plan};
@@ -10,7 +10,9 @@ ghost use Rattle.sql_text.specs.Qualified.{NameRead};
 use crate::cursor::Cursor;
 use crate::refusal::Refusal;
 use crate::signs::is_public;
-use away_core::{FromItem, Mark, Name, Query, Source};
+use away_grammar::Mark;
+use away_trees::{FromItem, Query, Source};
+use away_values::Name;
 use sqlite_items::{Boxed, Items};
 use std::alloc::Global;
 

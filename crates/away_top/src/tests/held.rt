@@ -1,7 +1,7 @@
 //! Files, words and sinks for the tests.
 
 use crate::{MemoryFiles, MemorySink, Status, away};
-use away_core::NoMemory;
+use away_values::NoMemory;
 use std::alloc::{AllocError, Global};
 use std::test::Fail;
 

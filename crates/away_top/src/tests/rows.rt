@@ -1,7 +1,7 @@
 //! Commands with their status and output.
 
 use super::held::{Run, compile, execute, function, nested};
-use crate::{Files, MemoryFiles, ReadError, Status, code};
+use crate::{Files, MemoryFiles, MemorySink, ReadError, Status, away_in_memory, code};
 use std::alloc::{AllocError, Global};
 use std::test::Fail;
 
@@ -121,11 +121,11 @@ fn functions_are_refused_by_the_first_rule(rt: HostRuntime) -> Result<(), Fail> 
         ),
         (
             "CREATE FUNCTION f(a bigint, A bigint) RETURNS bigint LANGUAGE plpgsql AS $$ BEGIN RETURN a; END; $$",
-            "refused f.sql UNBUILT\n",
+            "refused f.sql X6\n",
         ),
         (
             "CREATE FUNCTION f(away_a bigint) RETURNS bigint LANGUAGE plpgsql AS $$ BEGIN RETURN 1; END; $$",
-            "refused f.sql UNBUILT\n",
+            "refused f.sql X14\n",
         ),
         (
             "CREATE FUNCTION f(limit bigint) RETURNS bigint LANGUAGE plpgsql AS $$ BEGIN RETURN 1; END; $$",
@@ -297,7 +297,7 @@ fn a_schema_may_have_tables(rt: HostRuntime) -> Result<(), Fail> {
     let compile = ["compile", "s.sql", "f.sql"];
     let function = function(alloc, "a + b * 2")?;
     let schema =
-        b"CREATE TABLE t (k bigint NOT NULL, v text); CREATE TABLE public.away_r (away_go text);";
+        b"CREATE TABLE t (k bigint NOT NULL, v text); CREATE TABLE public.route (src bigint);";
     let files: [(&str, &[u8]); 2] = [("s.sql", schema), ("f.sql", &function)];
     show(&rt, &execute(alloc, &compile, &files, &[], &[])?, 0, TOTAL);
     Ok(())
@@ -310,6 +310,15 @@ fn a_long_function_is_refused(rt: HostRuntime) -> Result<(), Fail> {
     let long = vec![in alloc; b' '; 1048577]?;
     show(&rt, &compile(alloc, &most)?, 1, "refused f.sql X3\n");
     show(&rt, &compile(alloc, &long)?, 1, "refused f.sql LONG\n");
+    Ok(())
+}
+
+#[test]
+fn a_long_function_compiles(rt: HostRuntime) -> Result<(), Fail> {
+    let alloc = rt.alloc();
+    let mut text = vec![in alloc; b' '; 1048000]?;
+    text.extend_from_slice(&function(alloc, "a + b * 2")?)?;
+    show(&rt, &compile(alloc, &text)?, 0, TOTAL);
     Ok(())
 }
 
@@ -358,6 +367,22 @@ fn limits_of_a_read(rt: HostRuntime) -> Result<(), Fail> {
     }
     assert!(rt; matches!(&files.read(alloc, "f", 2), Err(ReadError::Long(3))));
     assert!(rt; matches!(&files.read(alloc, "none", 2), Err(ReadError::Failed)));
+    Ok(())
+}
+
+#[test]
+fn a_run_in_memory_compiles(rt: HostRuntime) -> Result<(), Fail> {
+    let alloc = rt.alloc();
+    let function = function(alloc, "a + b * 2")?;
+    let held = super::held::held(alloc, &[("s.sql", b""), ("f.sql", &function)])?;
+    let mut files = MemoryFiles::new(held, Vec::new(alloc));
+    let words = super::held::words(alloc, &["compile", "s.sql", "f.sql"])?;
+    let Ok(mut sink) = MemorySink::new(alloc, TOTAL.len(), Vec::new(alloc)) else {
+        return Ok(());
+    };
+    let status = away_in_memory(alloc, &words, &mut files, &mut sink);
+    assert_eq!(rt; code(&status), 0);
+    assert_eq!(rt; sink.written(), TOTAL.as_bytes());
     Ok(())
 }
 

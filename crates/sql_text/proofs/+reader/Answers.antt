@@ -1,12 +1,12 @@
-use Rattle.std.proofs.Common.{rules, sym, refl, arith}
+use Rattle.std.proofs.Common.{rules, sym, refl, arith, ◌∙◌}
 use Rattle.std.proofs.lemmas.Grind.{common_steps}
 use Rattle.std.proofs.lemmas.Result.{err_from_is_err_and}
-use Rattle.away_core.specs.declared.grammar.Mark.TheVariants as m
-use Rattle.sql_text.specs.Next.{comparison_in, test_in, name_in, type_in}
+use Rattle.away_grammar.specs.declared.grammar.Mark.TheVariants as m
+use Rattle.sql_text.specs.Next.{comparison_in, name_in, type_in}
 use Rattle.sql_text.specs.Plans.{no_memory}
 use Rattle.sql_text.proofs.Steps.{finished, eaten, left, read_on, read_no, taken, wanted, not_wanted, perhaps_found, perhaps_missed, looked, overlooked, refused, failed, moved}
-use Rattle.sql_text.proofs.Loops.{list_more, list_ends, list_fails, arms_more, arms_end, arms_fail, chain_fails, links_begin, links_more, links_fail, links_end, levelled, passed, passed_keys, items_more, items_end, items_fail, from_more, from_end, from_fail, keys_more, keys_end, keys_fail, selects_more, selects_end, selects_fail, selects_break}
-use Rattle.sql_text.proofs.Cases.{number_gives, word_literal, word_called, word_refused, case_on, case_without, range_on, test_on, query_refused, query_given, key_refused, key_on, direction}
+use Rattle.sql_text.proofs.Loops.{list_more, list_ends, list_fails, arms_more, arms_end, arms_fail, chain_fails, chain_alone, chain_on, links_begin, links_more, links_fail, links_end, levelled, passed, passed_keys, items_more, items_end, items_fail, from_more, from_end, from_fail, keys_more, keys_end, keys_fail, selects_more, selects_end, selects_fail, selects_break}
+use Rattle.sql_text.proofs.Cases.{number_gives, word_literal, word_called, word_refused, case_on, case_without, range_on, unranged, test_on, query_refused, query_given, key_refused, key_on, direction}
 use Rattle.sql_text.proofs.+reader.Goals as goal
 
 pub primaries::arms_of-returns-in_err-test-clause-found : goal.primaries::arms_of-returns-in_err-test-clause-found
@@ -58,35 +58,6 @@ primaries::case-returns-in_err-arms-clause-found t c =
     let p = err_from_is_err_and c.from_residual.result c.from_residual.ensures.1 in
     rw (p.1, p.2) (read_no c.in_err-arms.ensures.found)
 
-pub expressions::cast-returns-in_err-operand-clause-found : goal.expressions::cast-returns-in_err-operand-clause-found
-expressions::cast-returns-in_err-operand-clause-found t c =
-    let p = err_from_is_err_and c.from_residual.result c.from_residual.ensures.1 in
-    rw (p.1, p.2) (read_no c.in_err-operand.ensures.found)
-
-pub expressions::cast-returns-then-not-eat-clause-found : goal.expressions::cast-returns-then-not-eat-clause-found
-expressions::cast-returns-then-not-eat-clause-found t c = rw c.into_inner.ensures (read_on c.in_ok-operand.ensures.found (left m.Colons c.if-not-eat.ensures.no (finished refl)))
-
-pub expressions::cast-returns-in_err-first-clause-found : goal.expressions::cast-returns-in_err-first-clause-found
-expressions::cast-returns-in_err-first-clause-found t c =
-    let p = err_from_is_err_and c.from_residual-in_err-first.result c.from_residual-in_err-first.ensures.1 in
-    rw (p.1, p.2) (read_on c.in_ok-operand.ensures.found (eaten m.Colons c.if-not-eat.ensures.yes (not_wanted type_in _ c.in_err-first.field-0.0 c.in_err-first.ensures.found)))
-
-pub expressions::cast-returns-then-not-eat-2-clause-found : goal.expressions::cast-returns-then-not-eat-2-clause-found
-expressions::cast-returns-then-not-eat-2-clause-found t c = read_on c.in_ok-operand.ensures.found (eaten m.Colons c.if-not-eat.ensures.yes (wanted type_in _ c.in_ok-first.ensures.found c.in_ok-first.ensures.rest (left m.Colons c.if-not-eat-2.ensures.no (finished refl))))
-
-pub expressions::cast-returns-in_err-second-clause-found : goal.expressions::cast-returns-in_err-second-clause-found
-expressions::cast-returns-in_err-second-clause-found t c =
-    let p = err_from_is_err_and c.from_residual-in_err-second.result c.from_residual-in_err-second.ensures.1 in
-    rw (p.1, p.2) (read_on c.in_ok-operand.ensures.found (eaten m.Colons c.if-not-eat.ensures.yes (wanted type_in _ c.in_ok-first.ensures.found c.in_ok-first.ensures.rest (eaten m.Colons c.if-not-eat-2.ensures.yes (not_wanted type_in _ c.in_err-second.field-0.0 c.in_err-second.ensures.found)))))
-
-pub expressions::cast-returns-in_err-new-clause-found : goal.expressions::cast-returns-in_err-new-clause-found
-expressions::cast-returns-in_err-new-clause-found t c =
-    let p = err_from_is_err_and c.from_residual-in_err-new.result c.from_residual-in_err-new.ensures.1 in
-    rw (p.1, p.2) (no_memory)
-
-pub expressions::cast-returns-clause-found : goal.expressions::cast-returns-clause-found
-expressions::cast-returns-clause-found t c = rw c.in_ok-new.ensures (read_on c.in_ok-operand.ensures.found (eaten m.Colons c.if-not-eat.ensures.yes (wanted type_in _ c.in_ok-first.ensures.found c.in_ok-first.ensures.rest (eaten m.Colons c.if-not-eat-2.ensures.yes (wanted type_in _ c.in_ok-second.ensures.found c.in_ok-second.ensures.rest (finished refl))))))
-
 pub primaries::cast_call-returns-in_err-expect-clause-found : goal.primaries::cast_call-returns-in_err-expect-clause-found
 primaries::cast_call-returns-in_err-expect-clause-found t c =
     let p = err_from_is_err_and c.from_residual.result c.from_residual.ensures.1 in
@@ -117,46 +88,6 @@ primaries::cast_call-returns-in_err-expect-3-clause-found t c =
 
 pub primaries::cast_call-returns-clause-found : goal.primaries::cast_call-returns-clause-found
 primaries::cast_call-returns-clause-found t c = eaten m.Open c.in_ok-expect.ensures.found (overlooked (sym c.if-sees_typed_parameter.ensures) (read_on c.in_ok-operand.ensures.found (eaten m.As c.in_ok-expect-2.ensures.found (wanted type_in _ c.in_ok-ty.ensures.found c.in_ok-ty.ensures.rest (eaten m.Close c.in_ok-expect-3.ensures.found (finished refl))))))
-
-pub expressions::chain-returns-in_err-first-clause-found : goal.expressions::chain-returns-in_err-first-clause-found
-expressions::chain-returns-in_err-first-clause-found t c =
-    let p = err_from_is_err_and c.from_residual.result c.from_residual.ensures.1 in
-    rw (p.1, p.2) (chain_fails c.level_of_operands.ensures c.in_err-first.ensures.found)
-
-pub expressions::chain-loop-op-init : goal.expressions::chain-loop-op-init
-expressions::chain-loop-op-init t c = record { begun = rw c.new-more.ensures (links_begin c.level_of_operands.ensures c.in_ok-first.ensures.found); shrinks = c.in_ok-first.ensures.shrinks }
-
-pub expressions::chain-returns-in_err-expression-clause-found : goal.expressions::chain-returns-in_err-expression-clause-found
-expressions::chain-returns-in_err-expression-clause-found t c =
-    let p = err_from_is_err_and c.from_residual-in_err-expression.result c.from_residual-in_err-expression.ensures.1 in
-    rw (p.1, p.2) (links_fail _ _ c.loop-op.invariant.begun c.in-Some.ensures.found c.in-Some.ensures.rest c.level_of_operands-in-Some.ensures c.in_err-expression.ensures.found)
-
-pub expressions::chain-loop-op-preserved : goal.expressions::chain-loop-op-preserved
-expressions::chain-loop-op-preserved t c = record { begun = rw c.in_ok-push.ensures.ok (links_more _ _ c.loop-op.invariant.begun c.in-Some.ensures.found c.in-Some.ensures.rest c.level_of_operands-in-Some.ensures c.in_ok-expression.ensures.found); shrinks = first_of (search rules, grind (arith, common_steps)) }
-
-pub expressions::chain-returns-in_err-push-clause-found : goal.expressions::chain-returns-in_err-push-clause-found
-expressions::chain-returns-in_err-push-clause-found t c =
-    let p = err_from_is_err_and c.from_residual-in_err-push.result c.from_residual-in_err-push.ensures.1 in
-    rw (p.1, p.2) (no_memory)
-
-pub expressions::chain-returns-clause-found : goal.expressions::chain-returns-clause-found
-expressions::chain-returns-clause-found t c = rw c.chain_of.ensures (links_end _ _ c.loop-op.invariant.begun c.in_default.ensures.found c.in_default.ensures.rest)
-
-pub expressions::compared-returns-in_err-left-clause-found : goal.expressions::compared-returns-in_err-left-clause-found
-expressions::compared-returns-in_err-left-clause-found t c =
-    let p = err_from_is_err_and c.from_residual.result c.from_residual.ensures.1 in
-    rw (p.1, p.2) (read_no c.in_err-left.ensures.found)
-
-pub expressions::compared-returns-in_err-operand-in-Some-clause-found : goal.expressions::compared-returns-in_err-operand-in-Some-clause-found
-expressions::compared-returns-in_err-operand-in-Some-clause-found t c =
-    let p = err_from_is_err_and c.from_residual-in_err-operand-in-Some.result c.from_residual-in_err-operand-in-Some.ensures.1 in
-    rw (p.1, p.2) (read_on c.in_ok-left.ensures.found (perhaps_found comparison_in _ (sym c.in-Some.ensures.found) c.in-Some.ensures.rest (read_no c.in_err-operand-in-Some.ensures.found)))
-
-pub expressions::compared-returns-in_ok-operand-in-Some-clause-found : goal.expressions::compared-returns-in_ok-operand-in-Some-clause-found
-expressions::compared-returns-in_ok-operand-in-Some-clause-found t c = read_on c.in_ok-left.ensures.found (perhaps_found comparison_in _ (sym c.in-Some.ensures.found) c.in-Some.ensures.rest (read_on c.in_ok-operand-in-Some.ensures.found (finished refl)))
-
-pub expressions::compared-returns-in-None-clause-found : goal.expressions::compared-returns-in-None-clause-found
-expressions::compared-returns-in-None-clause-found t c = rw c.into_inner.ensures (read_on c.in_ok-left.ensures.found (perhaps_missed comparison_in _ (sym c.in-None.ensures.found) c.in-None.ensures.rest (finished refl)))
 
 pub expressions::expression-returns-in-Or-clause-found : goal.expressions::expression-returns-in-Or-clause-found
 expressions::expression-returns-in-Or-clause-found t c = rw c.in-Or.is c.chain.ensures.found
@@ -337,14 +268,6 @@ primaries::case-returns-in_err-expect-2-clause-found t c =
 pub primaries::case-returns-clause-found : goal.primaries::case-returns-clause-found
 primaries::case-returns-clause-found t c = case_on c.in_ok-arms.ensures.found (λ e. c.if-is_empty.ensures.1 e) (eaten m.Else c.if-not-eat.ensures.yes (read_on c.in_ok-other.ensures.found (eaten m.End c.in_ok-expect-2.ensures.found (finished refl))))
 
-pub expressions::ranged-returns-in_err-operand-clause-found : goal.expressions::ranged-returns-in_err-operand-clause-found
-expressions::ranged-returns-in_err-operand-clause-found t c =
-    let p = err_from_is_err_and c.from_residual.result c.from_residual.ensures.1 in
-    rw (p.1, p.2) (read_no c.in_err-operand.ensures.found)
-
-pub expressions::ranged-returns-clause-found : goal.expressions::ranged-returns-clause-found
-expressions::ranged-returns-clause-found t c = read_on c.in_ok-operand.ensures.found (range_on _ _ _ _ _ _ c.eat-negated.ensures.yes c.eat-negated.ensures.no c.within.ensures.found)
-
 pub expressions::signed-returns-then-not-eat-clause-found : goal.expressions::signed-returns-then-not-eat-clause-found
 expressions::signed-returns-then-not-eat-clause-found t c = left m.Minus c.if-not-eat.ensures.no (levelled c.expression.ensures.found)
 
@@ -358,22 +281,6 @@ expressions::signed-returns-in_err-operand-clause-found t c =
 
 pub expressions::signed-returns-clause-found : goal.expressions::signed-returns-clause-found
 expressions::signed-returns-clause-found t c = eaten m.Minus c.if-not-eat.ensures.yes (overlooked c.if-eat_least.ensures.no.0 (read_on (moved c.if-eat_least.ensures.no.1 c.in_ok-operand.ensures.found) (finished refl)))
-
-pub expressions::tested-returns-in_err-operand-clause-found : goal.expressions::tested-returns-in_err-operand-clause-found
-expressions::tested-returns-in_err-operand-clause-found t c =
-    let p = err_from_is_err_and c.from_residual.result c.from_residual.ensures.1 in
-    rw (p.1, p.2) (read_no c.in_err-operand.ensures.found)
-
-pub expressions::tested-returns-then-not-eat-clause-found : goal.expressions::tested-returns-then-not-eat-clause-found
-expressions::tested-returns-then-not-eat-clause-found t c = rw c.into_inner.ensures (read_on c.in_ok-operand.ensures.found (left m.Is c.if-not-eat.ensures.no (finished refl)))
-
-pub expressions::tested-returns-in_err-test-clause-found : goal.expressions::tested-returns-in_err-test-clause-found
-expressions::tested-returns-in_err-test-clause-found t c =
-    let p = err_from_is_err_and c.from_residual-in_err-test.result c.from_residual-in_err-test.ensures.1 in
-    rw (p.1, p.2) (read_on c.in_ok-operand.ensures.found (eaten m.Is c.if-not-eat.ensures.yes (test_on _ _ _ _ _ _ c.eat-negated.ensures.yes c.eat-negated.ensures.no (not_wanted test_in _ c.in_err-test.field-0.0 c.in_err-test.ensures.found))))
-
-pub expressions::tested-returns-clause-found : goal.expressions::tested-returns-clause-found
-expressions::tested-returns-clause-found t c = read_on c.in_ok-operand.ensures.found (eaten m.Is c.if-not-eat.ensures.yes (test_on _ _ _ _ _ _ c.eat-negated.ensures.yes c.eat-negated.ensures.no (wanted test_in _ c.in_ok-test.ensures.found c.in_ok-test.ensures.rest (finished refl))))
 
 pub expressions::within-returns-in_err-expect-clause-found : goal.expressions::within-returns-in_err-expect-clause-found
 expressions::within-returns-in_err-expect-clause-found t c =
@@ -659,3 +566,112 @@ selects::key_of-returns-then-eat-clause-found t c = rw c.key_with.ensures (key_o
 
 pub selects::key_of-returns-clause-found : goal.selects::key_of-returns-clause-found
 selects::key_of-returns-clause-found t c = rw c.key_with-2.ensures (key_on c.in_ok-expr.ensures.found (rw c.get.ensures at c.if-is_number.ensures) (left m.Desc c.if-eat.ensures.no (direction _ _ _ _ c.eat-2.ensures.yes c.eat-2.ensures.no)))
+
+pub expressions::cast-returns-in_err-operand-clause-found : goal.expressions::cast-returns-in_err-operand-clause-found
+expressions::cast-returns-in_err-operand-clause-found t c =
+    let p = err_from_is_err_and c.from_residual.result c.from_residual.ensures.1 in
+    rw (p.1, p.2) (read_no c.in_err-operand.ensures.found)
+
+pub expressions::cast-returns-then-not-eat-clause-found : goal.expressions::cast-returns-then-not-eat-clause-found
+expressions::cast-returns-then-not-eat-clause-found t c = read_on c.in_ok-operand.ensures.found (left m.Colons c.if-not-eat.ensures.no (finished refl))
+
+pub expressions::cast-returns-in_err-new-clause-found : goal.expressions::cast-returns-in_err-new-clause-found
+expressions::cast-returns-in_err-new-clause-found t c =
+    let p = err_from_is_err_and c.from_residual-in_err-new.result c.from_residual-in_err-new.ensures.1 in
+    rw (p.1, p.2) (no_memory)
+
+pub expressions::cast-returns-clause-found : goal.expressions::cast-returns-clause-found
+expressions::cast-returns-clause-found t c = read_on c.in_ok-operand.ensures.found (eaten m.Colons c.if-not-eat.ensures.yes (rw c.in_ok-new.ensures at c.casts_of.ensures.found))
+
+pub expressions::chain-returns-in_err-first-clause-found : goal.expressions::chain-returns-in_err-first-clause-found
+expressions::chain-returns-in_err-first-clause-found t c =
+    let p = err_from_is_err_and c.from_residual.result c.from_residual.ensures.1 in
+    rw (p.1, p.2) (chain_fails c.requires.inner c.in_err-first.ensures.found)
+
+pub expressions::chain-returns-then-not-sees_operator-clause-found : goal.expressions::chain-returns-then-not-sees_operator-clause-found
+expressions::chain-returns-then-not-sees_operator-clause-found t c = chain_alone c.requires.inner c.in_ok-first.ensures.found c.if-not-sees_operator.ensures
+
+pub expressions::chain-returns-in_err-boxed-clause-found : goal.expressions::chain-returns-in_err-boxed-clause-found
+expressions::chain-returns-in_err-boxed-clause-found t c =
+    let p = err_from_is_err_and c.from_residual-in_err-boxed.result c.from_residual-in_err-boxed.ensures.1 in
+    rw (p.1, p.2) (no_memory)
+
+pub expressions::chain-returns-in_err-more-clause-found : goal.expressions::chain-returns-in_err-more-clause-found
+expressions::chain-returns-in_err-more-clause-found t c =
+    let p = err_from_is_err_and c.from_residual-in_err-more.result c.from_residual-in_err-more.ensures.1 in
+    rw (p.1, p.2) (chain_on c.requires.inner c.in_ok-first.ensures.found (read_no c.in_err-more.ensures.found))
+
+pub expressions::chain-returns-clause-found : goal.expressions::chain-returns-clause-found
+expressions::chain-returns-clause-found t c = rw (c.chain_of.ensures, c.in_ok-boxed.ensures) (chain_on c.requires.inner c.in_ok-first.ensures.found (read_on c.in_ok-more.ensures.found (finished refl)))
+
+pub expressions::links_of-loop-op-init : goal.expressions::links_of-loop-op-init
+expressions::links_of-loop-op-init t c = record { begun = rw c.new-found.ensures (links_begin _ _); shrinks = first_of (search rules, grind (arith, common_steps)) }
+
+pub expressions::links_of-returns-in_err-expression-clause-found : goal.expressions::links_of-returns-in_err-expression-clause-found
+expressions::links_of-returns-in_err-expression-clause-found t c =
+    let p = err_from_is_err_and c.from_residual.result c.from_residual.ensures.1 in
+    rw (p.1, p.2) (links_fail _ c.loop-op.invariant.begun c.in-Some.ensures.found c.in-Some.ensures.rest c.requires c.in_err-expression.ensures.found)
+
+pub expressions::links_of-loop-op-preserved : goal.expressions::links_of-loop-op-preserved
+expressions::links_of-loop-op-preserved t c = record { begun = rw c.in_ok-push.ensures.ok (links_more _ c.loop-op.invariant.begun c.in-Some.ensures.found c.in-Some.ensures.rest c.requires c.in_ok-expression.ensures.found); shrinks = first_of (search rules, grind (arith, common_steps)) }
+
+pub expressions::links_of-returns-in_err-push-clause-found : goal.expressions::links_of-returns-in_err-push-clause-found
+expressions::links_of-returns-in_err-push-clause-found t c =
+    let p = err_from_is_err_and c.from_residual-in_err-push.result c.from_residual-in_err-push.ensures.1 in
+    rw (p.1, p.2) (no_memory)
+
+pub expressions::links_of-returns-clause-found : goal.expressions::links_of-returns-clause-found
+expressions::links_of-returns-clause-found t c = links_end c.loop-op.invariant.begun c.in_default.ensures.found c.in_default.ensures.rest
+
+pub expressions::compared-returns-in_err-left-clause-found : goal.expressions::compared-returns-in_err-left-clause-found
+expressions::compared-returns-in_err-left-clause-found t c =
+    let p = err_from_is_err_and c.from_residual.result c.from_residual.ensures.1 in
+    rw (p.1, p.2) (read_no c.in_err-left.ensures.found)
+
+pub expressions::compared-returns-in_default-clause-found : goal.expressions::compared-returns-in_default-clause-found
+expressions::compared-returns-in_default-clause-found t c = read_on c.in_ok-left.ensures.found (perhaps_missed comparison_in _ (sym c.in_default.ensures.found) c.in_default.ensures.rest (finished refl))
+
+pub expressions::compared-returns-in_err-boxed-clause-found : goal.expressions::compared-returns-in_err-boxed-clause-found
+expressions::compared-returns-in_err-boxed-clause-found t c =
+    let p = err_from_is_err_and c.from_residual-in_err-boxed.result c.from_residual-in_err-boxed.ensures.1 in
+    rw (p.1, p.2) (no_memory)
+
+pub expressions::compared-returns-in_err-operand-clause-found : goal.expressions::compared-returns-in_err-operand-clause-found
+expressions::compared-returns-in_err-operand-clause-found t c =
+    let p = err_from_is_err_and c.from_residual-in_err-operand.result c.from_residual-in_err-operand.ensures.1 in
+    rw (p.1, p.2) (read_on c.in_ok-left.ensures.found (perhaps_found comparison_in _ (sym c.in-Some.ensures.found) c.in-Some.ensures.rest (read_no c.in_err-operand.ensures.found)))
+
+pub expressions::compared-returns-clause-found : goal.expressions::compared-returns-clause-found
+expressions::compared-returns-clause-found t c = rw c.in_ok-boxed.ensures (read_on c.in_ok-left.ensures.found (perhaps_found comparison_in _ (sym c.in-Some.ensures.found) c.in-Some.ensures.rest (read_on c.in_ok-operand.ensures.found (finished refl))))
+
+pub expressions::ranged-returns-in_err-operand-clause-found : goal.expressions::ranged-returns-in_err-operand-clause-found
+expressions::ranged-returns-in_err-operand-clause-found t c =
+    let p = err_from_is_err_and c.from_residual.result c.from_residual.ensures.1 in
+    rw (p.1, p.2) (read_no c.in_err-operand.ensures.found)
+
+pub expressions::ranged-returns-then-not-sees_range-clause-found : goal.expressions::ranged-returns-then-not-sees_range-clause-found
+expressions::ranged-returns-then-not-sees_range-clause-found t c = read_on c.in_ok-operand.ensures.found (unranged c.if-not-sees_range.ensures)
+
+pub expressions::ranged-returns-in_err-boxed-clause-found : goal.expressions::ranged-returns-in_err-boxed-clause-found
+expressions::ranged-returns-in_err-boxed-clause-found t c =
+    let p = err_from_is_err_and c.from_residual-in_err-boxed.result c.from_residual-in_err-boxed.ensures.1 in
+    rw (p.1, p.2) (no_memory)
+
+pub expressions::ranged-returns-clause-found : goal.expressions::ranged-returns-clause-found
+expressions::ranged-returns-clause-found t c = read_on c.in_ok-operand.ensures.found (range_on _ _ _ _ _ _ c.eat-negated.ensures.yes c.eat-negated.ensures.no (rw c.in_ok-boxed.ensures at c.within.ensures.found))
+
+pub expressions::tested-returns-in_err-operand-clause-found : goal.expressions::tested-returns-in_err-operand-clause-found
+expressions::tested-returns-in_err-operand-clause-found t c =
+    let p = err_from_is_err_and c.from_residual.result c.from_residual.ensures.1 in
+    rw (p.1, p.2) (read_no c.in_err-operand.ensures.found)
+
+pub expressions::tested-returns-then-not-eat-clause-found : goal.expressions::tested-returns-then-not-eat-clause-found
+expressions::tested-returns-then-not-eat-clause-found t c = read_on c.in_ok-operand.ensures.found (left m.Is c.if-not-eat.ensures.no (finished refl))
+
+pub expressions::tested-returns-in_err-new-clause-found : goal.expressions::tested-returns-in_err-new-clause-found
+expressions::tested-returns-in_err-new-clause-found t c =
+    let p = err_from_is_err_and c.from_residual-in_err-new.result c.from_residual-in_err-new.ensures.1 in
+    rw (p.1, p.2) (no_memory)
+
+pub expressions::tested-returns-clause-found : goal.expressions::tested-returns-clause-found
+expressions::tested-returns-clause-found t c = read_on c.in_ok-operand.ensures.found (eaten m.Is c.if-not-eat.ensures.yes (rw c.in_ok-new.ensures at c.test_of.ensures.found))

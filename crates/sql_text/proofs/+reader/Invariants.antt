@@ -1,5 +1,5 @@
 use Rattle.std.proofs.Common.{◌≤◌, length, ◌+◌, ◌-◌, ◌*◌}
-use Rattle.away_core.specs.Grammar.{rank}
+use Rattle.away_grammar.specs.Grammar.{rank}
 use Rattle.sql_text.proofs.Loops.{LinksLead, ListLeads, ArmsLead, ItemsLead, FromLead, KeysLead, SelectsLead}
 use Rattle.sql_text.proofs.+reader.Given as goal
 
@@ -11,6 +11,9 @@ decreases-expressions::operand l = 256 * length l.tokens.now + (202 - 4 * rank l
 
 abbrev pub decreases-expressions::chain : goal.decreases-expressions::chain
 decreases-expressions::chain l = 256 * length l.tokens.now + (200 - 4 * rank l.level)
+
+abbrev pub decreases-expressions::links_of : goal.decreases-expressions::links_of
+decreases-expressions::links_of l = 256 * length l.tokens.now + 2
 
 abbrev pub decreases-expressions::negation : goal.decreases-expressions::negation
 decreases-expressions::negation l = 256 * length l.tokens.now + 108
@@ -63,11 +66,11 @@ decreases-primaries::named l = 256 * length l.tokens.now + 3
 abbrev pub decreases-primaries::list_of : goal.decreases-primaries::list_of
 decreases-primaries::list_of l = 256 * length l.tokens.now + 119
 
-abbrev pub invariant-expressions::chain-loop-op : goal.invariant-expressions::chain-loop-op
-invariant-expressions::chain-loop-op l = record { begun : LinksLead l.level l.fn.tokens l.first l.more l.tokens; shrinks : length l.tokens ≤ length l.fn.tokens }
+abbrev pub invariant-expressions::links_of-loop-op : goal.invariant-expressions::links_of-loop-op
+invariant-expressions::links_of-loop-op l = record { begun : LinksLead l.level l.fn.tokens l.found l.tokens; shrinks : length l.tokens ≤ length l.fn.tokens }
 
-abbrev pub decreases-expressions::chain-loop-op : goal.decreases-expressions::chain-loop-op
-decreases-expressions::chain-loop-op l = length l.tokens
+abbrev pub decreases-expressions::links_of-loop-op : goal.decreases-expressions::links_of-loop-op
+decreases-expressions::links_of-loop-op l = length l.tokens
 
 abbrev pub invariant-primaries::list_of-loop-found : goal.invariant-primaries::list_of-loop-found
 invariant-primaries::list_of-loop-found l = record { begun : ListLeads l.fn.tokens l.found l.tokens; shrinks : length l.tokens ≤ length l.fn.tokens }

@@ -1,5 +1,5 @@
 use Rattle.std.proofs.Common.{◌≡◌, map, drop}
-use Rattle.away_core.specs.FunctionFile.{first_dollar}
+use Rattle.away_grammar.specs.FunctionFile.{first_dollar}
 use Rattle.away_lex.specs.Lexed.{seen}
 use Rattle.away_lex.proofs.function_file.first_dollar.Given as goal
 

@@ -1,5 +1,5 @@
 use Rattle.std.proofs.Common.{◌≡◌, ◌∙◌, sym, ap, map, Some, arith, option_map}
-use Rattle.away_core.specs.FunctionFile.{first_dollar}
+use Rattle.away_grammar.specs.FunctionFile.{first_dollar}
 use Rattle.away_lex.specs.Lexed.{seen}
 use Rattle.away_lex.proofs.Parts.{dollar_in, file_refused}
 use Rattle.away_lex.proofs.function_file.function_tokens.Goals as goal

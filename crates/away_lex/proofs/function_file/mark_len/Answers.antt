@@ -1,6 +1,6 @@
 use Rattle.std.proofs.Common.{◌∙◌, ap, drop}
 use Rattle.std.proofs.lemmas.List.{take_rest}
-use Rattle.away_lex.specs.declared.front.Class.TheVariants.{Name}
+use Rattle.away_lex.specs.declared.pieces.Class.TheVariants.{Name}
 use Rattle.away_lex.specs.Pieces.{run}
 use Rattle.away_lex.proofs.Quotes.{mark_len_is}
 use Rattle.away_lex.proofs.function_file.mark_len.Goals as goal

@@ -1,8 +1,8 @@
 use Rattle.std.proofs.Common.{◌≡◌, ◌∙◌, sym, ap, subst, map, List, Some, None, ◌∷◌, [], ◌++◌, append_assoc, Ok, Err}
 use Rattle.std.proofs.lemmas.List.{map-append}
 use Rattle.std.specs.Prelude.{Result, is_ok, is_err, if◌then◌else◌, false}
-use Rattle.away_core.specs.Tokens.{Lexes}
-use Rattle.away_core.specs.FunctionFile.{first_dollar}
+use Rattle.away_grammar.specs.Tokens.{Lexes}
+use Rattle.away_grammar.specs.FunctionFile.{first_dollar}
 use Rattle.away_lex.specs.Lexed.{Gives, seen}
 use Rattle.away_lex.proofs.Parts.{part_whole, part_cut, none_more}
 use Rattle.away_lex.proofs.function_file.part_tokens.Goals as goal

@@ -1,6 +1,6 @@
 use Rattle.std.proofs.Common.{ℕ, ◌≡◌, List, Option, None, length, ◌++◌, map}
-use Rattle.away_core.specs.Tokens.{Lexeme, Lexes}
-use Rattle.away_core.specs.FunctionFile.{first_dollar}
+use Rattle.away_grammar.specs.Tokens.{Lexeme, Lexes}
+use Rattle.away_grammar.specs.FunctionFile.{first_dollar}
 use Rattle.away_lex.specs.Lexed.{LexesFrom, seen}
 use Rattle.away_lex.proofs.function_file.part_tokens.Given as goal
 

@@ -1,6 +1,6 @@
 use Rattle.std.proofs.Common.{◌≡◌, MatchOption, subst, sym, ◌∙◌}
-use Rattle.away_core.specs.Words.{IsName}
-use Rattle.away_core.specs.Reserved.{folded}
+use Rattle.away_values.specs.Words.{IsName}
+use Rattle.away_grammar.specs.Reserved.{folded}
 use Rattle.away_lex.proofs.Folds.{folded_is_name}
 use Rattle.away_lex.proofs.words.folded.Goals as goal
 

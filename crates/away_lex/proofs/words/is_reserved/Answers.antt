@@ -3,7 +3,7 @@ use Rattle.std.proofs.lemmas.Iterator.{YieldsList-from_slice}
 use Rattle.std.proofs.lemmas.Iterator.Search.{any_from_yields_List}
 use Rattle.std.specs.Str.{str_eq_ignore_ascii_case}
 use borrow.Author.Tests.{tests}
-use Rattle.away_core.specs.Reserved.{is_reserved}
+use Rattle.away_grammar.specs.Reserved.{is_reserved}
 use Rattle.away_lex.proofs.words.is_reserved.Goals as goal
 
 pub returns : goal.returns

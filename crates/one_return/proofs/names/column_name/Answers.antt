@@ -1,7 +1,7 @@
 use Rattle.std.proofs.Common.{rules, ◌≡◌, ◌++◌, codes, subst, sym, arith}
 use Rattle.std.specs.Fmt.{decimal}
 use Rattle.std.proofs.lemmas.Grind.{common_steps}
-use Rattle.away_core.specs.Words.{IsName}
+use Rattle.away_values.specs.Words.{IsName}
 use Rattle.one_return.proofs.ColumnNames.{column_is_name}
 use Rattle.one_return.proofs.names.column_name.Goals as goal
 

@@ -1,5 +1,5 @@
 use Rattle.std.proofs.Common.{◌≡◌, map, take}
-use Rattle.away_core.specs.declared.queries.Expr.TheVariants as expr
+use Rattle.away_trees.specs.declared.queries.Expr.TheVariants as expr
 use Rattle.sql_meaning.specs.Trees.{item}
 use Rattle.one_return.specs.Written.{step_name}
 use Rattle.one_return.proofs.template.step_columns.Given as goal

@@ -2,7 +2,7 @@ use Rattle.std.proofs.Common.{sym}
 use Rattle.std.proofs.lemmas.Result.{err_from_is_err_and}
 use Rattle.sql_text.proofs.Steps.{eaten, refused, failed}
 use Rattle.plsql_parse.proofs.Words.{then_on, else_on}
-use Rattle.away_core.specs.declared.grammar.Mark.TheVariants as m
+use Rattle.away_grammar.specs.declared.grammar.Mark.TheVariants as m
 use Rattle.plsql_parse.proofs.attributes.longer_attribute.Goals as goal
 
 pub returns-in_err-expect-clause-found : goal.returns-in_err-expect-clause-found

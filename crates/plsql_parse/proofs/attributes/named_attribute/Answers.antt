@@ -1,8 +1,8 @@
 use Rattle.std.proofs.Common.{refl, sym, ◌∙◌, subst}
 use Rattle.sql_text.proofs.Steps.{finished}
 use Rattle.std.proofs.Common.{Ok}
-use Rattle.away_core.specs.FunctionGrammar.{attribute_of}
-use Rattle.away_core.specs.Reserved.{folded}
+use Rattle.away_grammar.specs.FunctionGrammar.{attribute_of}
+use Rattle.away_grammar.specs.Reserved.{folded}
 use Rattle.sql_text.specs.Plans.{Gives}
 use Rattle.plsql_parse.specs.Headers.{word_with}
 use Rattle.plsql_parse.specs.Plans.{any_plan}

@@ -1,5 +1,5 @@
 use Rattle.std.proofs.Common.{◌≡◌, ◌≤◌, take}
-use Rattle.away_core.specs.FunctionGrammar as g
+use Rattle.away_grammar.specs.FunctionGrammar as g
 use Rattle.plsql_parse.specs.HeaderRead.{of_group}
 use Rattle.plsql_parse.proofs.attributes.times.Given as goal
 

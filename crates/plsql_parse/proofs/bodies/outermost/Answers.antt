@@ -1,6 +1,6 @@
 use Rattle.std.proofs.Common.{refl}
 use Rattle.std.proofs.lemmas.Result.{err_from_is_err_and}
-use Rattle.away_core.specs.declared.grammar.Mark.TheVariants as m
+use Rattle.away_grammar.specs.declared.grammar.Mark.TheVariants as m
 use Rattle.sql_text.specs.Plans.{done}
 use Rattle.sql_text.proofs.Steps.{finished, read_on, read_no}
 use Rattle.plsql_parse.proofs.BodySteps.{eat_by}

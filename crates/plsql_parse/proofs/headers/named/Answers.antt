@@ -1,14 +1,14 @@
 use Rattle.std.proofs.Common.{refl, sym, ap, ◌∙◌}
 use Rattle.std.specs.Prelude.{codes}
 use Rattle.std.proofs.lemmas.Result.{err_from_is_err_and}
-use Rattle.away_core.specs.FunctionGrammar.{may_stand}
+use Rattle.away_grammar.specs.FunctionGrammar.{may_stand}
 use Rattle.sql_text.specs.Next.{type_in}
 use Rattle.sql_text.specs.Plans.{done}
 use Rattle.plsql_parse.specs.Headers.{function_with}
 use Rattle.plsql_parse.proofs.BodySteps.{eat_by}
 use Rattle.sql_text.proofs.Steps.{finished, read_on, read_no, wanted, not_wanted, failed}
 use Rattle.plsql_parse.proofs.Words.{word_eaten, word_refused, then_on, else_on}
-use Rattle.away_core.specs.declared.grammar.Mark.TheVariants as m
+use Rattle.away_grammar.specs.declared.grammar.Mark.TheVariants as m
 use Rattle.plsql_parse.proofs.headers.named.Goals as goal
 
 pub returns-in_err-params-clause-found : goal.returns-in_err-params-clause-found

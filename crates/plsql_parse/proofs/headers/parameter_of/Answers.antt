@@ -4,7 +4,7 @@ use Rattle.sql_text.specs.Next.{name_in, type_in}
 use Rattle.plsql_parse.specs.Headers.{typed_name_plan}
 use Rattle.plsql_parse.proofs.BodySteps.{eat_by}
 use Rattle.sql_text.proofs.Steps.{finished, wanted, not_wanted}
-use Rattle.away_core.specs.declared.grammar.Mark.TheVariants as m
+use Rattle.away_grammar.specs.declared.grammar.Mark.TheVariants as m
 use Rattle.plsql_parse.proofs.headers.parameter_of.Goals as goal
 
 pub returns-in_err-name-clause-found : goal.returns-in_err-name-clause-found

@@ -3,7 +3,7 @@ use Rattle.std.proofs.lemmas.Result.{err_from_is_err_and}
 use Rattle.sql_text.specs.Next.{name_in}
 use Rattle.sql_text.proofs.Steps.{eaten, left, wanted, not_wanted}
 use Rattle.plsql_parse.proofs.Words.{then_on, else_on}
-use Rattle.away_core.specs.declared.grammar.Mark.TheVariants as m
+use Rattle.away_grammar.specs.declared.grammar.Mark.TheVariants as m
 use Rattle.plsql_parse.proofs.headers.qualified.Goals as goal
 
 pub returns-in_err-first-clause-found : goal.returns-in_err-first-clause-found

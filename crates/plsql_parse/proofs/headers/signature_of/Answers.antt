@@ -1,7 +1,7 @@
 use Rattle.std.proofs.Common.{refl}
 use Rattle.std.proofs.lemmas.Result.{err_from_is_err_and}
 use Rattle.sql_text.proofs.Steps.{finished, eaten, left, read_on, read_no, refused}
-use Rattle.away_core.specs.declared.grammar.Mark.TheVariants as m
+use Rattle.away_grammar.specs.declared.grammar.Mark.TheVariants as m
 use Rattle.plsql_parse.proofs.headers.signature_of.Goals as goal
 
 pub returns-in_err-expect-clause-found : goal.returns-in_err-expect-clause-found

@@ -1,6 +1,6 @@
 use Rattle.std.proofs.Common.{◌≡◌, map, length}
-use Rattle.away_core.specs.OutsideWords.{first_outside}
-use Rattle.away_core.specs.Tokens.{AreSpelled}
+use Rattle.away_grammar.specs.OutsideWords.{first_outside}
+use Rattle.away_grammar.specs.Tokens.{AreSpelled}
 use Rattle.away_lex.specs.Lexed.{seen}
 use Rattle.plsql_parse.proofs.outside.first_outside.Given as goal
 

@@ -3,7 +3,7 @@ use Rattle.std.proofs.lemmas.Iterator.{YieldsList-from_slice}
 use Rattle.std.proofs.lemmas.Iterator.Search.{any_from_yields_List}
 use Rattle.std.specs.Str.{str_eq_ignore_ascii_case}
 use borrow.Author.Tests.{tests}
-use Rattle.away_core.specs.OutsideWords.{is_outside}
+use Rattle.away_grammar.specs.OutsideWords.{is_outside}
 use Rattle.plsql_parse.proofs.outside.is_outside.Goals as goal
 
 pub returns : goal.returns

@@ -1,5 +1,5 @@
 use Rattle.std.proofs.lemmas.Result.{err_from_is_err_and}
-use Rattle.away_core.specs.declared.grammar.Mark.TheVariants as m
+use Rattle.away_grammar.specs.declared.grammar.Mark.TheVariants as m
 use Rattle.sql_text.proofs.Steps.{eaten, refused}
 use Rattle.plsql_parse.proofs.BodySteps.{end_with}
 use Rattle.plsql_parse.proofs.statements.end_of.Goals as goal

@@ -1,5 +1,5 @@
 use Rattle.std.proofs.Common.{ap}
-use Rattle.away_core.proofs.Equations as eq
+use Rattle.away_trees.proofs.Equations as eq
 use Rattle.sql_meaning.specs.Meaning.{meaning}
 use Rattle.sql_meaning.proofs.Nodes as own
 use Rattle.sql_meaning.proofs.equations.aggregates_stand_outside_subqueries.Goals as goal

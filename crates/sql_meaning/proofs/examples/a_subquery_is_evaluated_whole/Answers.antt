@@ -1,6 +1,6 @@
 use Rattle.std.proofs.Common.{refl}
-use Rattle.away_core.specs.declared.queries.Expr.TheBlock as b
-use Rattle.away_core.specs.declared.queries.Expr.TheViews as view
+use Rattle.away_trees.specs.declared.queries.Expr.TheBlock as b
+use Rattle.away_trees.specs.declared.queries.Expr.TheViews as view
 use Rattle.sql_meaning.proofs.examples.a_subquery_is_evaluated_whole.Goals as goal
 
 pub returns-clause-two : goal.returns-clause-two

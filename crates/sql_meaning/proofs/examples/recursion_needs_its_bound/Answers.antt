@@ -1,6 +1,6 @@
 use Rattle.std.proofs.Common.{refl}
-use Rattle.away_core.specs.declared.queries.Expr.TheBlock as b
-use Rattle.away_core.specs.declared.queries.Expr.TheViews as view
+use Rattle.away_trees.specs.declared.queries.Expr.TheBlock as b
+use Rattle.away_trees.specs.declared.queries.Expr.TheViews as view
 use Rattle.sql_meaning.proofs.examples.recursion_needs_its_bound.Goals as goal
 
 pub returns-clause-call : goal.returns-clause-call

@@ -1,11 +1,12 @@
-use Rattle.sql_meaning.proofs.Sorting.{same_rows, in_order, stable}
+use Rattle.std.proofs.Common.{refl}
+use Rattle.sql_meaning.proofs.SortedRows.{sorted_by_keys, ordered_is}
 use Rattle.sql_meaning.proofs.laws.sorting_is_stable.Goals as goal
 
-pub returns-clause-same : goal.returns-clause-same
-returns-clause-same c = λ before xs test. same_rows before test xs
+pub returns-clause-sorted : goal.returns-clause-sorted
+returns-clause-sorted c = sorted_by_keys
 
-pub returns-clause-in_order : goal.returns-clause-in_order
-returns-clause-in_order c = λ before xs order. in_order before order xs
+pub returns-clause-rows : goal.returns-clause-rows
+returns-clause-rows c = ordered_is
 
-pub returns-clause-ties : goal.returns-clause-ties
-returns-clause-ties c = λ before xs keys order. stable before order keys xs
+pub returns-clause-no_key : goal.returns-clause-no_key
+returns-clause-no_key c = λ cx frames rows. refl

@@ -1,6 +1,6 @@
 use Rattle.std.proofs.Common.{refl}
-use Rattle.away_core.specs.declared.queries.Expr.TheBlock as b
-use Rattle.away_core.specs.declared.queries.Expr.TheViews as view
+use Rattle.away_trees.specs.declared.queries.Expr.TheBlock as b
+use Rattle.away_trees.specs.declared.queries.Expr.TheViews as view
 use Rattle.sql_meaning.proofs.places.places_are_computed.Goals as goal
 
 pub returns-clause-reads : goal.returns-clause-reads

@@ -1,5 +1,5 @@
 use Rattle.std.proofs.Common.{refl}
-use Rattle.away_core.specs.declared.grammar.Mark.TheVariants as m
+use Rattle.away_grammar.specs.declared.grammar.Mark.TheVariants as m
 use Rattle.sql_text.proofs.Steps.{finished}
 use Rattle.sql_text.proofs.Names.{eaten_or_left}
 use Rattle.sql_text.proofs.files.ended.Goals as goal

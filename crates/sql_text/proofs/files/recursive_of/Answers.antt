@@ -1,9 +1,8 @@
-use Rattle.std.proofs.Common.{refl, sym, ◌∙◌}
 use Rattle.std.proofs.lemmas.Result.{err_from_is_err_and}
-use Rattle.away_core.specs.declared.grammar.Mark.TheVariants as m
+use Rattle.away_grammar.specs.declared.grammar.Mark.TheVariants as m
 use Rattle.sql_text.specs.Next.{name_in}
-use Rattle.sql_text.proofs.Steps.{finished, eaten, read_on, read_no, wanted, not_wanted, refused}
-use Rattle.sql_text.proofs.Whole.{with_it, without_it}
+use Rattle.sql_text.proofs.Steps.{eaten, read_on, read_no, wanted, not_wanted, refused}
+use Rattle.sql_text.proofs.Whole.{made}
 use Rattle.sql_text.proofs.files.recursive_of.Goals as goal
 
 pub returns-in_err-expect-clause-found : goal.returns-in_err-expect-clause-found
@@ -56,8 +55,5 @@ returns-in_err-expect-7-clause-found c =
     let p = err_from_is_err_and c.from_residual-in_err-expect-7.result c.from_residual-in_err-expect-7.ensures.1 in
     rw (p.1, p.2) (eaten m.With c.in_ok-expect.ensures.found (eaten m.Recursive c.in_ok-expect-2.ensures.found (wanted name_in _ c.in_ok-name.ensures.found c.in_ok-name.ensures.rest (eaten m.Open c.in_ok-expect-3.ensures.found (read_on c.in_ok-columns.ensures.found (eaten m.Close c.in_ok-expect-4.ensures.found (eaten m.As c.in_ok-expect-5.ensures.found (eaten m.Open c.in_ok-expect-6.ensures.found (read_on c.in_ok-selects.ensures.found (refused m.Close c.in_err-expect-7.ensures.found))))))))))
 
-pub returns-in-None-clause-found : goal.returns-in-None-clause-found
-returns-in-None-clause-found c = eaten m.With c.in_ok-expect.ensures.found (eaten m.Recursive c.in_ok-expect-2.ensures.found (wanted name_in _ c.in_ok-name.ensures.found c.in_ok-name.ensures.rest (eaten m.Open c.in_ok-expect-3.ensures.found (read_on c.in_ok-columns.ensures.found (eaten m.Close c.in_ok-expect-4.ensures.found (eaten m.As c.in_ok-expect-5.ensures.found (eaten m.Open c.in_ok-expect-6.ensures.found (read_on c.in_ok-selects.ensures.found (eaten m.Close c.in_ok-expect-7.ensures.found (without_it _ _ (sym c.parted.ensures ∙ c.in-None.is)))))))))))
-
-pub returns-in-Some-clause-found : goal.returns-in-Some-clause-found
-returns-in-Some-clause-found c = eaten m.With c.in_ok-expect.ensures.found (eaten m.Recursive c.in_ok-expect-2.ensures.found (wanted name_in _ c.in_ok-name.ensures.found c.in_ok-name.ensures.rest (eaten m.Open c.in_ok-expect-3.ensures.found (read_on c.in_ok-columns.ensures.found (eaten m.Close c.in_ok-expect-4.ensures.found (eaten m.As c.in_ok-expect-5.ensures.found (eaten m.Open c.in_ok-expect-6.ensures.found (read_on c.in_ok-selects.ensures.found (eaten m.Close c.in_ok-expect-7.ensures.found (with_it _ _ (sym c.parted.ensures ∙ c.in-Some.is) (finished refl)))))))))))
+pub returns-clause-found : goal.returns-clause-found
+returns-clause-found c = eaten m.With c.in_ok-expect.ensures.found (eaten m.Recursive c.in_ok-expect-2.ensures.found (wanted name_in _ c.in_ok-name.ensures.found c.in_ok-name.ensures.rest (eaten m.Open c.in_ok-expect-3.ensures.found (read_on c.in_ok-columns.ensures.found (eaten m.Close c.in_ok-expect-4.ensures.found (eaten m.As c.in_ok-expect-5.ensures.found (eaten m.Open c.in_ok-expect-6.ensures.found (read_on c.in_ok-selects.ensures.found (eaten m.Close c.in_ok-expect-7.ensures.found (made _ _ _ c.recursive_with.ensures))))))))))

@@ -3,8 +3,8 @@ use Rattle.std.proofs.lemmas.Iterator.{YieldsList-from_slice}
 use Rattle.std.proofs.lemmas.Iterator.Search.{all_from_yields_List}
 use Rattle.std.specs.List.{list_all}
 use borrow.Author.Tests.{tests}
-use Rattle.away_core.specs.declared.queries.Select.{Select}
-use Rattle.away_core.specs.Grammar.{is_plain, may_join}
+use Rattle.away_trees.specs.declared.queries.Select.{Select}
+use Rattle.away_grammar.specs.Grammar.{is_plain, may_join}
 use Rattle.sql_text.proofs.leaves.may_join.Goals as goal
 
 several : (ss : List Select) → 2 ≤ length ss → list_all is_plain ss ≡ may_join ss

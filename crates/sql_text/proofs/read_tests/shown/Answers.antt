@@ -1,5 +1,5 @@
 use Rattle.std.proofs.Common.{map, subst, sym}
-use Rattle.away_core.specs.Tokens.{AreSpelled}
+use Rattle.away_grammar.specs.Tokens.{AreSpelled}
 use Rattle.away_lex.proofs.Reading.{are_spelled}
 use Rattle.away_lex.specs.Lexed.{seen}
 use Rattle.sql_text.proofs.read_tests.shown.Goals as goal

@@ -1,7 +1,7 @@
 use Rattle.std.proofs.Common.{rules, arith}
 use Rattle.std.proofs.lemmas.Grind.{common_steps}
 use Rattle.std.proofs.lemmas.Result.{err_from_is_err_and}
-use Rattle.away_core.specs.declared.grammar.Mark.TheVariants as m
+use Rattle.away_grammar.specs.declared.grammar.Mark.TheVariants as m
 use Rattle.sql_text.specs.Plans.{no_memory}
 use Rattle.sql_text.proofs.Steps.{eaten, read_on, read_no, refused}
 use Rattle.sql_text.proofs.Names.{name_read, name_missing}

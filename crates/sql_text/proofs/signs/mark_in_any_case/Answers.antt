@@ -1,8 +1,8 @@
 use Rattle.std.proofs.Common.{rules, ◌≡◌, ◌∙◌, sym, ℕ, List, [], get_or, Bor}
 use Rattle.std.specs.Str.{str_eq_ignore_ascii_case}
 use borrow.Author.Tests.{tests}
-use Rattle.away_core.specs.declared.grammar.Mark.{Mark}
-use Rattle.away_core.specs.declared.grammar.Mark.TheVariants as m
+use Rattle.away_grammar.specs.declared.grammar.Mark.{Mark}
+use Rattle.away_grammar.specs.declared.grammar.Mark.TheVariants as m
 use Rattle.sql_text.proofs.Marks.{mark_here, mark_next}
 use Rattle.sql_text.proofs.signs.mark_in_any_case.Goals as goal
 

@@ -1,8 +1,8 @@
 use Rattle.std.proofs.Common.{◌≡◌, Some, ap, sym, subst, ◌∙◌}
 use Rattle.std.proofs.lemmas.Bool.{OnTrue_from}
 use denote.Enum.Bare.{same_true}
-use Rattle.away_core.specs.contracts.grammar.Mark.{the_type}
-use Rattle.away_core.specs.Signs.{mark}
+use Rattle.away_grammar.specs.contracts.grammar.Mark.{the_type}
+use Rattle.away_grammar.specs.Signs.{mark}
 use Rattle.sql_text.specs.Plans.{first, Begins}
 use Rattle.sql_text.specs.Said.{said_next}
 use Rattle.sql_text.proofs.Places.{begins_first}

@@ -1,0 +1,13 @@
+pub mod Marks
+pub mod Spellings
+pub mod Tokens
+pub mod Nesting
+pub mod Reserved
+pub mod Spacing
+pub mod FunctionFile
+pub mod Signs
+pub mod Grammar
+pub mod Printing
+pub mod FunctionGrammar
+pub mod OutsideWords
+pub mod Texts

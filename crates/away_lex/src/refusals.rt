@@ -1,0 +1,48 @@
+//! Why a text has no tokens, and why a reader gives no tree.
+
+use away_values::Name;
+
+/// No token, white space or comment begins at this offset in bytes.
+#[derive(Clone, Copy, Debug)]
+pub struct BadToken {
+    pub offset: u64,
+}
+
+/// Why there is no token list.
+#[derive(Clone, Copy, Debug)]
+pub enum TokensRefusal {
+    /// The first bad token begins at this offset in bytes.
+    Bad { offset: u64 },
+    /// No memory was left.
+    NoMemory,
+}
+
+/// A limit of the readers.
+#[derive(Clone, Copy, Debug, PartialEq, Eq)]
+pub enum LimitKind {
+    /// The nesting of a token list.
+    Nesting,
+    /// The nodes of a function.
+    Nodes,
+    /// The parameters and variables of a function.
+    Variables,
+    /// The loops of a function.
+    Loops,
+}
+
+/// Why a reader gives no tree.
+#[derive(Drop)]
+pub enum ReadRefusal {
+    /// The bytes aren't UTF-8, or contain U+0000.
+    NotText,
+    /// No token begins at this offset in bytes.
+    Token { offset: u64 },
+    /// No tree reads the tokens.
+    NoTree,
+    /// A word of a form that isn't read stands there.
+    Outside { word: Name },
+    /// More was found than a limit allows.
+    Limit { which: LimitKind, found: u64 },
+    /// No memory was left.
+    NoMemory,
+}

@@ -1,0 +1,12 @@
+use Rattle.std.proofs.Common.{rules, sym, ◌∙◌, map}
+use Rattle.std.specs.String.{string_bytes}
+use Rattle.away_trees.specs.declared.schemas.TableSchema.{TableSchema}
+use Rattle.away_names.proofs.Doubles.{none_behind, none_left}
+use Rattle.away_names.proofs.schema_names.tables_doubled.Goals as goal
+
+pub returns : goal.returns
+returns c =
+    sym
+    (none_behind (map (λ (x : TableSchema). x.name) c.args.tables.now)
+    ∙ c.loop-rest.invariant
+    ∙ none_left (λ (x : TableSchema). x.name) (map string_bytes c.loop-rest.seen.keys) c.loop-rest.rest.now (search rules))

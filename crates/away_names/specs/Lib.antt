@@ -1,0 +1,10 @@
+pub mod Notes
+pub mod Functions
+pub mod Lookups
+pub mod Places
+pub mod Naming
+pub mod Trees
+pub mod NamingLists
+pub mod Schemas
+pub mod Tables
+pub mod Files

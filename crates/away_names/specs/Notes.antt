@@ -1,0 +1,58 @@
+-- A result beside what was found on the way to it: the least rule that is broken, and how often the recursive table is named.
+use Rattle.std.specs.Prelude.{ℕ, Bool, if◌then◌else◌, nat_le, List, [], ◌∷◌, ◌++◌, fold, Option, Some, None}
+use Rattle.away_names.specs.declared.note.Times.{Times}
+use Rattle.away_names.specs.declared.note.Times.TheVariants.{Never, Once, Often}
+use Rattle.away_names.specs.declared.note.Note.{Note}
+use Rattle.away_names.specs.declared.note.Named.{Named}
+
+unfoldable pub lesser : ℕ → ℕ → ℕ
+lesser a b = if nat_le a b then a else b
+
+unfoldable pub summed : Times → Times → Times
+summed Never b = b
+summed Once Never = Once
+summed Once b = Often
+summed Often b = Often
+
+-- nothing was found; 255 is no rule
+unfoldable pub clean : Note
+clean = record { least = 255; refers = Never }
+
+unfoldable pub joined : Note → Note → Note
+joined a b = record { least = lesser a.least b.least; refers = summed a.refers b.refers }
+
+-- the rule is broken where the test holds
+unfoldable pub breaks : ℕ → Bool → Note
+breaks rule test = record { least = if test then rule else 255; refers = Never }
+
+abbrev pub pure : {A : Type 0} → A → Named A
+pure x = record { it = x; note = clean }
+
+abbrev pub noted : {A : Type 0} → Note → A → Named A
+noted n x = record { it = x; note = n }
+
+abbrev pub mapped : {A B : Type 0} → (A → B) → Named A → Named B
+mapped f a = record { it = f a.it; note = a.note }
+
+abbrev pub also : {A : Type 0} → Note → Named A → Named A
+also n a = record { it = a.it; note = joined n a.note }
+
+-- two results, the left one first
+abbrev pub paired : {A B C : Type 0} → (A → B → C) → Named A → Named B → Named C
+paired f a b = record { it = f a.it b.it; note = joined a.note b.note }
+
+-- a further result at the end of a list
+abbrev pub added : {A : Type 0} → Named (List A) → Named A → Named (List A)
+added a x = record { it = a.it ++ x.it ∷ []; note = joined a.note x.note }
+
+-- from left to right
+abbrev pub each : {A B : Type 0} → (A → Named B) → List A → Named (List B)
+each f = fold (λ a x. added a (f x)) (pure [])
+
+abbrev pub held : {A B : Type 0} → (A → Named B) → Option A → Named (Option B)
+held f None = pure None
+held f (Some x) = mapped Some (f x)
+
+-- what is found at each
+abbrev pub all_notes : {A : Type 0} → (A → Note) → List A → Note
+all_notes f = fold (λ n x. joined n (f x)) clean

@@ -1,0 +1,128 @@
+//! What names in expressions stand for.
+
+ghost use Rattle.std.specs.Prelude.{◌≡◌, IfOk, is_some};
+ghost use Rattle.std.specs.Option.{option_copied};
+ghost use Rattle.away_names.specs.Naming as spec;
+ghost use Rattle.away_names.specs.Places.{scope};
+
+use crate::function::function;
+use crate::lookups::{column_dotted, column_named, is_kept, variable_named};
+use crate::note::{Column, Named, Note, breaks, clean, joined};
+use crate::scope::{Hit, Scope, Variable};
+use away_trees::Expr;
+use away_values::{Name, NoMemory};
+use std::alloc::Global;
+
+// ---- names as they are written
+
+#[tactic(auto, unfolding(crate::specs::Naming::written))]
+pub fn written(s: &Scope<'_>, n: &Name) -> Note
+    ensures { result ≡ spec.written (scope s.now) n.now }
+{
+    breaks(14, s.in_function && is_kept(n))
+}
+
+pub fn all_written(s: &Scope<'_>, names: &[Name]) -> Note
+    ensures { result ≡ spec.all_written (scope s.now) names.now }
+{
+    let mut note = clean();
+    for n in names {
+        note = joined(note, written(s, n));
+    }
+    note
+}
+
+#[tactic(auto, unfolding(crate::specs::Naming::maybe_written))]
+pub fn maybe_written(s: &Scope<'_>, n: &Option<Name>) -> Note
+    ensures { result ≡ spec.maybe_written (scope s.now) n.now }
+{
+    match n {
+        None => clean(),
+        Some(n) => written(s, n),
+    }
+}
+
+// ---- expressions
+
+#[tactic(auto, unfolding(crate::specs::Naming::slot_or))]
+fn slot_or(alloc: Global, n: &Name, v: Option<&Variable>) -> Result<Named<Expr>, NoMemory>
+    ensures { IfOk result (λ x. x ≡ spec.slot_or n.now (option_copied v.entry)) }
+{
+    match v {
+        Some(v) => Ok(Named {
+            it: Expr::Slot(v.slot),
+            note: clean(),
+        }),
+        None => Ok(Named {
+            it: Expr::Named(n.copy(alloc)?),
+            note: breaks(7, true),
+        }),
+    }
+}
+
+#[tactic(auto, unfolding(crate::specs::Naming::named_by))]
+fn named_by(
+    alloc: Global,
+    n: &Name,
+    hit: Option<Hit>,
+    v: Option<&Variable>,
+) -> Result<Named<Expr>, NoMemory>
+    ensures { IfOk result (λ x. x ≡ spec.named_by n.now hit (option_copied v.entry)) }
+{
+    match hit {
+        Some(hit) => Ok(Named {
+            it: Expr::Column(hit.column),
+            note: breaks(8, hit.many || v.is_some()),
+        }),
+        None => slot_or(alloc, n, v),
+    }
+}
+
+/// What a name alone stands for.
+#[tactic(auto, unfolding(crate::specs::Naming::named))]
+pub fn named(alloc: Global, n: &Name, s: &Scope<'_>) -> Result<Named<Expr>, NoMemory>
+    ensures { IfOk result (λ x. x ≡ spec.named n.now (scope s.now)) }
+{
+    let hit = column_named(n, s)?;
+    let x = named_by(alloc, n, hit, variable_named(n, s.variables))?;
+    Ok(Named {
+        it: x.it,
+        note: joined(written(s, n), x.note),
+    })
+}
+
+#[tactic(auto, unfolding(crate::specs::Naming::dotted_by))]
+fn dotted_by(alloc: Global, a: &Name, n: &Name, hit: Option<Hit>) -> Result<Named<Expr>, NoMemory>
+    ensures { IfOk result (λ x. x ≡ spec.dotted_by a.now n.now hit) }
+{
+    match hit {
+        Some(hit) => Ok(Named {
+            it: Expr::Column(hit.column),
+            note: clean(),
+        }),
+        None => Ok(Named {
+            it: Expr::Dotted(a.copy(alloc)?, n.copy(alloc)?),
+            note: breaks(7, true),
+        }),
+    }
+}
+
+/// What an alias with a column's name stands for.
+#[tactic(auto, unfolding(crate::specs::Naming::dotted))]
+pub fn dotted(alloc: Global, a: &Name, n: &Name, s: &Scope<'_>) -> Result<Named<Expr>, NoMemory>
+    ensures { IfOk result (λ x. x ≡ spec.dotted a.now n.now (scope s.now)) }
+{
+    let hit = column_dotted(a, n, s)?;
+    let x = dotted_by(alloc, a, n, hit)?;
+    Ok(Named {
+        it: x.it,
+        note: joined(joined(written(s, a), written(s, n)), x.note),
+    })
+}
+
+#[tactic(auto, unfolding(crate::specs::Naming::called))]
+pub fn called(s: &Scope<'_>, name: &Name) -> Note
+    ensures { result ≡ spec.called (scope s.now) name.now }
+{
+    joined(written(s, name), breaks(7, function(name).is_none()))
+}

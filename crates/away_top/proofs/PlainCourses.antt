@@ -1,0 +1,102 @@
+-- No command ends by itself in a read fault, in a write fault or for want of memory.
+use Rattle.std.proofs.Common.{◌≡◌, ◌≢◌, inl, inr, ℕ, ◌≤◌, List, [], ◌∷◌, Bool, true, false, cond, codes, subst, sym, ◌∙◌, arith}
+use Rattle.std.specs.Str.{bytes_eq}
+use Rattle.away_trees.specs.declared.schemas.Schema.{Schema}
+use Rattle.away_trees.specs.declared.statements.Function.{Function}
+use Rattle.away_top.specs.declared.outside.Files.{Ghosts as Files}
+use Rattle.away_top.specs.declared.status.Status.{Status}
+use Rattle.away_top.specs.declared.status.Status.TheVariants.{Done, Refused, Usage, ReadFault, WriteFault, NoMemory, More, Fault, NotAccepted, Shape}
+use Rattle.away_types.specs.FunctionChecks.{resolved_function}
+use Rattle.away_top.specs.Commands.{Compiles, compile_course, about_end, choice, course, usage}
+use Rattle.away_top.specs.Course.{Course, ends, gives, judges, reads, Exactly, RefusedBy}
+use Rattle.away_top.specs.Help.{help_text, version_text}
+use Rattle.away_top.specs.Lines.{line}
+use Rattle.away_top.specs.Outside.{Rose}
+use Rattle.away_top.specs.Refusals.{RefusesForm, RefusesFunction, RefusesSchema}
+use Rattle.away_top.specs.Runs.{ended, Follows}
+
+-- a status that a command ends with by itself
+abbrev pub IsPlain : Status → Type 0
+IsPlain Done = Unit {0}
+IsPlain Refused = Unit {0}
+IsPlain Usage = Unit {0}
+IsPlain ReadFault = ⊥
+IsPlain WriteFault = ⊥
+IsPlain NoMemory = ⊥
+IsPlain More = Unit {0}
+IsPlain Fault = Unit {0}
+IsPlain NotAccepted = Unit {0}
+IsPlain Shape = Unit {0}
+
+abbrev pub ArePlain : (Status → List ℕ → Type 0) → Type 0
+ArePlain E = (status : Status) (output : List ℕ) → E status output → IsPlain status
+
+abbrev pub IsPlainCourse : {A : Type 0} → Course A → Type 0
+IsPlainCourse (gives a) = Unit {0}
+IsPlainCourse (ends E) = ArePlain E
+IsPlainCourse (judges E W next) = ArePlain E × ((w : W) → IsPlainCourse (next w))
+IsPlainCourse (reads name limit next) = (bytes : List ℕ) → IsPlainCourse (next bytes)
+
+not_plain : (E : Status → List ℕ → Type 0) (bad status : Status) (output : List ℕ) → (IsPlain bad → ⊥) → status ≡ bad → ArePlain E → E status output → ⊥
+not_plain E bad status output unplain is plain e = unplain (subst IsPlain is (plain status output e))
+
+-- a read fault has its cause
+pub rises : {D A : Type 0} (F : Files D) (old now after : D) (c : Course A) (status : Status) (output : List ℕ) → F.faults old ≤ F.faults now → IsPlainCourse c
+    → status ≡ ReadFault → Follows F now c after (ended status output) → Rose (F.faults old) (F.faults after)
+rises F old now after (gives a) status output le plain is h = absurd h.how
+rises F old now after (ends E) status output le plain is h = absurd (not_plain E ReadFault status output (λ p. p) is plain h.how)
+rises F old now after (judges E W next) status output le plain is (inl h) = absurd (not_plain E ReadFault status output (λ p. p) is plain.0 h.how)
+rises F old now after (judges E W next) status output le plain is (inr (w, h)) = rises F old now after (next w) status output le (plain.1 w) is h
+rises F old now after (reads name limit next) status output le plain is (inl h) = absurd h.how
+rises F old now after (reads name limit next) status output le plain is (inr (middle, read, inl h)) = elim h.how [
+  | inl (u, e) ↦ subst (λ d. Rose (F.faults old) (F.faults d)) (sym h.same) (let rose = u.count in omega arith)
+  | inr (long, e) ↦ absurd (let refused : Refused ≡ ReadFault = sym e.0 ∙ is in cc)
+]
+rises F old now after (reads name limit next) status output le plain is (inr (middle, read, inr (bytes, holds, h))) =
+    rises F old middle after (next bytes) status output (let later = read.later in omega arith) (plain bytes) is h
+
+-- a run ends neither in want of memory nor in a write fault
+pub avoids : {D A : Type 0} (F : Files D) (now after : D) (c : Course A) (bad status : Status) (output : List ℕ) → (IsPlain bad → ⊥) → bad ≢ ReadFault → IsPlainCourse c
+    → status ≡ bad → Follows F now c after (ended status output) → ⊥
+avoids F now after (gives a) bad status output unplain other plain is h = h.how
+avoids F now after (ends E) bad status output unplain other plain is h = not_plain E bad status output unplain is plain h.how
+avoids F now after (judges E W next) bad status output unplain other plain is (inl h) = not_plain E bad status output unplain is plain.0 h.how
+avoids F now after (judges E W next) bad status output unplain other plain is (inr (w, h)) = avoids F now after (next w) bad status output unplain other (plain.1 w) is h
+avoids F now after (reads name limit next) bad status output unplain other plain is (inl h) = h.how
+avoids F now after (reads name limit next) bad status output unplain other plain is (inr (middle, read, inl h)) = elim h.how [
+  | inl (u, e) ↦ other (sym is ∙ e.0)
+  | inr (long, e) ↦ unplain (subst IsPlain (sym e.0 ∙ is) tt)
+]
+avoids F now after (reads name limit next) bad status output unplain other plain is (inr (middle, read, inr (bytes, holds, h))) =
+    avoids F middle after (next bytes) bad status output unplain other (plain bytes) is h
+
+-- ---- the commands
+
+plain_end : (s : Status) (o : List ℕ) → IsPlain s → ArePlain (Exactly s o)
+plain_end s o plain status output e = subst IsPlain (sym e.0) plain
+
+plain_refusal : (name : List ℕ) (Rules : List ℕ → Type 0) → ArePlain (RefusedBy name Rules)
+plain_refusal name Rules status output (rule, is, e) = subst IsPlain (sym e.0) tt
+
+plain_compiled : (name : List ℕ) (schema : Schema) (f : Function) (text : List ℕ) → ArePlain (Compiles name schema f text)
+plain_compiled name schema f text status output (inl refused) = plain_refusal name (RefusesForm f) status output refused
+plain_compiled name schema f text status output (inr (compiled, e)) = subst IsPlain (sym e.0) tt
+
+plain_choice : (b : Bool) (left right : List ℕ → Course ⊥) (text : List ℕ) → IsPlainCourse (left text) → IsPlainCourse (right text) → IsPlainCourse (choice b left right text)
+plain_choice true left right text p q = p
+plain_choice false left right text p q = q
+
+plain_pair : (b : Bool) (left right : Status × List ℕ) → IsPlain left.0 → IsPlain right.0 → IsPlain (cond b left right).0
+plain_pair true left right p q = p
+plain_pair false left right p q = q
+
+plain_about : (word : List ℕ) → IsPlain (about_end word).0
+plain_about word = plain_pair (bytes_eq word (codes "--help")) (Done, help_text) _ tt (plain_pair (bytes_eq word (codes "--version")) (Done, version_text) (Usage, line (codes "usage")) tt tt)
+
+plain_compile : (schema func text : List ℕ) → IsPlainCourse (compile_course schema func text)
+plain_compile schema func text = λ bytes. (plain_refusal schema (RefusesSchema bytes), λ s more. (plain_refusal func (RefusesFunction s.schema more), λ f. plain_compiled func s.schema (resolved_function s.schema f.written) text))
+
+pub plain_course : (words : List (List ℕ)) (text : List ℕ) → IsPlainCourse (course words text)
+plain_course (word ∷ []) text = plain_end (about_end word).0 (about_end word).1 (plain_about word)
+plain_course (command ∷ schema ∷ func ∷ []) text = plain_choice (bytes_eq command (codes "compile")) (compile_course schema func) (λ text. usage) text (plain_compile schema func text) (plain_end Usage (line (codes "usage")) tt)
+plain_course _ text = plain_end Usage (line (codes "usage")) tt

@@ -1,0 +1,12 @@
+use Rattle.std.proofs.Common.{inr, subst, sym}
+use Rattle.away_top.specs.Course.{RefusedBy}
+use Rattle.away_top.specs.Refusals.{IsSchema, RefusesSchema}
+use Rattle.away_top.specs.Runs.{Holds}
+use Rattle.away_top.proofs.Stretches.{judged_here}
+use Rattle.away_top.proofs.files.schema_of.Goals as goal
+
+pub returns : goal.returns
+returns g c =
+    let holds = subst (Holds (g.F.Files.held c.args.files.now c.args.name.now) 67108864) (sym c.deref.ensures.value) c.in_ok-bytes.ensures.bytes in
+    let judged = judged_here g.F.Files c.bytes_of.new.files (RefusedBy c.args.name.now (RefusesSchema c.deref.result.now)) (λ (s : IsSchema c.deref.result.now). s.schema) (λ x. x.schema) c.schema_in.result c.schema_in.ensures in
+    inr (c.bytes_of.new.files, c.bytes_of.ensures.read, inr (c.deref.result.now, holds, judged))

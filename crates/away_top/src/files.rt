@@ -1,0 +1,133 @@
+//! The files of a run: each is read and judged.
+
+ghost use Rattle.std.specs.Prelude.{◌≡◌, IfErr, IfOk};
+ghost use Rattle.away_trees.specs.Limits.{KeepsLimits};
+ghost use Rattle.away_types.specs.CheckedFunctions.{IsChecked};
+ghost use Rattle.away_types.specs.FunctionChecks.{function_note, resolved_function};
+ghost use Rattle.away_names.specs.Schemas.{schema_note};
+ghost use Rattle.away_top.specs.Commands.{function_course, schema_course};
+ghost use Rattle.away_top.specs.Course.{RefusedBy};
+ghost use Rattle.away_top.specs.Refusals.{BreaksRule, IsFunction, IsKept, IsSchema, RefusesFunction, RefusesSchema};
+ghost use Rattle.away_top.specs.Runs.{Follows, Holds, IsRead, StopsAt};
+ghost use Rattle.away_top.specs.Steps.{IsHalt, IsJudged, ReadRefused, stretch_end};
+
+use crate::ending::{
+    Ending, Halt, refused, refused_limit, refused_rule, refused_token, refused_word, unreadable,
+};
+use crate::{Files, ReadError};
+use away_lex::ReadRefusal;
+use away_trees::{Function, Schema};
+use away_types::{CheckedFunction, CheckedSchema, RuleRefusal, check_function, check_schema};
+use plsql_parse::read_function;
+use sql_text::read_schema;
+use sqlite_items::Boxed;
+use std::alloc::{AllocError, Global};
+
+/// The most bytes of a schema.
+const MAX_SCHEMA: u64 = 67_108_864;
+
+/// The most bytes of a function's file.
+const MAX_FUNCTION: u64 = 1_048_576;
+
+/// The schema that a file reads as, judged.
+pub fn schema_of<F: Files>(alloc: Global, name: &str, files: &mut F) -> Result<CheckedSchema, Halt>
+    ensures { Follows F.Files files.old (schema_course name.now) files.new (stretch_end (λ c. c.schema) result) }
+{
+    let bytes = bytes_of(alloc, name, MAX_SCHEMA, files)?;
+    schema_in(alloc, name, &bytes)
+}
+
+/// The function that a file reads as, judged over the tables of the schema.
+pub fn function_of<F: Files>(
+    alloc: Global,
+    tables: &CheckedSchema,
+    name: &str,
+    files: &mut F,
+) -> Result<Boxed<CheckedFunction>, Halt>
+    ensures { Follows F.Files files.old (function_course tables.now.schema name.now) files.new
+        (stretch_end (λ c. c.function) result) }
+{
+    let bytes = bytes_of(alloc, name, MAX_FUNCTION, files)?;
+    function_in(alloc, tables, name, &bytes)
+}
+
+fn schema_in(alloc: Global, name: &str, bytes: &[u8]) -> Result<CheckedSchema, Halt>
+    ensures { IsJudged (RefusedBy name.now (RefusesSchema bytes.now))
+        (λ c. (s : IsSchema bytes.now) × (c.schema ≡ s.schema)) result }
+{
+    match read_schema(alloc, bytes) {
+        Ok(schema) => checked_schema(alloc, name, schema),
+        Err(error) => Err(Halt::Ended(refuse(alloc, name, error)?)),
+    }
+}
+
+fn checked_schema(alloc: Global, name: &str, schema: Schema) -> Result<CheckedSchema, Halt>
+    ensures { IsJudged (RefusedBy name.now (BreaksRule (schema_note schema))) (λ c. IsKept schema c.schema) result }
+{
+    match check_schema(alloc, schema) {
+        Ok(checked) => Ok(checked),
+        Err(RuleRefusal::Rule(rule)) => Err(Halt::Ended(refused_rule(alloc, name, rule)?)),
+        Err(RuleRefusal::NoMemory) => Err(Halt::NoMemory),
+    }
+}
+
+fn function_in(
+    alloc: Global,
+    tables: &CheckedSchema,
+    name: &str,
+    bytes: &[u8],
+) -> Result<Boxed<CheckedFunction>, Halt>
+    ensures { IsJudged (RefusedBy name.now (RefusesFunction tables.now.schema bytes.now))
+        (λ c. (f : IsFunction tables.now.schema bytes.now)
+        × (c.function ≡ resolved_function tables.now.schema f.written)) result }
+{
+    match read_function(alloc, bytes) {
+        Ok(function) => checked_function(alloc, tables, name, function),
+        Err(error) => Err(Halt::Ended(refuse(alloc, name, error)?)),
+    }
+}
+
+fn checked_function(
+    alloc: Global,
+    tables: &CheckedSchema,
+    name: &str,
+    function: Function,
+) -> Result<Boxed<CheckedFunction>, Halt>
+    requires { KeepsLimits function }
+    ensures { IsJudged (RefusedBy name.now (BreaksRule (function_note tables.now.schema function)))
+        (λ c. IsChecked tables.now.schema function c.function c.slots) result }
+{
+    match check_function(alloc, tables, function) {
+        Ok(checked) => Ok(Boxed::new(alloc, checked)?),
+        Err(RuleRefusal::Rule(rule)) => Err(Halt::Ended(refused_rule(alloc, name, rule)?)),
+        Err(RuleRefusal::NoMemory) => Err(Halt::NoMemory),
+    }
+}
+
+/// The bytes of a file that has at most so many.
+fn bytes_of<F: Files>(alloc: Global, name: &str, limit: u64, files: &mut F) -> Result<Vec<u8>, Halt>
+    ensures read { IsRead F.Files files.old name.now files.new }
+    ensures bytes { IfOk result (λ bytes. Holds (F.held files.old name.now) limit bytes.items) }
+    ensures stops { IfErr result (IsHalt (StopsAt F.Files files.old name.now limit files.new)) }
+{
+    match files.read(alloc, name, limit) {
+        Ok(bytes) => Ok(bytes),
+        Err(ReadError::Long(_)) => Err(Halt::Ended(refused(alloc, name, b"LONG")?)),
+        Err(ReadError::Failed) => Err(Halt::Ended(unreadable(alloc, name)?)),
+        Err(ReadError::NoMemory) => Err(Halt::NoMemory),
+    }
+}
+
+/// How the run ends where a reader refuses a file.
+fn refuse(alloc: Global, name: &str, error: ReadRefusal) -> Result<Ending, AllocError>
+    ensures { IfOk result (ReadRefused name.now error) }
+{
+    match error {
+        ReadRefusal::NotText => refused(alloc, name, b"X1"),
+        ReadRefusal::Token { offset } => refused_token(alloc, name, offset),
+        ReadRefusal::NoTree => refused(alloc, name, b"X3"),
+        ReadRefusal::Outside { word } => refused_word(alloc, name, &word),
+        ReadRefusal::Limit { which, found } => refused_limit(alloc, name, which, found),
+        ReadRefusal::NoMemory => Err(AllocError),
+    }
+}

@@ -1,0 +1,4 @@
+pub mod Equations
+pub mod AlgebraEquations
+pub mod StatementEquations
+pub mod CountLemmas

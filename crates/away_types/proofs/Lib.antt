@@ -1,0 +1,2 @@
+pub mod ResolvingRules
+pub mod AskingRules

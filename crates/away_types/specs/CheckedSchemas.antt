@@ -1,0 +1,12 @@
+-- What a checked schema is.
+use Rattle.std.specs.Prelude.{◌≡◌, Bool, true, List}
+use Rattle.std.specs.List.{list_all}
+use Rattle.away_trees.specs.declared.schemas.ColumnSchema.{ColumnSchema}
+use Rattle.away_trees.specs.declared.schemas.Schema.{Schema}
+use Rattle.away_trees.specs.declared.schemas.TableSchema.{TableSchema}
+use Rattle.away_names.specs.Schemas.{schema_note}
+use Rattle.away_types.specs.Refusals.{IsUnbroken}
+
+-- Tables have names of their own, and so have the columns of a table; none of them begins as the query's own.
+pub record IsCheckedSchema (s : Schema) : Type 0 where
+  pub unbroken : IsUnbroken (schema_note s)

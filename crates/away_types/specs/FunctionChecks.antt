@@ -1,0 +1,74 @@
+-- A function with what its names stand for, its slots, and the least rule that it breaks. A rule above the least may be judged wrongly, which shows
+-- nowhere.
+use Rattle.std.specs.Prelude.{true, false, List, [], ◌++◌, map, fold}
+use Rattle.away_values.specs.declared.types.Ty.{Ty}
+use Rattle.away_trees.specs.declared.schemas.Schema.{Schema}
+use Rattle.away_trees.specs.declared.statements.Function.{Function}
+use Rattle.away_trees.specs.declared.statements.Stmt.{Stmt}
+use Rattle.away_names.specs.declared.note.Note.{Note}
+use Rattle.away_names.specs.Notes.{joined, breaks, all_notes}
+use Rattle.away_names.specs.Lookups.{Name}
+use Rattle.away_names.specs.Schemas.{kept}
+use Rattle.away_names.specs.Tables.{outermost}
+use Rattle.away_typing.specs.Wholes.{column_types}
+use Rattle.away_types.specs.declared.slots.Slot.{Slot}
+use Rattle.away_types.specs.declared.slots.Slots.{Slots}
+use Rattle.away_types.specs.declared.resolved.Resolved.{Resolved}
+use Rattle.away_types.specs.declared.parameters.Start.{Start}
+use Rattle.away_types.specs.StatementRules.{takes_twice}
+use Rattle.away_types.specs.Statements.{Spot, with_slot, with_variable}
+use Rattle.away_types.specs.ResolvedBodies.{resolved_stmt}
+use Rattle.away_types.specs.StatementTypes.{Asked, asked_stmt}
+
+-- ---- names
+
+abbrev pub with_param : Start → Name × Ty → Start
+with_param s p = record { slots = with_slot p.1 false s.slots; variables = with_variable p.0 false s.slots s.variables }
+
+-- the parameters have the first slots
+abbrev pub start : List (Name × Ty) → Start
+start params = fold with_param (record { slots = record { shown = []; hidden = [] }; variables = [] }) params
+
+-- what a function's statements see: its parameters and the tables
+abbrev pub entry : Schema → List (Name × Ty) → Spot
+entry s params = record { scope = record (outermost s) { in_function = true; variables = (start params).variables }; around = [] }
+
+abbrev pub body_of : Schema → Function → Resolved Stmt
+body_of s f = resolved_stmt (entry s f.params) (start f.params).slots f.body
+
+abbrev pub in_order : Slots → List Slot
+in_order slots = slots.shown ++ slots.hidden
+
+-- parameters, declarations and FOR variables, and behind them what is hidden
+abbrev pub slots_of : Schema → Function → List Slot
+slots_of s f = in_order (body_of s f).slots
+
+abbrev pub resolved_function : Schema → Function → Function
+resolved_function s f = record f { body = (body_of s f).it }
+
+-- ---- types
+
+abbrev pub slot_types : List Slot → List Ty
+slot_types = map (λ (x : Slot). x.ty)
+
+-- the types of slots and tables, and the type of the result
+abbrev pub asked_in : Schema → List Slot → Ty → Asked
+asked_in s slots result = record { places = record { slots = slot_types slots; frames = []; tables = column_types s }; result = result }
+
+-- ---- rules
+
+abbrev pub params_note : List (Name × Ty) → Note
+params_note params = joined (breaks 6 (takes_twice params)) (all_notes (λ p. kept p.0) params)
+
+abbrev pub head_note : Function → Note
+head_note f = joined (kept f.name) (params_note f.params)
+
+-- of a resolved body over its slots
+abbrev pub body_note : Schema → List Slot → Ty → Stmt → Note
+body_note s slots result body = asked_stmt (asked_in s slots result) body
+
+abbrev pub types_note : Schema → Function → Note
+types_note s f = body_note s (slots_of s f) f.result (body_of s f).it
+
+abbrev pub function_note : Schema → Function → Note
+function_note s f = joined (head_note f) (joined (body_of s f).note (types_note s f))

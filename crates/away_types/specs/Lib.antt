@@ -1,0 +1,10 @@
+pub mod StatementRules
+pub mod Statements
+pub mod ResolvedBodies
+pub mod StatementTypes
+pub mod AskedBy
+pub mod FunctionChecks
+pub mod Refusals
+pub mod CheckedFunctions
+pub mod CheckedSchemas
+pub mod CheckedQueries

@@ -1,0 +1,165 @@
+//! The check of functions.
+
+ghost use Rattle.std.specs.Prelude.{◌≡◌, ◌++◌, [], true, IfOk, IfErr};
+ghost use Rattle.indexmap.specs.IndexMap.{get_by_text};
+ghost use Rattle.away_types.specs.ResolvedBodies.{spot as spot_of};
+ghost use Rattle.away_types.specs.CheckedFunctions.{IsChecked};
+ghost use Rattle.away_types.specs.FunctionChecks as spec;
+ghost use Rattle.away_trees.specs.Limits.{KeepsLimits};
+ghost use Rattle.away_types.specs.Refusals.{Refuses};
+
+use crate::around::Spot;
+use crate::checked::RuleRefusal;
+use crate::checked_function::CheckedFunction;
+use crate::checked_schema::CheckedSchema;
+use crate::parameters::{Start, kept, params_note, started};
+use crate::resolved::Resolved;
+use crate::resolving::resolved_stmt;
+use crate::slots::{Slot, Slots};
+use crate::statement_types::{Asking, asked_stmt};
+use away_names::note::{Note, joined};
+use away_names::scope::{Listed, Scope, Tables, Variable};
+use away_names::tables::tables_of;
+use away_trees::{Function, Schema, Stmt};
+use away_typing::recursion::column_types;
+use away_typing::types::Places;
+use away_values::{NoMemory, Ty};
+use indexmap::IndexMap;
+use sqlite_items::{Boxed, Items};
+use std::alloc::Global;
+
+/// The body, the slots and the least rule that is broken.
+#[derive(Drop)]
+struct Verdict {
+    body: Boxed<Stmt>,
+    slots: Items<Slot>,
+    note: Note,
+}
+
+/// What a function's statements see.
+#[tactic(auto, unfolding(away_names::specs::Places::tables))]
+fn entry<'a>(known: &'a IndexMap<String, Listed>, variables: &'a [Variable]) -> Spot<'a>
+    ensures { spot_of result ≡ record { scope = record { table = λ n. get_by_text known.now n; levels = []; variables = variables.now; in_function = true }; around = [] } }
+{
+    Spot {
+        scope: Scope {
+            tables: Tables {
+                schema: known,
+                working: None,
+            },
+            levels: &[],
+            variables,
+            in_function: true,
+        },
+        around: &[],
+    }
+}
+
+fn body_of(alloc: Global, s: &Schema, f: &Function) -> Result<Resolved<Stmt>, NoMemory>
+    ensures { IfOk result (λ x. x ≡ spec.body_of s.now f.now) }
+{
+    let known = tables_of(alloc, s)?;
+    let Start { slots, variables } = started(alloc, f.params.as_slice())?;
+    let spot = entry(&known, variables.as_slice());
+    resolved_stmt(alloc, &f.body, &spot, slots)
+}
+
+fn with_all(first: Items<Slot>, more: &[Slot]) -> Result<Items<Slot>, NoMemory>
+    ensures { IfOk result (λ all. all ≡ first ++ more.now) }
+{
+    let mut all = first;
+    for x in more {
+        all.push(*x)?;
+    }
+    Ok(all)
+}
+
+fn in_order(slots: Slots) -> Result<Items<Slot>, NoMemory>
+    ensures { IfOk result (λ all. all ≡ spec.in_order slots) }
+{
+    let Slots { shown, hidden } = slots;
+    with_all(shown, hidden.as_slice())
+}
+
+fn slot_types(alloc: Global, slots: &[Slot]) -> Result<Items<Ty>, NoMemory>
+    ensures { IfOk result (λ all. all ≡ spec.slot_types slots.now) }
+{
+    let mut all = Items::new(alloc);
+    for x in slots {
+        all.push(x.ty)?;
+    }
+    Ok(all)
+}
+
+fn types_note(
+    alloc: Global,
+    s: &Schema,
+    slots: &[Slot],
+    answer: Ty,
+    body: &Stmt,
+) -> Result<Note, NoMemory>
+    ensures { IfOk result (λ n. n ≡ spec.body_note s.now slots.now answer body.now) }
+{
+    let columns = column_types(alloc, s)?;
+    let types = slot_types(alloc, slots)?;
+    let a = Asking {
+        places: Places {
+            slots: types.as_slice(),
+            frames: &[],
+            tables: columns.as_slice(),
+        },
+        result: answer,
+    };
+    asked_stmt(alloc, &a, body)
+}
+
+fn head_note(f: &Function) -> Note
+    ensures { result ≡ spec.head_note f.now }
+{
+    joined(kept(&f.name), params_note(f.params.as_slice()))
+}
+
+fn judged(alloc: Global, s: &Schema, f: &Function) -> Result<Verdict, NoMemory>
+    ensures { IfOk result (λ x. x ≡ record { body = (spec.body_of s.now f.now).it; slots = spec.slots_of s.now f.now; note = spec.function_note s.now f.now }) }
+{
+    let Resolved { it, note, slots } = body_of(alloc, s, f)?;
+    let body = Boxed::new(alloc, it)?;
+    let slots = in_order(slots)?;
+    let types = types_note(alloc, s, slots.as_slice(), f.result, body.get())?;
+    Ok(Verdict {
+        body,
+        slots,
+        note: joined(head_note(f), joined(note, types)),
+    })
+}
+
+/// The function with what its names stand for, where it breaks no rule.
+pub fn check_function(
+    alloc: Global,
+    s: &CheckedSchema,
+    f: Function,
+) -> Result<CheckedFunction, RuleRefusal>
+    requires { KeepsLimits f }
+    ensures ok { IfOk result (λ c. IsChecked s.now.schema f c.function c.slots) }
+    ensures err { IfErr result (λ e. Refuses (spec.function_note s.now.schema f) e) }
+{
+    match judged(alloc, &s.schema, &f) {
+        Err(NoMemory) => Err(RuleRefusal::NoMemory),
+        Ok(Verdict { body, slots, note }) => {
+            if note.least == 255 {
+                Ok(CheckedFunction {
+                    function: Function {
+                        name: f.name,
+                        strict: f.strict,
+                        params: f.params,
+                        result: f.result,
+                        body: body.into_inner(),
+                    },
+                    slots,
+                })
+            } else {
+                Err(RuleRefusal::Rule(note.least))
+            }
+        }
+    }
+}

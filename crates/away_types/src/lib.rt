@@ -1,0 +1,35 @@
+//! The checks of schemas, functions and queries.
+#![tactic(auto)]
+
+mod around;
+mod checked;
+mod checked_function;
+mod checked_query;
+mod checked_schema;
+mod declarations;
+mod function_check;
+mod labels;
+mod laws;
+mod parameters;
+mod query_check;
+mod raising;
+mod resolved;
+mod resolving;
+mod schema_check;
+mod slots;
+mod statement_types;
+mod steps;
+mod variables;
+
+pub use checked::RuleRefusal;
+pub use checked_function::CheckedFunction;
+pub use checked_query::CheckedQuery;
+pub use checked_schema::CheckedSchema;
+pub use function_check::check_function;
+pub use laws::a_query_has_one_checked_tree;
+pub use query_check::check_query;
+pub use schema_check::check_schema;
+pub use slots::Slot;
+
+#[cfg(test)]
+mod query_tests;

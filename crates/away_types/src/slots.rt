@@ -1,0 +1,18 @@
+//! The slots of a function.
+
+use away_values::Ty;
+use sqlite_items::Items;
+
+/// A variable of a function, by its type and whether it is NOT NULL.
+#[derive(Clone, Copy, Debug, PartialEq, Eq)]
+pub struct Slot {
+    pub ty: Ty,
+    pub not_null: bool,
+}
+
+/// The variables so far, and the hidden ones of each FOR.
+#[derive(Drop)]
+pub struct Slots {
+    pub shown: Items<Slot>,
+    pub hidden: Items<Slot>,
+}

@@ -1,0 +1,158 @@
+//! The types that statements ask of their expressions, and where aggregates may not stand.
+
+ghost use Rattle.std.specs.Prelude.{◌≡◌, IfOk};
+ghost use Rattle.away_types.specs.AskedBy.{asked_by};
+ghost use Rattle.away_types.specs.StatementTypes as spec;
+
+use away_names::note::{Note, breaks, clean, joined};
+use away_trees::{Arm, Decl, Expr, LoopKind, Stmt};
+use away_typing::kind::fits;
+use away_typing::types::{Places, kind};
+use away_typing::uses::{outside, used};
+use away_values::{NoMemory, Ty};
+use std::alloc::Global;
+
+/// What the expressions of a function see, and the type of its result.
+#[derive(Clone, Copy)]
+pub struct Asking<'a> {
+    pub places: Places<'a>,
+    pub result: Ty,
+}
+
+#[tactic(auto, unfolding(crate::specs::StatementTypes::asked))]
+fn asked(alloc: Global, a: &Asking<'_>, ty: Ty, e: &Expr) -> Result<Note, NoMemory>
+    ensures { IfOk result (λ n. n ≡ spec.asked (asked_by a.now) ty e.now) }
+{
+    let k = kind(alloc, e, &a.places)?;
+    let u = used(e)?;
+    Ok(joined(
+        breaks(13, !fits(ty, k) || u.limited),
+        breaks(15, outside(u).misused),
+    ))
+}
+
+fn maybe_asked(alloc: Global, a: &Asking<'_>, ty: Ty, e: &Option<Expr>) -> Result<Note, NoMemory>
+    ensures { IfOk result (λ n. n ≡ spec.maybe_asked (asked_by a.now) ty e.now) }
+{
+    match e {
+        None => Ok(clean()),
+        Some(e) => asked(alloc, a, ty, e),
+    }
+}
+
+fn slot_type(a: &Asking<'_>, slot: Option<u32>) -> Option<Ty>
+    ensures { result ≡ spec.slot_of (asked_by a.now) slot }
+{
+    match slot {
+        None => None,
+        Some(i) => a.places.slots.get(i as usize).copied(),
+    }
+}
+
+#[tactic(auto, unfolding(crate::specs::StatementTypes::asked_of_slot))]
+fn asked_of_slot(alloc: Global, a: &Asking<'_>, ty: Option<Ty>, e: &Expr) -> Result<Note, NoMemory>
+    ensures { IfOk result (λ n. n ≡ spec.asked_of_slot (asked_by a.now) ty e.now) }
+{
+    match ty {
+        None => Ok(breaks(13, true)),
+        Some(ty) => asked(alloc, a, ty, e),
+    }
+}
+
+fn defaults(alloc: Global, decls: &[Decl], a: &Asking<'_>) -> Result<Note, NoMemory>
+    ensures { IfOk result (λ n. n ≡ spec.defaults decls.now (asked_by a.now)) }
+{
+    let mut note = clean();
+    for d in decls {
+        note = joined(note, maybe_asked(alloc, a, d.ty, &d.default)?);
+    }
+    Ok(note)
+}
+
+fn head_asked(alloc: Global, kind: &LoopKind, a: &Asking<'_>) -> Result<Note, NoMemory>
+    ensures { IfOk result (λ n. n ≡ spec.head_asked kind.now (asked_by a.now)) }
+{
+    match kind {
+        LoopKind::Plain => Ok(clean()),
+        LoopKind::While(e) => asked(alloc, a, Ty::Boolean, e),
+        LoopKind::Count {
+            first,
+            last,
+            step,
+            ..
+        } => {
+            let x = asked(alloc, a, Ty::Bigint, first)?;
+            let y = asked(alloc, a, Ty::Bigint, last)?;
+            let z = maybe_asked(alloc, a, Ty::Bigint, step)?;
+            Ok(joined(x, joined(y, z)))
+        }
+    }
+}
+
+/// The least rule that the types of a statement break.
+#[cycle(asking)]
+#[tactic(auto, using(crate::proofs::AskingRules::asking_rules))]
+pub fn asked_stmt(alloc: Global, a: &Asking<'_>, s: &Stmt) -> Result<Note, NoMemory>
+    ensures { IfOk result (λ n. n ≡ spec.asked_stmt (asked_by a.now) s.now) }
+{
+    match s {
+        Stmt::Block { decls, body, .. } => {
+            let x = defaults(alloc, decls.as_slice(), a)?;
+            let y = asked_body(alloc, a, body.as_slice())?;
+            Ok(joined(x, y))
+        }
+        Stmt::Assign(_, slot, e) => asked_of_slot(alloc, a, slot_type(a, *slot), e),
+        Stmt::If(arms, other) | Stmt::Cases(arms, other) => {
+            let x = asked_arms(alloc, a, arms.as_slice())?;
+            match other {
+                None => Ok(joined(x, clean())),
+                Some(body) => {
+                    let y = asked_body(alloc, a, body.as_slice())?;
+                    Ok(joined(x, y))
+                }
+            }
+        }
+        Stmt::Loop { kind, body, .. } => {
+            let x = head_asked(alloc, kind, a)?;
+            let y = asked_body(alloc, a, body.as_slice())?;
+            Ok(joined(x, y))
+        }
+        Stmt::Exit(_, when) | Stmt::Continue(_, when) => maybe_asked(alloc, a, Ty::Boolean, when),
+        Stmt::Return(e) => asked(alloc, a, a.result, e),
+        Stmt::Raise(_) => Ok(clean()),
+        Stmt::Into { .. } => Ok(breaks(13, true)),
+        Stmt::Nothing => Ok(clean()),
+    }
+}
+
+#[cycle(asking)]
+fn asked_body(alloc: Global, a: &Asking<'_>, list: &[Stmt]) -> Result<Note, NoMemory>
+    ensures { IfOk result (λ n. n ≡ spec.asked_body (asked_by a.now) list.now) }
+{
+    let mut note = clean();
+    for s in list {
+        note = joined(note, asked_stmt(alloc, a, s)?);
+    }
+    Ok(note)
+}
+
+#[cycle(asking)]
+fn asked_arms(alloc: Global, a: &Asking<'_>, list: &[Arm]) -> Result<Note, NoMemory>
+    ensures { IfOk result (λ n. n ≡ spec.asked_arms (asked_by a.now) list.now) }
+{
+    let mut note = clean();
+    for arm in list {
+        note = joined(note, asked_arm(alloc, a, arm)?);
+    }
+    Ok(note)
+}
+
+#[cycle(asking)]
+#[tactic(auto, using(crate::proofs::AskingRules::arm_asks))]
+fn asked_arm(alloc: Global, a: &Asking<'_>, arm: &Arm) -> Result<Note, NoMemory>
+    ensures { IfOk result (λ n. n ≡ spec.asked_arm (asked_by a.now) arm.now) }
+{
+    let test = asked(alloc, a, Ty::Boolean, &arm.test)?;
+    let body = asked_body(alloc, a, arm.body.as_slice())?;
+    Ok(joined(test, body))
+}

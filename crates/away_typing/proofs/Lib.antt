@@ -1,0 +1,3 @@
+pub mod TypingRules
+pub mod UsesRules
+pub mod ParameterRules

@@ -1,0 +1,9 @@
+pub mod Kinds
+pub mod Aggregates
+pub mod Typing
+pub mod Trees
+pub mod TypingLists
+pub mod UsesLists
+pub mod Parameters
+pub mod ParameterLists
+pub mod Wholes

@@ -1,0 +1,202 @@
+//! The types of expressions, for parts whose types are found.
+
+ghost use Rattle.std.specs.Prelude.{◌≡◌, slice_get};
+ghost use Rattle.std.specs.Option.{option_copied};
+ghost use Rattle.away_typing.specs.Kinds as kinds;
+ghost use Rattle.away_typing.specs.Typing as spec;
+ghost use Rattle.away_typing.specs.TypingLists.{places};
+
+use crate::kind::{Kind, fits, is_right, meet, of_type, only_if, same, settled};
+use crate::types::Places;
+use away_names::function::Known;
+use away_trees::Col;
+use away_values::{ChainOp, IsTest, Ty};
+use sqlite_items::Items;
+
+// ---- expressions
+
+#[tactic(auto, unfolding(crate::specs::Typing::kind_at))]
+pub fn slot(i: u32, p: &Places<'_>) -> Kind
+    ensures { result ≡ spec.kind_at (slice_get (places p.now).slots i) }
+{
+    match p.slots.get(i as usize) {
+        None => Kind::Wrong,
+        Some(t) => of_type(*t),
+    }
+}
+
+fn frame_at<'a>(p: &Places<'a>, level: usize) -> Option<&'a Items<Items<Ty>>>
+    ensures { option_copied result ≡ slice_get (places p.now).frames level }
+{
+    p.frames.get(level).copied()
+}
+
+#[tactic(auto, unfolding(crate::specs::Typing::column, crate::specs::Typing::kind_at))]
+pub fn column(c: Col, p: &Places<'_>) -> Kind
+    ensures { result ≡ spec.column (places p.now).frames c }
+{
+    let Some(frame) = frame_at(p, c.level as usize) else {
+        return Kind::Wrong;
+    };
+    let Some(item) = sqlite_items::at(frame.as_slice(), c.item as usize) else {
+        return Kind::Wrong;
+    };
+    let Some(t) = sqlite_items::at(item.as_slice(), c.column as usize) else {
+        return Kind::Wrong;
+    };
+    of_type(*t)
+}
+
+#[tactic(auto, unfolding(crate::specs::Typing::pair))]
+pub fn pair(op: ChainOp, a: Kind, b: Kind) -> Kind
+    ensures { result ≡ spec.pair op a b }
+{
+    match op {
+        ChainOp::Or | ChainOp::And => only_if(
+            fits(Ty::Boolean, a) && fits(Ty::Boolean, b),
+            Kind::Of(Ty::Boolean),
+        ),
+        ChainOp::Concat => only_if(
+            (fits(Ty::Text, a) || fits(Ty::Text, b)) && (is_right(a) && is_right(b)),
+            Kind::Of(Ty::Text),
+        ),
+        ChainOp::Int(_) => only_if(
+            fits(Ty::Bigint, a) && fits(Ty::Bigint, b),
+            Kind::Of(Ty::Bigint),
+        ),
+        ChainOp::Small(_) => Kind::Wrong,
+    }
+}
+
+#[tactic(auto, unfolding(crate::specs::Typing::passed))]
+pub fn passed(test: IsTest, k: Kind) -> bool
+    ensures { result ≡ spec.passed test k }
+{
+    match test {
+        IsTest::Null => is_right(k),
+        IsTest::True | IsTest::False => fits(Ty::Boolean, k),
+    }
+}
+
+#[tactic(auto, unfolding(crate::specs::Typing::castable))]
+fn castable(from: Ty, to: Ty) -> bool
+    ensures { result ≡ spec.castable from to }
+{
+    match to {
+        Ty::Text => true,
+        Ty::Bigint | Ty::Boolean | Ty::Integer => same(from, to),
+    }
+}
+
+#[tactic(auto, unfolding(crate::specs::Typing::cast_kind))]
+pub fn cast_kind(to: Ty, k: Kind) -> Kind
+    ensures { result ≡ spec.cast_kind to k }
+{
+    match k {
+        Kind::Null => of_type(to),
+        Kind::Sum => match to {
+            Ty::Bigint => Kind::Of(Ty::Bigint),
+            Ty::Boolean | Ty::Text | Ty::Integer => Kind::Wrong,
+        },
+        Kind::Wrong => Kind::Wrong,
+        Kind::Of(from) => only_if(castable(from, to), of_type(to)),
+    }
+}
+
+pub fn common(list: &[Kind]) -> Kind
+    ensures { result ≡ kinds.common list.now }
+{
+    let mut k = Kind::Null;
+    for j in list {
+        k = meet(k, *j);
+    }
+    k
+}
+
+pub fn kind_or_null(k: Option<Kind>) -> Kind
+    ensures { result ≡ spec.kind_or_null k }
+{
+    match k {
+        None => Kind::Null,
+        Some(k) => k,
+    }
+}
+
+#[tactic(auto, unfolding(crate::specs::Typing::is_ordered))]
+fn is_ordered(k: Kind) -> bool
+    ensures { result ≡ spec.is_ordered k }
+{
+    match k {
+        Kind::Of(Ty::Boolean) => false,
+        _ => is_right(k),
+    }
+}
+
+#[tactic(auto, unfolding(crate::specs::Typing::call_kind))]
+fn call_kind(f: Known, list: &[Kind]) -> Kind
+    ensures { result ≡ spec.call_kind f list.now }
+{
+    match f {
+        Known::Coalesce | Known::Greatest | Known::Least => settled(common(list)),
+        Known::Length => match list {
+            [a] => only_if(fits(Ty::Text, *a), Kind::Of(Ty::Bigint)),
+            _ => Kind::Wrong,
+        },
+        Known::Substr => match list {
+            [a, b, c] => only_if(
+                fits(Ty::Text, *a) && (fits(Ty::Bigint, *b) && fits(Ty::Bigint, *c)),
+                Kind::Of(Ty::Text),
+            ),
+            _ => Kind::Wrong,
+        },
+        Known::Count => match list {
+            [a] => only_if(is_right(*a), Kind::Of(Ty::Bigint)),
+            _ => Kind::Wrong,
+        },
+        Known::BoolAnd | Known::BoolOr => match list {
+            [a] => only_if(fits(Ty::Boolean, *a), Kind::Of(Ty::Boolean)),
+            _ => Kind::Wrong,
+        },
+        Known::Min | Known::Max => match list {
+            [a] => only_if(is_ordered(*a), settled(*a)),
+            _ => Kind::Wrong,
+        },
+        Known::Sum => match list {
+            [a] => only_if(fits(Ty::Bigint, *a), Kind::Sum),
+            _ => Kind::Wrong,
+        },
+    }
+}
+
+#[tactic(auto, unfolding(crate::specs::Typing::called))]
+pub fn called(f: Option<Known>, list: &[Kind]) -> Kind
+    ensures { result ≡ spec.called f list.now }
+{
+    match f {
+        None => Kind::Wrong,
+        Some(f) => call_kind(f, list),
+    }
+}
+
+#[tactic(auto, unfolding(crate::specs::Typing::scalar_kind))]
+pub fn scalar_kind(shape: &Option<Items<Ty>>) -> Kind
+    ensures { result ≡ spec.scalar_kind shape.now }
+{
+    match shape {
+        None => Kind::Wrong,
+        Some(types) => match types.as_slice() {
+            [t] => Kind::Of(*t),
+            _ => Kind::Wrong,
+        },
+    }
+}
+
+#[tactic(auto, unfolding(crate::specs::Typing::exists_kind, crate::specs::Kinds::only_if))]
+pub fn exists_kind(shape: &Option<Items<Ty>>) -> Kind
+    ensures { result ≡ spec.exists_kind shape.now }
+{
+    match shape {
+        None => Kind::Wrong,
+        Some(_) => Kind::Of(Ty::Boolean),
+    }
+}

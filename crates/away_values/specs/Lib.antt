@@ -1,0 +1,10 @@
+pub mod Words
+pub mod Results
+pub mod Classes
+pub mod Operators
+pub mod Values
+pub mod BigintSpellings
+pub mod OrderLaws
+pub mod ArithmeticLaws
+pub mod ValueLaws
+pub mod FaultLaws

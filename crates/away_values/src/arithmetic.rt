@@ -1,0 +1,64 @@
+//! Arithmetic on integers.
+
+ghost use Rattle.std.specs.Prelude.{◌≡◌};
+ghost use Rattle.away_values.specs.Operators.{int_op as int_value, int_result as int_answer, small as small_value};
+
+use crate::operators::IntOp;
+use crate::values::{Class, Value};
+
+const OUT_OF_RANGE: Class = Class { code: *b"22003" };
+
+const DIVISION_BY_ZERO: Class = Class { code: *b"22012" };
+
+/// Applies the operator to two bigints; NULL where an operand is NULL (PostgreSQL manual, Mathematical Functions and
+/// Operators). 22003 is a result out of range, 22012 a zero divisor.
+pub fn int_op(op: IntOp, a: &Value, b: &Value) -> Result<Value, Class>
+    ensures { result ≡ int_value op a.now b.now }
+{
+    match a {
+        Value::Int(x) => match b {
+            Value::Int(y) => int_result(op, *x, *y),
+            _ => Ok(Value::Null),
+        },
+        _ => Ok(Value::Null),
+    }
+}
+
+fn int_result(op: IntOp, a: i64, b: i64) -> Result<Value, Class>
+    ensures { result ≡ int_answer op a b }
+{
+    let exact = match op {
+        IntOp::Add => a.checked_add(b),
+        IntOp::Sub => a.checked_sub(b),
+        IntOp::Mul => a.checked_mul(b),
+        IntOp::Div => {
+            if b == 0 {
+                return Err(DIVISION_BY_ZERO);
+            }
+            a.checked_div(b)
+        }
+        IntOp::Rem => {
+            if b == 0 {
+                return Err(DIVISION_BY_ZERO);
+            }
+            if b == -1 { Some(0) } else { a.checked_rem(b) }
+        }
+    };
+    match exact {
+        Some(n) => Ok(Value::Int(n)),
+        None => Err(OUT_OF_RANGE),
+    }
+}
+
+/// The value as an integer of 32 bits: itself, or 22003 where it is a number outside -2147483648 to 2147483647.
+pub fn small(v: &Value) -> Result<Value, Class>
+    ensures { result ≡ small_value v.now }
+{
+    match v {
+        Value::Int(n) => match i32::try_from(*n) {
+            Ok(_) => Ok(Value::Int(*n)),
+            Err(_) => Err(OUT_OF_RANGE),
+        },
+        _ => Ok(Value::Null),
+    }
+}

@@ -1,0 +1,8 @@
+mod BigintParses
+mod TextParses
+mod CellFacts
+mod RowSteps
+mod RecordSteps
+mod Fitting
+mod WorkedFiles
+mod FirstDecide

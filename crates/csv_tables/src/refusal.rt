@@ -1,0 +1,40 @@
+//! Why a file is no table.
+
+use away_values::NoMemory;
+use std::alloc::AllocError;
+
+/// Why a file holds no rows for a table. Rows are counted from 1 below the header, and columns from 1.
+#[derive(Clone, Copy, Debug, PartialEq, Eq)]
+pub enum TableRefusal {
+    /// No record, or the first isn't the names of the columns in their order.
+    Header,
+    /// The row has another number of fields than the table has columns.
+    Count { row: u64 },
+    /// The field is no spelling of a value of the column's type.
+    Cell { row: u64, column: u64 },
+    /// The field is NULL in a column that is NOT NULL.
+    NullCell { row: u64, column: u64 },
+    NoMemory,
+}
+
+impl From<NoMemory> for TableRefusal {
+    ghost use Rattle.std.specs.Prelude.{◌≡◌};
+    ghost use Rattle.csv_tables.specs.declared.refusal.TableRefusal.TheVariants.{NoMemory};
+
+    ghost from_gives = { λ _ e. e ≡ NoMemory };
+
+    fn from(_error: NoMemory) -> TableRefusal {
+        TableRefusal::NoMemory
+    }
+}
+
+impl From<AllocError> for TableRefusal {
+    ghost use Rattle.std.specs.Prelude.{◌≡◌};
+    ghost use Rattle.csv_tables.specs.declared.refusal.TableRefusal.TheVariants.{NoMemory};
+
+    ghost from_gives = { λ _ e. e ≡ NoMemory };
+
+    fn from(_error: AllocError) -> TableRefusal {
+        TableRefusal::NoMemory
+    }
+}

@@ -1,0 +1,14 @@
+//! The aggregates.
+
+/// An aggregate: the number of rows, or, of the values that aren't NULL, their number, the least, the greatest, whether all are true, whether one
+/// is, or their sum.
+#[derive(Clone, Copy)]
+pub enum Fold {
+    CountRows,
+    Count,
+    Min,
+    Max,
+    BoolAnd,
+    BoolOr,
+    Sum,
+}

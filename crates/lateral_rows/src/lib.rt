@@ -1,0 +1,29 @@
+//! The parts of a select over rows that are there: the product, the filter, the order, the cut and the aggregates.
+#![tactic(auto)]
+
+mod aggregates;
+mod cutting;
+mod extremes;
+mod folds;
+mod keeping;
+mod laws;
+mod ordering;
+mod rows;
+mod sums;
+mod truth;
+mod value_order;
+mod widening;
+
+pub use aggregates::Fold;
+pub use cutting::{cut, cut_off};
+pub use extremes::most_extreme;
+pub use folds::fold;
+pub use keeping::keep;
+pub use laws::{columns_keep_their_places, conditions_keep_rows, the_product_extends_rows};
+pub use ordering::{order, ordered_rows};
+pub use rows::{Rows, copied};
+pub use truth::{is_null, is_true};
+pub use widening::extend;
+
+#[cfg(test)]
+mod tests;

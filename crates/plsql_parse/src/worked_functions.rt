@@ -1,0 +1,33 @@
+//! Worked functions and their trees.
+
+ghost use Rattle.std.specs.Prelude.{[]};
+ghost use Rattle.away_trees.specs.declared.statements.Stmt.{Stmt};
+ghost use Rattle.away_grammar.specs.FunctionGrammar.{ReadsPart, body, function};
+ghost use Rattle.away_trees.specs.WorkedFunctions.{collatz, walk};
+ghost use Rattle.plsql_parse.specs.WorkedTokens.{OutsideWordsFound};
+ghost use Rattle.plsql_parse.specs.WorkedSigns.{collatz_body, collatz_outer, many_signs, many_statements, unpaired_signs, walk_body, walk_outer};
+
+/// The two lists of signs of a function with a WHILE loop and an IF read as its tree.
+pub fn a_function_with_while_reads()
+    ensures { ReadsPart body collatz_body collatz.body [] × ReadsPart (function collatz.body) collatz_outer collatz [] }
+{}
+
+/// So do those of a function with labels, FOR loops, EXIT and a query, and with many attributes.
+pub fn a_function_with_for_reads()
+    ensures { ReadsPart body walk_body walk.body [] × ReadsPart (function walk.body) walk_outer walk [] }
+{}
+
+/// A body with statements of every other kind reads as its tree.
+pub fn every_kind_of_statement_reads()
+    ensures { ReadsPart body many_signs many_statements [] }
+{}
+
+/// A CASE isn't ended by the END of END LOOP.
+pub fn end_loop_ends_no_case()
+    ensures { (x : Stmt) → ¬ (ReadsPart body unpaired_signs x []) }
+{}
+
+/// The words outside the profile are found in any case, those of the outer list first, and EXCEPTION only before WHEN.
+pub fn words_outside_are_found()
+    ensures { OutsideWordsFound }
+{}

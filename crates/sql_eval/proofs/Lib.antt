@@ -1,0 +1,6 @@
+pub mod ListSteps
+pub mod Digits
+pub mod PublicRules
+pub mod ClassRules
+pub mod LengthRules
+pub mod LeastBounds

@@ -1,0 +1,4 @@
+pub mod Scopes
+pub mod Called
+pub mod Classes
+pub mod Lengths

@@ -1,0 +1,25 @@
+//! The evaluator of expressions, selects and queries.
+#![tactic(auto)]
+
+mod aggregates;
+mod answers;
+mod classes;
+mod eval;
+mod expressions;
+mod frames;
+mod functions;
+mod lengths;
+mod operators;
+mod row_lists;
+mod scope;
+mod selects;
+mod shared_rows;
+mod tables;
+mod working;
+
+pub use answers::{rows, run_query};
+pub use expressions::{Frames, eval_expr};
+pub use lengths::query_length;
+
+#[cfg(test)]
+mod tests;

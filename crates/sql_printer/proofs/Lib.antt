@@ -1,0 +1,14 @@
+pub mod PrintLevels
+pub mod PrintExpressions
+pub mod PrintQueries
+pub mod PrintBack
+pub mod PrintClear
+pub mod PrintClearQueries
+pub mod PrintSpoken
+pub mod PrintTokens
+pub mod PrintTexts
+pub mod TextSigns
+pub mod Adding
+pub mod Doubled
+pub mod LaidOut
+pub mod PrintNodes

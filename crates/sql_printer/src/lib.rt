@@ -1,0 +1,19 @@
+//! Queries as text.
+#![tactic(auto)]
+
+mod layout;
+mod names_and_literals;
+mod operators;
+mod print_laws;
+mod printing;
+mod sign_list;
+mod spelling;
+
+pub use print_laws::{
+    printed_expressions_read_back, printed_queries_read_back, printing_reads_back,
+    queries_that_were_read_print_back, signs_of_texts_are_spoken,
+};
+pub use printing::print_query;
+
+#[cfg(test)]
+mod print_tests;
