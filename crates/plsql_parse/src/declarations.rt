@@ -7,12 +7,12 @@ ghost use Rattle.plsql_parse.specs.Sorts.{AnyTree, part};
 ghost use Rattle.plsql_parse.specs.Bodies.{decls_plan, decl_plan, typed_plan, valued_plan, default_plan, default_value};
 ghost use Rattle.plsql_parse.specs.Plans.{any_plan};
 
-use crate::expressions::{unboxed, value_of};
+use crate::expressions::value_of;
 use crate::lookahead::sees_name;
 use away_grammar::Mark;
 use away_trees::{Decl, Expr};
 use away_values::{Name, Ty};
-use sql_text::{Cursor, Refusal};
+use sql_text::{Cursor, Refusal, unboxed};
 use sqlite_items::{Boxed, Items};
 use std::alloc::Global;
 

@@ -8,12 +8,12 @@ ghost use Rattle.plsql_parse.specs.Sorts.{AnyTree, part};
 ghost use Rattle.plsql_parse.specs.Bodies.{kind_plan, while_plan, counted_plan, step_plan};
 ghost use Rattle.plsql_parse.specs.Plans.{any_plan};
 
-use crate::expressions::{unboxed, value_of};
+use crate::expressions::value_of;
 use crate::lookahead::sees_loop;
 use away_grammar::Mark;
 use away_trees::{Expr, LoopKind};
 use away_values::Name;
-use sql_text::{Cursor, Refusal};
+use sql_text::{Cursor, Refusal, unboxed};
 use sqlite_items::Boxed;
 use std::alloc::Global;
 

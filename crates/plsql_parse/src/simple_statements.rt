@@ -10,12 +10,12 @@ ghost use Rattle.plsql_parse.specs.Bodies.{assigned_plan, value_plan, marked_pla
 ghost use Rattle.plsql_parse.specs.Plans.{any_plan};
 ghost use Rattle.plsql_parse.specs.Taken as taken;
 
-use crate::expressions::{unboxed, value_of};
+use crate::expressions::value_of;
 use crate::words_and_strings::{eat_word, string};
 use away_grammar::Mark;
 use away_trees::{Expr, Raised, Stmt};
 use away_values::{Name, Word};
-use sql_text::{Cursor, Refusal};
+use sql_text::{Cursor, Refusal, unboxed};
 use sqlite_items::Boxed;
 use std::alloc::Global;
 

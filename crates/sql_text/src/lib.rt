@@ -20,6 +20,7 @@ pub use complete_law::what_is_read_is_given;
 pub use cursor::Cursor;
 pub use expressions::expression;
 pub use laws::what_a_plan_gives_is_read;
+pub use leaves::unboxed;
 pub use one_tree::a_text_reads_as_one_tree;
 pub use read::{as_text, read_expr, read_query, read_schema};
 pub use refusal::Refusal;

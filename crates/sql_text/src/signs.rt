@@ -12,7 +12,7 @@ ghost use Rattle.away_lex.specs.Lexed.{seen};
 ghost use Rattle.sql_text.specs.Said.{said, IsSaid, entry};
 
 use away_grammar::{Level, Mark};
-use away_lex::{Token, TokenKind};
+use away_lex::{INTEGER_LIMIT, Token, TokenKind};
 use away_values::{ChainOp, CmpOp, IntOp, Name, NoMemory, Ty, Word, word};
 use sqlite_items::Items;
 use std::alloc::Global;
@@ -187,17 +187,18 @@ fn mark_as_written(symbol: &str, entries: &[(&str, Mark)]) -> Option<Mark>
     None
 }
 
-/// The number that decimal digits spell.
-#[tactic(auto, unfolding(away_grammar::specs::Spellings::number))]
+/// The number that the digits of a token spell.
 fn value_of(digits: &[u8]) -> u64
     requires { number digits.now ≤ 2 ^ 63 }
     ensures { result ≡ number digits.now }
 {
-    let mut value = 0;
-    for digit in digits {
-        value = value * 10 + u64::from(digit.saturating_sub(b'0'));
+    match away_lex::number(digits, INTEGER_LIMIT) {
+        Some(value) => value,
+        None => {
+            prove!(false);
+            0
+        }
     }
-    value
 }
 
 /// The text that a string spells: each quote in it stands twice.
