@@ -22,10 +22,10 @@ use Rattle.sql_text.specs.Plans.{Plan, done, fail, take, eat, look, read, with, 
 use Rattle.sql_text.specs.Next.{operator_in, comparison_in, test_in, name_in, type_in, parameter_in, is_least, is_select, is_with, is_typed_parameter}
 
 -- a name, and then by it
-abbrev pub a_name : {n : Sort} → (List ℕ → Plan Tree n) → Plan Tree n
+abbrev pub a_name : {S : Type 0} {T : S → Type 0} {n : S} → (List ℕ → Plan T n) → Plan T n
 a_name = want name_in
 
-abbrev pub a_type : {n : Sort} → (Ty → Plan Tree n) → Plan Tree n
+abbrev pub a_type : {S : Type 0} {T : S → Type 0} {n : S} → (Ty → Plan T n) → Plan T n
 a_type = want type_in
 
 -- ---- expressions
@@ -198,7 +198,7 @@ abbrev pub sub_plan : Bool → Plan Tree from_item
 sub_plan lateral = read query (λ q. expect m.Close (alias_plan q lateral))
 
 -- a name, perhaps behind `public.`
-abbrev pub qualified_name : {n : Sort} → (List ℕ → Plan Tree n) → Plan Tree n
+abbrev pub qualified_name : {S : Type 0} {T : S → Type 0} {n : S} → (List ℕ → Plan T n) → Plan T n
 qualified_name f = a_name (λ n. if bytes_eq n (codes "public") then eat m.Dot (a_name f) (f n) else f n)
 
 abbrev pub from_item_plan : Plan Tree from_item
