@@ -6,7 +6,7 @@ use Rattle.away_grammar.specs.Signs.{Sign, name, integer, string, quote}
 use Rattle.away_grammar.specs.Grammar.{Sort, at, Tree, Reads}
 use Rattle.away_grammar.specs.FunctionGrammar.{Part, PartTree, ReadsPart}
 use Rattle.sql_text.specs.Plans.{Plan, done, fail, take, eat, look, read, perhaps_a}
-use Rattle.sql_text.specs.Next.{name_in}
+use Rattle.sql_text.specs.SignKinds.{name_in}
 pub use Rattle.sql_text.specs.Descent.{a_name, a_type, qualified_name}
 
 -- a sort of SQL, or a part of a function

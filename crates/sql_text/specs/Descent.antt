@@ -19,7 +19,7 @@ use Rattle.away_trees.specs.declared.queries.Expr.TheViews.{roll-Item, roll-From
 use Rattle.away_grammar.specs.Signs.{Sign, mark, name, integer, string, parameter}
 use Rattle.away_grammar.specs.Grammar.{Sort, at, links, list, arms, item, items, from_item, from_items, from_clause, where_clause, key, keys, order_clause, limit_clause, select, selects, query, names, recursive, file, column, columns, tables, Tree, literal_of, called, operands, chained, is_number, may_join}
 use Rattle.sql_text.specs.Plans.{Plan, done, fail, take, eat, look, read, with, want, perhaps_a, expect}
-use Rattle.sql_text.specs.Next.{operator_in, comparison_in, test_in, name_in, type_in, parameter_in, is_least, is_select, is_with, is_typed_parameter}
+use Rattle.sql_text.specs.SignKinds.{operator_in, comparison_in, test_in, name_in, type_in, parameter_in, is_least, is_select, is_with, is_typed_parameter}
 
 -- a name, and then by it
 abbrev pub a_name : {S : Type 0} {T : S → Type 0} {n : S} → (List ℕ → Plan T n) → Plan T n

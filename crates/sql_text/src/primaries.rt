@@ -7,7 +7,7 @@ ghost use Rattle.sql_text.specs.Descent.{plan, primary_plan, named_plan, inside_
 
 use crate::cursor::Cursor;
 use crate::expressions::{expression, operand};
-use crate::leaves::{called_name, literal, number};
+use crate::nodes::{called_name, literal, number};
 use crate::refusal::Refusal;
 use crate::selects::query_of;
 use crate::signs::{Sign, is_count, text_of};

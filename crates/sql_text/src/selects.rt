@@ -7,7 +7,7 @@ ghost use Rattle.sql_text.specs.Descent.{plan, query_plan, selects_plan, select_
 
 use crate::cursor::Cursor;
 use crate::expressions::operand;
-use crate::leaves::{is_number, item_with, key_with, may_join, plain_query, unboxed};
+use crate::nodes::{is_number, item_with, key_with, may_join, plain_query, unboxed};
 use crate::refusal::Refusal;
 use crate::tables::{named_subquery, table_item};
 use away_grammar::{Level, Mark};
