@@ -86,18 +86,18 @@ fn default_of(alloc: Global, tokens: &mut Cursor<'_>) -> Result<Option<Boxed<Exp
     ensures shrinks { length tokens.new ≤ length tokens.old }
 {
     if tokens.eat(Mark::Assign) {
-        return default_value(alloc, tokens);
+        return default_expression(alloc, tokens);
     }
     if tokens.eat(Mark::Equal) {
-        return default_value(alloc, tokens);
+        return default_expression(alloc, tokens);
     }
     if tokens.eat(Mark::Default) {
-        return default_value(alloc, tokens);
+        return default_expression(alloc, tokens);
     }
     Ok(None)
 }
 
-fn default_value(alloc: Global, tokens: &mut Cursor<'_>) -> Result<Option<Boxed<Expr>>, Refusal>
+fn default_expression(alloc: Global, tokens: &mut Cursor<'_>) -> Result<Option<Boxed<Expr>>, Refusal>
     ensures found { Gives AnyTree any_plan (part default) default_value tokens.old result tokens.new }
     ensures shrinks { length tokens.new ≤ length tokens.old }
 {

@@ -1,7 +1,7 @@
 use Rattle.std.proofs.Common.{refl}
 use Rattle.std.proofs.lemmas.Result.{err_from_is_err_and}
 use Rattle.sql_text.proofs.Steps.{finished, read_on, read_no}
-use Rattle.plsql_parse.proofs.declarations.default_value.Goals as goal
+use Rattle.plsql_parse.proofs.declarations.default_expression.Goals as goal
 
 pub returns-in_err-value_of-clause-found : goal.returns-in_err-value_of-clause-found
 returns-in_err-value_of-clause-found c =
