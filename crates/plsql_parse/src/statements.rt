@@ -9,7 +9,9 @@ ghost use Rattle.away_grammar.specs.FunctionGrammar as grammar;
 ghost use Rattle.away_grammar.specs.FunctionGrammar.{branch, elsifs, whens, statement, statements};
 ghost use Rattle.sql_text.specs.Plans.{Begins, Gives};
 ghost use Rattle.plsql_parse.specs.Sorts.{AnyTree, part};
-ghost use Rattle.plsql_parse.specs.Bodies.{statements_plan, statement_plan, labelled_plan, marked_plan, if_plan, cases_plan, elsif_plan, when_plan, branch_plan, otherwise_plan, block_plan, begun_plan, repeated_plan, repeating_plan};
+ghost use Rattle.plsql_parse.specs.Bodies.{statements_plan, statement_plan, labelled_plan, marked_plan, if_plan, cases_plan};
+ghost use Rattle.plsql_parse.specs.Bodies.{elsif_plan, when_plan, branch_plan, otherwise_plan, block_plan, begun_plan};
+ghost use Rattle.plsql_parse.specs.Bodies.{repeated_plan, repeating_plan};
 ghost use Rattle.plsql_parse.specs.Plans.{any_plan};
 ghost use Rattle.plsql_parse.specs.Taken.{EndTaken, arm_with};
 

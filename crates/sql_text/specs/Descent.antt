@@ -17,7 +17,9 @@ use Rattle.away_trees.specs.declared.queries.Recursive.{Recursive}
 use Rattle.away_trees.specs.declared.queries.Query.{Query}
 use Rattle.away_trees.specs.declared.queries.Expr.TheViews.{roll-Item, roll-FromItem, roll-Key, roll-Select, roll-Recursive, roll-Query}
 use Rattle.away_grammar.specs.Signs.{Sign, mark, name, integer, string, parameter}
-use Rattle.away_grammar.specs.Grammar.{Sort, at, links, list, arms, item, items, from_item, from_items, from_clause, where_clause, key, keys, order_clause, limit_clause, select, selects, query, names, recursive, file, column, columns, tables, Tree, literal_of, called, operands, chained, is_number, may_join}
+use Rattle.away_grammar.specs.Grammar.{Sort, at, links, list, arms, item, items, from_item, from_items, from_clause, where_clause}
+use Rattle.away_grammar.specs.Grammar.{key, keys, order_clause, limit_clause, select, selects, query, names, recursive, file}
+use Rattle.away_grammar.specs.Grammar.{column, columns, tables, Tree, literal_of, called, operands, chained, is_number, may_join}
 use Rattle.sql_text.specs.Plans.{Plan, done, fail, take, eat, look, read, with, want, perhaps_a, expect}
 use Rattle.sql_text.specs.SignKinds.{operator_in, comparison_in, test_in, name_in, type_in, parameter_in, is_least, is_select, is_with, is_typed_parameter}
 

@@ -7,7 +7,8 @@ ghost use Rattle.away_grammar.specs.declared.grammar.Mark.TheVariants as m;
 ghost use Rattle.away_grammar.specs.Grammar.{at as expression, Stops};
 ghost use Rattle.away_grammar.specs.Signs.{mark};
 ghost use Rattle.sql_text.specs.Plans.{first, is_some, tail, Begins};
-ghost use Rattle.sql_text.specs.SignKinds.{operator_in, comparison_in, test_in, name_in, type_in, parameter_in, is_least, is_select, is_with, is_typed_parameter};
+ghost use Rattle.sql_text.specs.SignKinds.{operator_in, comparison_in, test_in, name_in, type_in, parameter_in, is_least};
+ghost use Rattle.sql_text.specs.SignKinds.{is_select, is_with, is_typed_parameter};
 ghost use Rattle.sql_text.specs.CodeSigns.{meaning_of, next_meaning, HasSpelling, Found, Expected, Taken};
 
 use crate::refusal::Refusal;

@@ -15,7 +15,7 @@ use crate::refusal::Refusal;
 use crate::schemas::tables_of;
 use crate::signs::{Sign, signs_of};
 use away_grammar::Level;
-use away_lex::{LimitKind, ReadRefusal, Token, TokensRefusal, nesting, tokens};
+use away_lex::{LimitKind, ReadRefusal, Token, nesting, tokens};
 use away_trees::{Expr, Query, Schema};
 use sqlite_items::Items;
 use std::alloc::Global;
@@ -110,18 +110,13 @@ fn tokens_of<'a>(alloc: Global, bytes: &'a [u8]) -> Result<Vec<Token<'a>>, ReadR
     let Some(text) = as_text(bytes) else {
         return Err(ReadRefusal::NotText);
     };
-    match tokens(alloc, text) {
-        Ok(list) => {
-            let found = nesting(list.as_slice());
-            if found > MOST_NESTING {
-                let which = LimitKind::Nesting;
-                Err(ReadRefusal::Limit { which, found })
-            } else {
-                Ok(list)
-            }
-        }
-        Err(TokensRefusal::Bad { offset }) => Err(ReadRefusal::Token { offset }),
-        Err(TokensRefusal::NoMemory) => Err(ReadRefusal::NoMemory),
+    let list = tokens(alloc, text)?;
+    let found = nesting(list.as_slice());
+    if found > MOST_NESTING {
+        let which = LimitKind::Nesting;
+        Err(ReadRefusal::Limit { which, found })
+    } else {
+        Ok(list)
     }
 }
 
