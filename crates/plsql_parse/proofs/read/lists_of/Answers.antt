@@ -16,4 +16,4 @@ refused NoMemory is h = tt
 pub returns-in_err-lists-clause-err : goal.returns-in_err-lists-clause-err
 returns-in_err-lists-clause-err c =
     let p = err_from_is_err_and c.from_residual.result c.from_residual.ensures.1 in
-    rw (p.1, p.2) (refused c.in_err-lists.field-0.0 c.in_some-text.ensures c.in_err-lists.ensures.err)
+    rw (p.1, p.2) (refused c.in_err-lists.field-0.0 c.in-Some.ensures c.in_err-lists.ensures.err)

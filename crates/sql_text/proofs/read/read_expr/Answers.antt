@@ -2,7 +2,6 @@ use Rattle.std.proofs.Common.{◌≡◌, ◌≤◌, ℕ, List, All, ◌-◌, len
 use Rattle.std.proofs.lemmas.List.{drop-map, length-drop, length-map, take_all}
 use Rattle.away_grammar.specs.Texts.{IsExpression}
 use Rattle.away_grammar.specs.Signs.{Sign, all_say}
-use Rattle.away_grammar.specs.Tokens.{AreSpelled}
 use Rattle.away_lex.specs.Lexed.{seen}
 use Rattle.away_lex.specs.declared.slices.Token as token
 use Rattle.sql_text.specs.CodeSigns.{meaning_of, HasSpelling}

@@ -1,4 +1,4 @@
-use Rattle.std.proofs.Common.{◌≡◌, ℕ, List, Some, subst, sym}
+use Rattle.std.proofs.Common.{◌≡◌, ℕ, List, subst}
 use Rattle.std.proofs.lemmas.Result.{err_from_is_err_and}
 use Rattle.away_grammar.specs.Texts.{IsText}
 use Rattle.away_lex.specs.Lexed.{RefusedAs}
@@ -16,4 +16,4 @@ refused NoMemory is h = tt
 pub returns-in_err-list-clause-err : goal.returns-in_err-list-clause-err
 returns-in_err-list-clause-err c =
     let p = err_from_is_err_and c.from_residual.result c.from_residual.ensures.1 in
-    rw (p.1, p.2) (refused c.in_err-list.field-0.0 c.in_some-text.ensures c.in_err-list.ensures.err)
+    rw (p.1, p.2) (refused c.in_err-list.field-0.0 c.in-Some.ensures c.in_err-list.ensures.err)

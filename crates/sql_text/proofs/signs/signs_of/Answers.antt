@@ -1,4 +1,3 @@
-use Rattle.std.proofs.Common.{ap, ◌∙◌}
 use Rattle.std.proofs.lemmas.List.Elements.{All-push}
 use Rattle.sql_text.specs.CodeSigns.{HasSpelling}
 use Rattle.sql_text.proofs.Places.{spelled_at, signs_more}

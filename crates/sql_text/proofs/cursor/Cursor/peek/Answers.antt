@@ -1,7 +1,7 @@
-use Rattle.std.proofs.Common.{Some, ap, ◌∙◌}
+use Rattle.std.proofs.Common.{ap, ◌∙◌}
 use Rattle.std.proofs.lemmas.List.Elements.{All-get_or}
 use Rattle.sql_text.specs.Plans.{first}
-use Rattle.sql_text.specs.CodeSigns.{HasSpelling, meaning_of}
+use Rattle.sql_text.specs.CodeSigns.{HasSpelling}
 use Rattle.sql_text.proofs.Places.{first_meaning}
 use Rattle.sql_text.proofs.cursor.Cursor.peek.Goals as goal
 
