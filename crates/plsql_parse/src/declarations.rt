@@ -97,7 +97,10 @@ fn default_of(alloc: Global, tokens: &mut Cursor<'_>) -> Result<Option<Boxed<Exp
     Ok(None)
 }
 
-fn default_expression(alloc: Global, tokens: &mut Cursor<'_>) -> Result<Option<Boxed<Expr>>, Refusal>
+fn default_expression(
+    alloc: Global,
+    tokens: &mut Cursor<'_>,
+) -> Result<Option<Boxed<Expr>>, Refusal>
     ensures found { Gives AnyTree any_plan (part default) default_value tokens.old result tokens.new }
     ensures shrinks { length tokens.new ≤ length tokens.old }
 {

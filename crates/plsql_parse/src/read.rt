@@ -14,9 +14,7 @@ use crate::bodies::body_of;
 use crate::counts::counts_of;
 use crate::headers::{Header, header_of};
 use crate::outside::outside_word;
-use away_lex::{
-    FunctionTokens, LimitKind, ReadRefusal, Token, folded, function_tokens, nesting,
-};
+use away_lex::{FunctionTokens, LimitKind, ReadRefusal, Token, folded, function_tokens, nesting};
 use away_trees::{Function, Stmt, node_count};
 use sql_text::{Cursor, Refusal, as_text, signs_of};
 use sqlite_items::Boxed;

@@ -19,7 +19,10 @@ use crate::declarations::decls_of;
 use crate::expressions::value_of;
 use crate::lookahead::{sees_block, sees_closing, sees_opening};
 use crate::loop_kinds::kind_of;
-use crate::simple_statements::{assignment_statement, continue_statement, exit_statement, null_statement, raise_statement, return_statement};
+use crate::simple_statements::{
+    assignment_statement, continue_statement, exit_statement, null_statement, raise_statement,
+    return_statement,
+};
 use away_grammar::Mark;
 use away_lex::folded;
 use away_trees::{Arm, Decl, Expr, LoopKind, Stmt};
