@@ -6,7 +6,8 @@ ghost use Rattle.away_lex.specs.Pieces as spec;
 use away_grammar::TokenKind;
 use away_values::{LONGEST_NAME, LONGEST_TEXT};
 
-const INTEGER_LIMIT: u64 = 9_223_372_036_854_775_808;
+/// The opposite of the least bigint: no integer that is a token is greater.
+pub const INTEGER_LIMIT: u64 = 9_223_372_036_854_775_808;
 
 const PARAMETER_LIMIT: u64 = 64;
 
@@ -81,9 +82,9 @@ fn word(z: &[u8]) -> Option<Piece>
     }
 }
 
-/// The number that the digits spell, up to a limit.
+/// The number that the digits spell, or None where it is above the limit.
 #[tactic(auto, using(crate::proofs::Steps::number_over), unfolding(away_grammar::specs::Spellings::number))]
-fn number(digits: &[u8], limit: u64) -> Option<u64>
+pub fn number(digits: &[u8], limit: u64) -> Option<u64>
     requires { limit ≤ 2 ^ 63 }
     ensures some { IfSome result (λ n. (n ≡ spec.number digits.now) × (n ≤ limit)) }
     ensures none { IfNone result (limit < spec.number digits.now) }

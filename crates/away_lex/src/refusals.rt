@@ -46,3 +46,17 @@ pub enum ReadRefusal {
     /// No memory was left.
     NoMemory,
 }
+
+impl From<TokensRefusal> for ReadRefusal {
+    ghost use Rattle.std.specs.Prelude.{◌≡◌};
+    ghost use Rattle.away_lex.specs.Refusals.{tokens_refused};
+
+    ghost from_gives = { λ refusal e. e ≡ tokens_refused refusal };
+
+    fn from(refusal: TokensRefusal) -> ReadRefusal {
+        match refusal {
+            TokensRefusal::Bad { offset } => ReadRefusal::Token { offset },
+            TokensRefusal::NoMemory => ReadRefusal::NoMemory,
+        }
+    }
+}

@@ -10,8 +10,8 @@ use Rattle.away_grammar.specs.Signs.{Sign, mark}
 use Rattle.away_grammar.specs.FunctionGrammar.{Part, PartTree, statement, branch, otherwise, loop_opens}
 use Rattle.sql_text.specs.declared.refusal.Refusal.{Refusal}
 use Rattle.sql_text.specs.declared.refusal.Refusal.TheVariants.{NoTree}
-use Rattle.sql_text.specs.Said.{Taken, Expected}
-use Rattle.sql_text.specs.Next.{name_in}
+use Rattle.sql_text.specs.CodeSigns.{Taken, Expected}
+use Rattle.sql_text.specs.SignKinds.{name_in}
 use Rattle.sql_text.specs.Plans.{done, eat, read, expect, first, tail, Begins, reads, breaks, Gives, tree, no_tree, no_memory}
 use Rattle.sql_text.proofs.Plans.{inside}
 use Rattle.sql_text.proofs.Steps.{finished, eaten, refused, left, read_on, taken, looked, overlooked, moved, perhaps_found, perhaps_missed, failed}

@@ -17,7 +17,7 @@ use Rattle.away_grammar.specs.Signs.{Sign, mark, name, string}
 use Rattle.away_grammar.specs.Grammar.{at, Reads, perhaps, not_null, type_named}
 use Rattle.away_grammar.specs.FunctionGrammar.{decl, decls, default, statement, statements, branch, elsifs, whens, otherwise, condition, block, repeated, kind, step, body, labelled, perhaps_name, either, gives_default, assigns, opens_loop}
 use Rattle.sql_text.specs.Plans.{Begins, done, eat, expect, ends, takes, eats, leaves, sees, misses, reads}
-use Rattle.sql_text.specs.Next.{name_in, type_in}
+use Rattle.sql_text.specs.SignKinds.{name_in, type_in}
 use Rattle.sql_text.proofs.Starts.{starts, cannot_begin}
 use Rattle.sql_text.proofs.CompleteSteps.{other_mark, other_sign}
 use Rattle.plsql_parse.specs.Sorts.{string_in, is_name}

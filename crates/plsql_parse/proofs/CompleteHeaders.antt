@@ -12,7 +12,7 @@ use Rattle.away_grammar.specs.Grammar.{perhaps, qualified, type_named}
 use Rattle.away_grammar.specs.FunctionGrammar as g
 use Rattle.away_grammar.specs.FunctionGrammar.{Part, PartTree, parameters, signature, attribute_of, attributes, function, or_replace, one_word, may_run, may_stand}
 use Rattle.sql_text.specs.Plans.{fail, eat, ends, takes, eats, leaves, sees, misses, reads}
-use Rattle.sql_text.specs.Next.{name_in, type_in}
+use Rattle.sql_text.specs.SignKinds.{name_in, type_in}
 use Rattle.sql_text.proofs.CompleteSteps.{other_sign}
 use Rattle.plsql_parse.specs.Sorts.{expect_word, string_in, quote_in, integer_in}
 use Rattle.plsql_parse.specs.Headers.{typed_name_plan, parameter_plan, word_with, is_over, function_with, ended_plan, named_plan, created_plan}

@@ -8,7 +8,7 @@ use Rattle.away_grammar.specs.Signs.{Sign, mark, name, integer, string, paramete
 use Rattle.away_grammar.specs.Grammar.{at, Reads, StopsAt, qualified}
 use Rattle.away_grammar.specs.FunctionGrammar.{Part, PartTree, perhaps_name}
 use Rattle.sql_text.specs.Plans.{first, tail, Begins, with, want, eat, is_some, Runs, takes, sees, misses, reads, eats, leaves}
-use Rattle.sql_text.specs.Next.{name_in}
+use Rattle.sql_text.specs.SignKinds.{name_in}
 use Rattle.sql_text.proofs.Complete.{complete}
 use Rattle.plsql_parse.specs.Sorts.{AnyTree, part, PartPlan, expression, a_name, maybe_name, qualified_name, is_name}
 use Rattle.plsql_parse.specs.Plans.{any_plan, part_plan}

@@ -1,6 +1,8 @@
 -- The plan of each sort.
 use Rattle.std.specs.Prelude.{List, [], Some}
-use Rattle.away_grammar.specs.FunctionGrammar.{Part, decl, decls, default, statement, statements, branch, elsifs, whens, otherwise, condition, block, repeated, kind, step, body, parameter, parameters, signature, attribute_of, attributes, function}
+use Rattle.away_grammar.specs.FunctionGrammar.{Part, decl, decls, default, statement, statements, branch, elsifs, whens}
+use Rattle.away_grammar.specs.FunctionGrammar.{otherwise, condition, block, repeated, kind, step, body, parameter, parameters}
+use Rattle.away_grammar.specs.FunctionGrammar.{signature, attribute_of, attributes, function}
 use Rattle.away_trees.specs.declared.statements.Stmt.{Stmt}
 use Rattle.away_trees.specs.declared.statements.Function.{Function}
 use Rattle.away_grammar.specs.Signs.{all_say}
@@ -8,7 +10,9 @@ use Rattle.away_grammar.specs.Tokens.{Lexeme}
 use Rattle.sql_text.specs.Plans.{Plan, Runs}
 use Rattle.sql_text.specs.Descent as descent
 use Rattle.plsql_parse.specs.Sorts.{AnySort, sql, part, AnyTree, PartPlan, lifted}
-use Rattle.plsql_parse.specs.Bodies.{default_plan, decl_plan, decls_plan, statement_plan, statements_plan, branch_plan, elsifs_plan, whens_plan, otherwise_plan, condition_plan, block_plan, repeated_plan, kind_plan, step_plan, body_plan}
+use Rattle.plsql_parse.specs.Bodies.{default_plan, decl_plan, decls_plan, statement_plan, statements_plan, branch_plan}
+use Rattle.plsql_parse.specs.Bodies.{elsifs_plan, whens_plan, otherwise_plan, condition_plan, block_plan, repeated_plan}
+use Rattle.plsql_parse.specs.Bodies.{kind_plan, step_plan, body_plan}
 use Rattle.plsql_parse.specs.Headers.{parameter_plan, parameters_plan, signature_plan, attribute_plan, attributes_plan, function_plan}
 
 abbrev pub part_plan : (p : Part) → PartPlan p

@@ -1,14 +1,13 @@
 -- The sorts of functions beside those of SQL, and the steps of their readers' plans.
-use Rattle.std.specs.Prelude.{ℕ, Bool, true, false, List, ◌∷◌, Option, Some, None, bytes_eq, codes, if◌then◌else◌}
-use Rattle.away_grammar.specs.declared.grammar.Mark.TheVariants as m
+use Rattle.std.specs.Prelude.{ℕ, Bool, true, false, List, ◌∷◌, Option, Some, None, bytes_eq}
 use Rattle.away_grammar.specs.declared.grammar.Level.TheVariants as l
-use Rattle.away_values.specs.declared.types.Ty.{Ty}
 use Rattle.away_trees.specs.declared.queries.Expr.{Expr}
 use Rattle.away_grammar.specs.Signs.{Sign, name, integer, string, quote}
 use Rattle.away_grammar.specs.Grammar.{Sort, at, Tree, Reads}
 use Rattle.away_grammar.specs.FunctionGrammar.{Part, PartTree, ReadsPart}
-use Rattle.sql_text.specs.Plans.{Plan, done, fail, take, eat, look, read, want, perhaps_a}
-use Rattle.sql_text.specs.Next.{name_in, type_in}
+use Rattle.sql_text.specs.Plans.{Plan, done, fail, take, eat, look, read, perhaps_a}
+use Rattle.sql_text.specs.SignKinds.{name_in}
+pub use Rattle.sql_text.specs.Descent.{a_name, a_type, qualified_name}
 
 -- a sort of SQL, or a part of a function
 pub data AnySort : Type 0 where
@@ -41,13 +40,6 @@ PartPlan p = Plan AnyTree (part p)
 abbrev pub expression : {p : Part} → (Expr → PartPlan p) → PartPlan p
 expression f = read (sql (at l.Or)) f
 
--- a name, and then by it
-abbrev pub a_name : {p : Part} → (List ℕ → PartPlan p) → PartPlan p
-a_name = want name_in
-
-abbrev pub a_type : {p : Part} → (Ty → PartPlan p) → PartPlan p
-a_type = want type_in
-
 -- a name, where one stands next, and then by it
 abbrev pub maybe_name : {p : Part} → (Option (List ℕ) → PartPlan p) → PartPlan p
 maybe_name f = perhaps_a name_in (λ n. f (Some n)) (f None)
@@ -64,10 +56,6 @@ eat_word w p q = look (begins_word w) (take (λ s. p)) q
 -- the word, or no tree
 abbrev pub expect_word : {p : Part} → List ℕ → PartPlan p → PartPlan p
 expect_word w p = eat_word w p fail
-
--- a name, perhaps behind `public.`
-abbrev pub qualified_name : {p : Part} → (List ℕ → PartPlan p) → PartPlan p
-qualified_name f = a_name (λ n. if bytes_eq n (codes "public") then eat m.Dot (a_name f) (f n) else f n)
 
 abbrev pub string_in : Option Sign → Option (List ℕ)
 string_in (Some (string z)) = Some z

@@ -47,7 +47,8 @@ collatz_body =
     ∷ w (codes "steps") ∷ y (codes "+") ∷ i (codes "1") ∷ y (codes ";") ∷ w (codes "END") ∷ w (codes "LOOP") ∷ y (codes ";") ∷ w (codes "RETURN")
     ∷ w (codes "steps") ∷ y (codes ";") ∷ w (codes "END") ∷ y (codes ";") ∷ []
 
--- CREATE OR REPLACE FUNCTION public.walk(lim bigint) RETURNS bigint AS $$ $$ LANGUAGE 'plpgsql' STABLE CALLED ON NULL INPUT NOT LEAKPROOF PARALLEL SAFE COST 100
+-- CREATE OR REPLACE FUNCTION public.walk(lim bigint) RETURNS bigint AS $$ $$ LANGUAGE 'plpgsql' STABLE CALLED ON NULL INPUT
+-- NOT LEAKPROOF PARALLEL SAFE COST 100
 abbrev pub walk_outer : List Sign
 walk_outer =
     w (codes "CREATE") ∷ w (codes "OR") ∷ w (codes "REPLACE") ∷ w (codes "FUNCTION") ∷ w (codes "public") ∷ y (codes ".") ∷ w (codes "walk")

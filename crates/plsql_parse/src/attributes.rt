@@ -8,7 +8,8 @@ ghost use Rattle.away_grammar.specs.FunctionGrammar.{attribute_of as an_attribut
 ghost use Rattle.away_grammar.specs.Reserved.{folded};
 ghost use Rattle.sql_text.specs.Plans.{Gives, first, is_some, tail};
 ghost use Rattle.plsql_parse.specs.HeaderRead.{of_group};
-ghost use Rattle.plsql_parse.specs.Headers.{attribute_mark_plan, attribute_plan, attributes_plan, cost_plan, is_over, language_plan, null_input_plan, parallel_plan, word_plan, word_with};
+ghost use Rattle.plsql_parse.specs.Headers.{attribute_mark_plan, attribute_plan, attributes_plan, cost_plan, is_over};
+ghost use Rattle.plsql_parse.specs.Headers.{language_plan, null_input_plan, parallel_plan, word_plan, word_with};
 ghost use Rattle.plsql_parse.specs.Plans.{any_plan};
 ghost use Rattle.plsql_parse.specs.Sorts.{AnyTree, integer_in, part, quote_in};
 

@@ -7,12 +7,12 @@ ghost use Rattle.plsql_parse.specs.Sorts.{AnyTree, part};
 ghost use Rattle.plsql_parse.specs.Bodies.{decls_plan, decl_plan, typed_plan, valued_plan, default_plan, default_value};
 ghost use Rattle.plsql_parse.specs.Plans.{any_plan};
 
-use crate::expressions::{unboxed, value_of};
+use crate::expressions::value_of;
 use crate::lookahead::sees_name;
 use away_grammar::Mark;
 use away_trees::{Decl, Expr};
 use away_values::{Name, Ty};
-use sql_text::{Cursor, Refusal};
+use sql_text::{Cursor, Refusal, unboxed};
 use sqlite_items::{Boxed, Items};
 use std::alloc::Global;
 
@@ -36,11 +36,11 @@ fn decl_of(alloc: Global, tokens: &mut Cursor<'_>) -> Result<Decl, Refusal>
 {
     let name = tokens.name(alloc)?;
     let constant = tokens.eat(Mark::Constant);
-    typed(alloc, tokens, name, constant)
+    type_and_value(alloc, tokens, name, constant)
 }
 
 /// A type, NOT NULL or not, and what stands behind it.
-fn typed(
+fn type_and_value(
     alloc: Global,
     tokens: &mut Cursor<'_>,
     name: Name,
@@ -51,14 +51,14 @@ fn typed(
 {
     let ty = tokens.type_name()?;
     if !tokens.eat(Mark::Not) {
-        return valued(alloc, tokens, name, constant, ty, false);
+        return value_and_end(alloc, tokens, name, constant, ty, false);
     }
     tokens.expect(Mark::Null)?;
-    valued(alloc, tokens, name, constant, ty, true)
+    value_and_end(alloc, tokens, name, constant, ty, true)
 }
 
 /// The value of a declaration, or none, and `;`.
-fn valued(
+fn value_and_end(
     alloc: Global,
     tokens: &mut Cursor<'_>,
     name: Name,
@@ -86,18 +86,21 @@ fn default_of(alloc: Global, tokens: &mut Cursor<'_>) -> Result<Option<Boxed<Exp
     ensures shrinks { length tokens.new ≤ length tokens.old }
 {
     if tokens.eat(Mark::Assign) {
-        return given(alloc, tokens);
+        return default_expression(alloc, tokens);
     }
     if tokens.eat(Mark::Equal) {
-        return given(alloc, tokens);
+        return default_expression(alloc, tokens);
     }
     if tokens.eat(Mark::Default) {
-        return given(alloc, tokens);
+        return default_expression(alloc, tokens);
     }
     Ok(None)
 }
 
-fn given(alloc: Global, tokens: &mut Cursor<'_>) -> Result<Option<Boxed<Expr>>, Refusal>
+fn default_expression(
+    alloc: Global,
+    tokens: &mut Cursor<'_>,
+) -> Result<Option<Boxed<Expr>>, Refusal>
     ensures found { Gives AnyTree any_plan (part default) default_value tokens.old result tokens.new }
     ensures shrinks { length tokens.new ≤ length tokens.old }
 {

@@ -21,13 +21,3 @@ pub(crate) fn value_of(alloc: Global, tokens: &mut Cursor<'_>) -> Result<Boxed<E
     let found = expression(alloc, tokens, Level::Or)?;
     Ok(Boxed::new(alloc, found)?)
 }
-
-/// The expression out of its box.
-pub(crate) fn unboxed(expr: Option<Boxed<Expr>>) -> Option<Expr>
-    ensures { result ≡ expr }
-{
-    match expr {
-        Some(expr) => Some(expr.into_inner()),
-        None => None,
-    }
-}

@@ -50,14 +50,14 @@ pub fn header_of(alloc: Global, tokens: &mut Cursor<'_>) -> Result<Header, Refus
 {
     tokens.expect(Mark::Create)?;
     if !tokens.eat(Mark::Or) {
-        return created(alloc, tokens);
+        return behind_create(alloc, tokens);
     }
     expect_word(tokens, "replace")?;
-    created(alloc, tokens)
+    behind_create(alloc, tokens)
 }
 
 /// What stands behind CREATE and OR REPLACE.
-fn created(alloc: Global, tokens: &mut Cursor<'_>) -> Result<Header, Refusal>
+fn behind_create(alloc: Global, tokens: &mut Cursor<'_>) -> Result<Header, Refusal>
     ensures found { HeaderRead created_plan tokens.old result tokens.new }
     ensures shrinks { length tokens.new ≤ length tokens.old }
 {
@@ -72,17 +72,17 @@ fn qualified(alloc: Global, tokens: &mut Cursor<'_>) -> Result<Header, Refusal>
 {
     let first = tokens.name(alloc)?;
     if !is_public(&first) {
-        return named(alloc, tokens, first);
+        return behind_name(alloc, tokens, first);
     }
     if !tokens.eat(Mark::Dot) {
-        return named(alloc, tokens, first);
+        return behind_name(alloc, tokens, first);
     }
     let name = tokens.name(alloc)?;
-    named(alloc, tokens, name)
+    behind_name(alloc, tokens, name)
 }
 
 /// What stands behind the name.
-fn named(alloc: Global, tokens: &mut Cursor<'_>, name: Name) -> Result<Header, Refusal>
+fn behind_name(alloc: Global, tokens: &mut Cursor<'_>, name: Name) -> Result<Header, Refusal>
     ensures found { HeaderRead (λ inside. named_plan inside name) tokens.old result tokens.new }
     ensures shrinks { length tokens.new ≤ length tokens.old }
 {

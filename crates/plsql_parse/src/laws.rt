@@ -18,27 +18,32 @@ ghost use Rattle.plsql_parse.specs.Stops.{StopsPart};
 
 /// What the plan of a part of a function gives, the grammar reads.
 pub fn what_a_plan_gives_is_read()
-    ensures { (p : Part) (ts : List Sign) (x : PartTree p) (rest : List Sign) → Runs AnyTree any_plan (part p) (part_plan p) ts (Some (x, rest)) → ReadsPart p ts x rest }
+    ensures { (p : Part) (ts : List Sign) (x : PartTree p) (rest : List Sign)
+        → Runs AnyTree any_plan (part p) (part_plan p) ts (Some (x, rest)) → ReadsPart p ts x rest }
 {}
 
 /// Where the grammar reads a tree of a part, and what stands behind it ends the part, the part's plan gives that tree.
 pub fn what_is_read_is_given()
-    ensures { (p : Part) (ts : List Sign) (x : PartTree p) (rest : List Sign) → ReadsPart p ts x rest → StopsPart p rest → Runs AnyTree any_plan (part p) (part_plan p) ts (Some (x, rest)) }
+    ensures { (p : Part) (ts : List Sign) (x : PartTree p) (rest : List Sign) → ReadsPart p ts x rest
+        → StopsPart p rest → Runs AnyTree any_plan (part p) (part_plan p) ts (Some (x, rest)) }
 {}
 
 /// Where the part's plan gives no tree, the grammar reads none that ends where the part may end.
 pub fn what_is_not_given_is_not_read()
-    ensures { (p : Part) (ts : List Sign) (x : PartTree p) (rest : List Sign) → Runs AnyTree any_plan (part p) (part_plan p) ts None → ReadsPart p ts x rest → StopsPart p rest → ⊥ }
+    ensures { (p : Part) (ts : List Sign) (x : PartTree p) (rest : List Sign)
+        → Runs AnyTree any_plan (part p) (part_plan p) ts None → ReadsPart p ts x rest → StopsPart p rest → ⊥ }
 {}
 
 /// Among the plans of functions the plan of a sort of SQL gives what it gives in SQL.
 pub fn plans_of_sql_give_the_same()
-    ensures { (n : Sort) (ts : List Sign) (o : Option (Tree n × List Sign)) → Runs Tree plan n (plan n) ts o ↔ Runs AnyTree any_plan (sql n) (any_plan (sql n)) ts o }
+    ensures { (n : Sort) (ts : List Sign) (o : Option (Tree n × List Sign))
+        → Runs Tree plan n (plan n) ts o ↔ Runs AnyTree any_plan (sql n) (any_plan (sql n)) ts o }
 {}
 
 /// The signs of a part have one tree, and the part has one end that ends it.
 pub fn signs_have_one_tree()
-    ensures { (p : Part) (ts : List Sign) (x y : PartTree p) (rest other : List Sign) → ReadsPart p ts x rest → StopsPart p rest → ReadsPart p ts y other → StopsPart p other
+    ensures { (p : Part) (ts : List Sign) (x y : PartTree p) (rest other : List Sign) → ReadsPart p ts x rest
+        → StopsPart p rest → ReadsPart p ts y other → StopsPart p other
         → (x ≡ y) × (rest ≡ other) }
 {}
 

@@ -2,7 +2,7 @@
 
 ghost use Rattle.std.specs.Prelude.{◌≡◌};
 ghost use Rattle.away_grammar.specs.FunctionGrammar.{opens_loop};
-ghost use Rattle.sql_text.specs.Said.{said};
+ghost use Rattle.sql_text.specs.CodeSigns.{meaning_of};
 ghost use Rattle.plsql_parse.specs.Sorts.{is_name};
 ghost use Rattle.plsql_parse.specs.Bodies as plan;
 ghost use Rattle.plsql_parse.specs.Taken as taken;
@@ -94,7 +94,7 @@ pub(crate) fn sees_loop(tokens: &Cursor<'_>) -> bool
 }
 
 fn is_loop(sign: Sign<'_>) -> bool
-    ensures { result ≡ taken.is_loop (said sign.entry) }
+    ensures { result ≡ taken.is_loop (meaning_of sign.entry) }
 {
     match sign {
         Sign::Mark(Mark::Loop) => true,
@@ -103,7 +103,7 @@ fn is_loop(sign: Sign<'_>) -> bool
 }
 
 fn is_end(sign: Sign<'_>) -> bool
-    ensures { result ≡ taken.is_end (said sign.entry) }
+    ensures { result ≡ taken.is_end (meaning_of sign.entry) }
 {
     match sign {
         Sign::Mark(Mark::End) => true,

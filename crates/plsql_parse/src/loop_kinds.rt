@@ -8,12 +8,12 @@ ghost use Rattle.plsql_parse.specs.Sorts.{AnyTree, part};
 ghost use Rattle.plsql_parse.specs.Bodies.{kind_plan, while_plan, counted_plan, step_plan};
 ghost use Rattle.plsql_parse.specs.Plans.{any_plan};
 
-use crate::expressions::{unboxed, value_of};
+use crate::expressions::value_of;
 use crate::lookahead::sees_loop;
 use away_grammar::Mark;
 use away_trees::{Expr, LoopKind};
 use away_values::Name;
-use sql_text::{Cursor, Refusal};
+use sql_text::{Cursor, Refusal, unboxed};
 use sqlite_items::Boxed;
 use std::alloc::Global;
 
@@ -23,7 +23,7 @@ pub(crate) fn kind_of(alloc: Global, tokens: &mut Cursor<'_>) -> Result<Boxed<Lo
     ensures shrinks { length tokens.new ≤ length tokens.old }
 {
     if tokens.eat(Mark::While) {
-        return repeated_while(alloc, tokens);
+        return while_loop(alloc, tokens);
     }
     if !tokens.eat(Mark::For) {
         return Ok(Boxed::new(alloc, LoopKind::Plain)?);
@@ -31,11 +31,11 @@ pub(crate) fn kind_of(alloc: Global, tokens: &mut Cursor<'_>) -> Result<Boxed<Lo
     let name = tokens.name(alloc)?;
     tokens.expect(Mark::In)?;
     let reverse = tokens.eat(Mark::Reverse);
-    counted(alloc, tokens, name, reverse)
+    count_loop(alloc, tokens, name, reverse)
 }
 
 /// The condition behind WHILE.
-fn repeated_while(alloc: Global, tokens: &mut Cursor<'_>) -> Result<Boxed<LoopKind>, Refusal>
+fn while_loop(alloc: Global, tokens: &mut Cursor<'_>) -> Result<Boxed<LoopKind>, Refusal>
     ensures found { Gives AnyTree any_plan (part kind) while_plan tokens.old result tokens.new }
     ensures shrinks { length tokens.new ≤ length tokens.old }
 {
@@ -47,7 +47,7 @@ fn repeated_while(alloc: Global, tokens: &mut Cursor<'_>) -> Result<Boxed<LoopKi
 }
 
 /// The bounds of FOR and its step.
-fn counted(
+fn count_loop(
     alloc: Global,
     tokens: &mut Cursor<'_>,
     name: Name,

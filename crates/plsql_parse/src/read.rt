@@ -14,9 +14,7 @@ use crate::bodies::body_of;
 use crate::counts::counts_of;
 use crate::headers::{Header, header_of};
 use crate::outside::outside_word;
-use away_lex::{
-    FunctionTokens, LimitKind, ReadRefusal, Token, TokensRefusal, folded, function_tokens, nesting,
-};
+use away_lex::{FunctionTokens, LimitKind, ReadRefusal, Token, folded, function_tokens, nesting};
 use away_trees::{Function, Stmt, node_count};
 use sql_text::{Cursor, Refusal, as_text, signs_of};
 use sqlite_items::Boxed;
@@ -53,17 +51,12 @@ fn lists_of<'a>(alloc: Global, bytes: &'a [u8]) -> Result<FunctionTokens<'a>, Re
     let Some(text) = as_text(bytes) else {
         return Err(ReadRefusal::NotText);
     };
-    match function_tokens(alloc, text) {
-        Ok(lists) => {
-            let found = nesting(lists.body.as_slice());
-            if found > MOST_NESTING {
-                Err(limit(LimitKind::Nesting, found))
-            } else {
-                Ok(lists)
-            }
-        }
-        Err(TokensRefusal::Bad { offset }) => Err(ReadRefusal::Token { offset }),
-        Err(TokensRefusal::NoMemory) => Err(ReadRefusal::NoMemory),
+    let lists = function_tokens(alloc, text)?;
+    let found = nesting(lists.body.as_slice());
+    if found > MOST_NESTING {
+        Err(limit(LimitKind::Nesting, found))
+    } else {
+        Ok(lists)
     }
 }
 

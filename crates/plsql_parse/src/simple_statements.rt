@@ -10,17 +10,17 @@ ghost use Rattle.plsql_parse.specs.Bodies.{assigned_plan, value_plan, marked_pla
 ghost use Rattle.plsql_parse.specs.Plans.{any_plan};
 ghost use Rattle.plsql_parse.specs.Taken as taken;
 
-use crate::expressions::{unboxed, value_of};
+use crate::expressions::value_of;
 use crate::words_and_strings::{eat_word, string};
 use away_grammar::Mark;
 use away_trees::{Expr, Raised, Stmt};
 use away_values::{Name, Word};
-use sql_text::{Cursor, Refusal};
+use sql_text::{Cursor, Refusal, unboxed};
 use sqlite_items::Boxed;
 use std::alloc::Global;
 
 /// What is assigned to the name, behind it.
-pub(crate) fn assignment(
+pub(crate) fn assignment_statement(
     alloc: Global,
     tokens: &mut Cursor<'_>,
     name: Name,
@@ -29,14 +29,14 @@ pub(crate) fn assignment(
     ensures shrinks { length tokens.new ≤ length tokens.old }
 {
     if tokens.eat(Mark::Assign) {
-        return assigned(alloc, tokens, name);
+        return assigned_value(alloc, tokens, name);
     }
     tokens.expect(Mark::Equal)?;
-    assigned(alloc, tokens, name)
+    assigned_value(alloc, tokens, name)
 }
 
 /// The value that is assigned.
-fn assigned(alloc: Global, tokens: &mut Cursor<'_>, name: Name) -> Result<Stmt, Refusal>
+fn assigned_value(alloc: Global, tokens: &mut Cursor<'_>, name: Name) -> Result<Stmt, Refusal>
     ensures found { Gives AnyTree any_plan (part statement) (value_plan name) tokens.old result tokens.new }
     ensures shrinks { length tokens.new ≤ length tokens.old }
 {
@@ -46,7 +46,7 @@ fn assigned(alloc: Global, tokens: &mut Cursor<'_>, name: Name) -> Result<Stmt, 
 }
 
 /// The `;` behind NULL.
-pub(crate) fn nothing(tokens: &mut Cursor<'_>) -> Result<Stmt, Refusal>
+pub(crate) fn null_statement(tokens: &mut Cursor<'_>) -> Result<Stmt, Refusal>
     ensures found { Gives AnyTree any_plan (part statement) (marked_plan Null) tokens.old result tokens.new }
     ensures shrinks { length tokens.new ≤ length tokens.old }
 {
@@ -55,7 +55,7 @@ pub(crate) fn nothing(tokens: &mut Cursor<'_>) -> Result<Stmt, Refusal>
 }
 
 /// The value behind RETURN.
-pub(crate) fn returned(alloc: Global, tokens: &mut Cursor<'_>) -> Result<Stmt, Refusal>
+pub(crate) fn return_statement(alloc: Global, tokens: &mut Cursor<'_>) -> Result<Stmt, Refusal>
     ensures found { Gives AnyTree any_plan (part statement) (marked_plan Return) tokens.old result tokens.new }
     ensures shrinks { length tokens.new ≤ length tokens.old }
 {
@@ -65,7 +65,7 @@ pub(crate) fn returned(alloc: Global, tokens: &mut Cursor<'_>) -> Result<Stmt, R
 }
 
 /// What stands behind EXIT.
-pub(crate) fn exit(alloc: Global, tokens: &mut Cursor<'_>) -> Result<Stmt, Refusal>
+pub(crate) fn exit_statement(alloc: Global, tokens: &mut Cursor<'_>) -> Result<Stmt, Refusal>
     ensures found { Gives AnyTree any_plan (part statement) (leaving_plan made.Exit) tokens.old result tokens.new }
     ensures shrinks { length tokens.new ≤ length tokens.old }
 {
@@ -76,7 +76,7 @@ pub(crate) fn exit(alloc: Global, tokens: &mut Cursor<'_>) -> Result<Stmt, Refus
 }
 
 /// What stands behind CONTINUE.
-pub(crate) fn go_on(alloc: Global, tokens: &mut Cursor<'_>) -> Result<Stmt, Refusal>
+pub(crate) fn continue_statement(alloc: Global, tokens: &mut Cursor<'_>) -> Result<Stmt, Refusal>
     ensures found { Gives AnyTree any_plan (part statement) (leaving_plan made.Continue) tokens.old result tokens.new }
     ensures shrinks { length tokens.new ≤ length tokens.old }
 {
@@ -99,7 +99,7 @@ fn condition_of(alloc: Global, tokens: &mut Cursor<'_>) -> Result<Option<Boxed<E
 }
 
 /// What stands behind RAISE: a message, or a SQLSTATE.
-pub(crate) fn raised(alloc: Global, tokens: &mut Cursor<'_>) -> Result<Stmt, Refusal>
+pub(crate) fn raise_statement(alloc: Global, tokens: &mut Cursor<'_>) -> Result<Stmt, Refusal>
     ensures found { Gives AnyTree any_plan (part statement) raise_plan tokens.old result tokens.new }
     ensures shrinks { length tokens.new ≤ length tokens.old }
 {

@@ -9,7 +9,9 @@ ghost use Rattle.away_grammar.specs.FunctionGrammar as grammar;
 ghost use Rattle.away_grammar.specs.FunctionGrammar.{branch, elsifs, whens, statement, statements};
 ghost use Rattle.sql_text.specs.Plans.{Begins, Gives};
 ghost use Rattle.plsql_parse.specs.Sorts.{AnyTree, part};
-ghost use Rattle.plsql_parse.specs.Bodies.{statements_plan, statement_plan, labelled_plan, marked_plan, if_plan, cases_plan, elsif_plan, when_plan, branch_plan, otherwise_plan, block_plan, begun_plan, repeated_plan, repeating_plan};
+ghost use Rattle.plsql_parse.specs.Bodies.{statements_plan, statement_plan, labelled_plan, marked_plan, if_plan, cases_plan};
+ghost use Rattle.plsql_parse.specs.Bodies.{elsif_plan, when_plan, branch_plan, otherwise_plan, block_plan, begun_plan};
+ghost use Rattle.plsql_parse.specs.Bodies.{repeated_plan, repeating_plan};
 ghost use Rattle.plsql_parse.specs.Plans.{any_plan};
 ghost use Rattle.plsql_parse.specs.Taken.{EndTaken, arm_with};
 
@@ -17,7 +19,10 @@ use crate::declarations::decls_of;
 use crate::expressions::value_of;
 use crate::lookahead::{sees_block, sees_closing, sees_opening};
 use crate::loop_kinds::kind_of;
-use crate::simple_statements::{assignment, exit, go_on, nothing, raised, returned};
+use crate::simple_statements::{
+    assignment_statement, continue_statement, exit_statement, null_statement, raise_statement,
+    return_statement,
+};
 use away_grammar::Mark;
 use away_lex::folded;
 use away_trees::{Arm, Decl, Expr, LoopKind, Stmt};
@@ -56,7 +61,7 @@ fn statement_of(alloc: Global, tokens: &mut Cursor<'_>) -> Result<Stmt, Refusal>
     match tokens.take() {
         Some(Sign::Name(text)) => {
             let name = folded(alloc, text)?;
-            assignment(alloc, tokens, name)
+            assignment_statement(alloc, tokens, name)
         }
         Some(Sign::Mark(mark)) => marked(alloc, tokens, mark),
         Some(Sign::Integer(_)) => Err(Refusal::NoTree),
@@ -92,13 +97,13 @@ fn marked(alloc: Global, tokens: &mut Cursor<'_>, mark: Mark) -> Result<Stmt, Re
     ensures shrinks { length tokens.new ≤ length tokens.old }
 {
     match mark {
-        Mark::Null => nothing(tokens),
-        Mark::Return => returned(alloc, tokens),
+        Mark::Null => null_statement(tokens),
+        Mark::Return => return_statement(alloc, tokens),
         Mark::If => if_of(alloc, tokens),
         Mark::Case => case_of(alloc, tokens),
-        Mark::Exit => exit(alloc, tokens),
-        Mark::Continue => go_on(alloc, tokens),
-        Mark::Raise => raised(alloc, tokens),
+        Mark::Exit => exit_statement(alloc, tokens),
+        Mark::Continue => continue_statement(alloc, tokens),
+        Mark::Raise => raise_statement(alloc, tokens),
         _ => Err(Refusal::NoTree),
     }
 }

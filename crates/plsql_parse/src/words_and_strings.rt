@@ -4,7 +4,7 @@ ghost use Rattle.std.specs.Prelude.{◌≡◌, ◌≤◌, ◌<◌, true, false, 
 ghost use Rattle.std.specs.Bool.{OnTrue, OnFalse};
 ghost use Rattle.away_grammar.specs.Reserved.{folded};
 ghost use Rattle.sql_text.specs.Plans.{first, tail};
-ghost use Rattle.sql_text.specs.Said.{Found};
+ghost use Rattle.sql_text.specs.CodeSigns.{Found};
 ghost use Rattle.plsql_parse.specs.Sorts.{begins_word, string_in};
 
 use away_values::Word;

@@ -81,18 +81,18 @@ all_spoken : {ts : List Sign} → Clear ts → AllSpoken ts
 all_spoken nothing = tt
 all_spoken (behind h k d) = (h, all_spoken d)
 
-abbrev said : Written → Sign
-said w = says_by w.kind w.text
+abbrev sign_of : Written → Sign
+sign_of w = says_by w.kind w.text
 
-placed_say : (ws : List Written) (at : ℕ) → all_say (lexemes_from at ws) ≡ map said ws
+placed_say : (ws : List Written) (at : ℕ) → all_say (lexemes_from at ws) ≡ map sign_of ws
 placed_say [] at = refl
-placed_say (w ∷ ws) at = ap (λ ts. said w ∷ ts) (placed_say ws ((if w.spaced then at + 1 else at) + length w.text))
+placed_say (w ∷ ws) at = ap (λ ts. sign_of w ∷ ts) (placed_say ws ((if w.spaced then at + 1 else at) + length w.text))
 
-behind_says : (ts : List Sign) (a : Spelled) → AllSpoken ts → map said (laid_behind calls a (map spelled ts)) ≡ ts
+behind_says : (ts : List Sign) (a : Spelled) → AllSpoken ts → map sign_of (laid_behind calls a (map spelled ts)) ≡ ts
 behind_says [] a h = refl
 behind_says (t ∷ ts) a h = λ i. says_it t h.0 i ∷ behind_says ts (spelled t) h.1 i
 
-laid_say : (ts : List Sign) → AllSpoken ts → map said (laid calls (map spelled ts)) ≡ ts
+laid_say : (ts : List Sign) → AllSpoken ts → map sign_of (laid calls (map spelled ts)) ≡ ts
 laid_say [] h = refl
 laid_say (t ∷ ts) h = λ i. says_it t h.0 i ∷ behind_says ts (spelled t) h.1 i
 

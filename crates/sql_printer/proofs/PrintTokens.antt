@@ -1,6 +1,5 @@
 -- Each spoken sign is spelled as a token that says it.
 use Rattle.std.proofs.Common.{◌≡◌, ℕ, ◌+◌, ◌*◌, ◌-◌, ◌<◌, ◌≤◌, ◌^◌, Bool, true, false, ◌&&◌, ◌||◌, List, [], ◌∷◌, ◌++◌, length, take, map, chars, Some, None, refl, ap, ◌∙◌, arith, length-append, if◌then◌else◌}
-use Rattle.std.proofs.Math.Seq.{take-append_seam}
 use Rattle.std.proofs.lemmas.Bool.Decides.{nat_tests}
 use Rattle.std.proofs.lemmas.Fmt.{decimal_is_IsNumeral}
 use Rattle.std.proofs.lemmas.Str.{chars-encodes}
@@ -13,12 +12,12 @@ use Rattle.std.specs.Str.{all_scalars, str_eq_ignore_ascii_case}
 use Rattle.std.specs.Str.Parse.{AllDigits, digits_value_after}
 use Rattle.away_grammar.specs.declared.grammar.Mark.{Mark}
 use Rattle.away_grammar.specs.declared.grammar.Mark.TheVariants as m
-use Rattle.away_grammar.specs.Spellings.{Spells, IsInteger, number, number_from, quoted, doubled}
+use Rattle.away_grammar.specs.Spellings.{Spells, IsInteger, number, number_from, quoted}
 use Rattle.away_grammar.specs.Reserved.{is_reserved, folded}
 use Rattle.away_grammar.specs.Signs.{Sign, mark, name, integer, string, parameter, quote, first_mark, word_mark, symbol_mark, undoubled, between_quotes, mark_or, says_by}
 use Rattle.away_grammar.specs.Marks.{Entry, reserved_words}
 use Rattle.away_grammar.specs.Printing.{mark_spelled, spelled}
-use Rattle.away_lex.proofs.Alone.{undoubled-doubled}
+use Rattle.away_lex.proofs.Alone.{undoubled_quoted}
 use Rattle.sql_printer.specs.Spoken.{Spoken}
 
 -- ---- marks
@@ -95,11 +94,6 @@ integer_spells n h =
     record { some = (decimal_is_IsNumeral n small).0.0; digits = decimal_digits n small; fits = omega (arith, h, number_decimal n small) }
 
 -- ---- strings
-
-pub undoubled_quoted : (t : List ℕ) → undoubled (between_quotes (quoted t)) ≡ t
-undoubled_quoted t =
-    let n : length (quoted t) - 2 ≡ length (doubled t) = omega (arith, length-append (doubled t) (39 ∷ [])) in
-    ap undoubled (ap (λ n. take n (doubled t ++ 39 ∷ [])) n ∙ take-append_seam (doubled t) (39 ∷ [])) ∙ undoubled-doubled t
 
 string_says : (t : List ℕ) → all_scalars t ≡ true → chars (undoubled (between_quotes (quoted (encode_utf8_all t)))) ≡ t
 string_says t h = ap chars (undoubled_quoted (encode_utf8_all t)) ∙ chars-encodes t h

@@ -20,7 +20,7 @@ use Rattle.away_grammar.specs.Marks.{Entry, reserved_words, spelled_symbols}
 use Rattle.away_grammar.specs.Tokens.{Lexeme, Lexes, ends, skips, token, stops}
 use Rattle.away_lex.proofs.Runs.{and_left, and_right}
 use Rattle.sql_printer.specs.Spoken.{Spoken, AllSpoken}
-use Rattle.sql_printer.proofs.PrintTokens.{undoubled_quoted}
+use Rattle.away_lex.proofs.Alone.{undoubled_quoted}
 
 -- ---- strings
 

@@ -13,7 +13,8 @@ ghost use Rattle.sql_printer.specs.Spoken.{AllSpoken};
 
 /// An expression that signs read as prints as signs that read as it, at each place and whatever follows.
 pub fn printed_expressions_read_back()
-    ensures { (level place : Level) (ts rest after : List Sign) (x : Expr) → Reads (at level) ts x rest → Reads (at place) (placed place (printed x) ++ after) x after }
+    ensures { (level place : Level) (ts rest after : List Sign) (x : Expr) → Reads (at level) ts x rest
+        → Reads (at place) (placed place (printed x) ++ after) x after }
 {}
 
 /// A query that signs read as prints as signs that read as it, whatever follows.
@@ -23,7 +24,8 @@ pub fn printed_queries_read_back()
 
 /// The text of a query that spoken signs read as has tokens, and what they say reads as the query.
 pub fn printing_reads_back()
-    ensures { (ts : List Sign) (q : Query) → AllSpoken ts → Reads file ts q [] → (tokens : List Lexeme) × Lexes 0 (query_text q) tokens None × (all_say tokens ≡ query_signs q) × Reads file (all_say tokens) q [] }
+    ensures { (ts : List Sign) (q : Query) → AllSpoken ts → Reads file ts q []
+        → (tokens : List Lexeme) × Lexes 0 (query_text q) tokens None × (all_say tokens ≡ query_signs q) × Reads file (all_say tokens) q [] }
 {}
 
 /// What the tokens of a text say is spoken.

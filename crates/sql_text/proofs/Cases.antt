@@ -13,7 +13,7 @@ use Rattle.away_grammar.specs.Signs.{Sign, mark, integer}
 use Rattle.away_grammar.specs.Grammar.{at, arms, query, selects, key, Tree, literal_of, called, is_number, may_join}
 use Rattle.sql_text.specs.declared.refusal.Refusal.{Refusal}
 use Rattle.sql_text.specs.declared.refusal.Refusal.TheVariants.{NoTree, NoMemory}
-use Rattle.sql_text.specs.Said.{Found, Numbered}
+use Rattle.sql_text.specs.CodeSigns.{Found, Numbered}
 use Rattle.sql_text.specs.Plans.{Plan, done, fail, eat, read, expect, Begins, Gives, tree, no_tree, no_memory, ends, fails, leaves}
 use Rattle.sql_text.specs.Descent.{plan, case_plan, cases_with, primary_with, primary_by, word_plan, arguments_plan, within_plan, test_plan, rows_plan, key_with, key_plan, query_with, query_plan}
 use Rattle.sql_text.proofs.Steps.{read_on, failed, finished, eaten, left}

@@ -13,7 +13,7 @@ use Rattle.away_trees.specs.declared.queries.Query.{Query}
 use Rattle.away_grammar.specs.Signs.{Sign, mark, name}
 use Rattle.away_grammar.specs.Grammar.{Sort, at, item, items, from_item, from_items, key, keys, names, query, Tree, perhaps, qualified, is_number}
 use Rattle.sql_text.specs.Plans.{Plan, eat, Begins, Runs, ends, eats, leaves, reads}
-use Rattle.sql_text.specs.Next.{name_in}
+use Rattle.sql_text.specs.SignKinds.{name_in}
 use Rattle.sql_text.specs.Descent.{plan, a_name, item_with, from_with, key_with, table_plan, sub_plan, columns_plan, qualified_name}
 use Rattle.sql_text.proofs.CompleteStops.{looser, no_mark, no_name}
 use Rattle.sql_text.proofs.CompleteSteps.{Given, wants, finds, overlooks, rejected, other_mark, other_sign}

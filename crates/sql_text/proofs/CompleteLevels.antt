@@ -15,7 +15,7 @@ use Rattle.away_trees.specs.declared.queries.Expr.TheVariants as e
 use Rattle.away_grammar.specs.Signs.{Sign, mark, name, integer, string, parameter, quote}
 use Rattle.away_grammar.specs.Grammar.{at, links, list, Tree, operands, operator_of, comparison_of, test_of, type_named, mark_binds, IsChain, chained, perhaps}
 use Rattle.sql_text.specs.Plans.{Begins, Runs, ends, takes, eats, leaves, sees, misses, reads}
-use Rattle.sql_text.specs.Next.{operator_in, comparison_in, test_in, type_in, is_least}
+use Rattle.sql_text.specs.SignKinds.{operator_in, comparison_in, test_in, type_in, is_least}
 use Rattle.sql_text.specs.Descent.{plan, chain_plan, within_plan, test_plan}
 use Rattle.sql_text.proofs.Starts.{StartsAt, cannot_begin, begun}
 use Rattle.sql_text.proofs.CompleteStops.{Following, looser, no_mark, no_operator, no_comparison, comparison_binds}

@@ -12,7 +12,7 @@ use Rattle.away_trees.specs.declared.queries.Query.{Query}
 use Rattle.away_grammar.specs.Signs.{Sign, mark, name, integer, string, parameter, quote}
 use Rattle.away_grammar.specs.Grammar.{Tree, at, list, arms, query, literal_of, called, type_named}
 use Rattle.sql_text.specs.Plans.{Plan, done, Begins, ends, takes, eats, leaves, sees, misses, reads}
-use Rattle.sql_text.specs.Next.{name_in, type_in, parameter_in, is_select}
+use Rattle.sql_text.specs.SignKinds.{name_in, type_in, parameter_in, is_select}
 use Rattle.sql_text.specs.Descent.{primary_by, arguments_plan}
 use Rattle.sql_text.proofs.Starts.{StartsAt, cannot_begin, not_typed, begun, begins}
 use Rattle.sql_text.proofs.CompleteStops.{Following, looser, no_mark}

@@ -15,7 +15,7 @@ use Rattle.away_trees.specs.declared.schemas.TableSchema.{TableSchema}
 use Rattle.away_grammar.specs.Signs.{Sign, mark, name}
 use Rattle.away_grammar.specs.Grammar.{at, items, from_items, from_clause, where_clause, keys, order_clause, limit_clause, select, selects, query, names, recursive, file, column, columns, tables, Tree, StopsAt, may_join, perhaps, qualified, not_null, type_named}
 use Rattle.sql_text.specs.Plans.{Plan, done, eat, expect, Begins, Runs, ends, eats, leaves, sees, misses, reads}
-use Rattle.sql_text.specs.Next.{name_in, type_in, is_with}
+use Rattle.sql_text.specs.SignKinds.{name_in, type_in, is_with}
 use Rattle.sql_text.specs.Descent.{plan, select_with, query_with, recursive_with, parted, put_first, file_with}
 use Rattle.sql_text.proofs.CompleteStops.{Following, looser, no_mark}
 use Rattle.sql_text.proofs.CompleteSteps.{Given, wants, decides, chosen, other_mark}

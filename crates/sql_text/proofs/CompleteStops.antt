@@ -10,7 +10,7 @@ use Rattle.away_grammar.specs.Signs.{Sign, mark, name, integer, string, paramete
 use Rattle.away_grammar.specs.Grammar as g
 use Rattle.away_grammar.specs.Grammar.{Sort, at, links, arms, from_clause, where_clause, order_clause, limit_clause, Tree, Reads, operands, rank, operator_of, comparison_of, mark_binds, binds, StopsAt}
 use Rattle.sql_text.specs.Plans.{Begins, first}
-use Rattle.sql_text.specs.Next.{operator_in, comparison_in, name_in}
+use Rattle.sql_text.specs.SignKinds.{operator_in, comparison_in, name_in}
 use Rattle.sql_text.proofs.Starts.{rank_operands}
 
 pub looser : (r t : ℕ) (ts : List Sign) → r ≤ t → StopsAt r ts → StopsAt t ts

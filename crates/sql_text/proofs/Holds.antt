@@ -1,5 +1,5 @@
 -- What has to hold so that a relation has what a plan gives. `plan_gives` shows that it is enough.
-use Rattle.std.proofs.Common.{◌≡◌, ℕ, Bool, true, false, if◌then◌else◌, List, [], ◌∷◌, Option, Some, None, refl, ap, subst}
+use Rattle.std.proofs.Common.{◌≡◌, ℕ, Bool, true, false, if◌then◌else◌, List, [], ◌∷◌, Option, Some, None, refl, subst}
 use Rattle.std.proofs.lemmas.Option.{same_Some}
 use Rattle.away_grammar.specs.declared.grammar.Mark.{Mark}
 use Rattle.away_grammar.specs.Signs.{Sign, mark, name, parameter}
@@ -9,7 +9,7 @@ use Rattle.away_values.specs.declared.operators.ChainOp.{ChainOp}
 use Rattle.away_values.specs.declared.operators.CmpOp.{CmpOp}
 use Rattle.away_values.specs.declared.operators.IsTest.{IsTest}
 use Rattle.away_grammar.specs.Grammar.{type_named, operator_of, comparison_of, test_of}
-use Rattle.sql_text.specs.Next.{name_in, type_in, parameter_in, operator_in, comparison_in, test_in}
+use Rattle.sql_text.specs.SignKinds.{name_in, type_in, parameter_in, operator_in, comparison_in, test_in}
 use Rattle.sql_text.specs.Plans.{Plan, done, fail, take, eat, look, read, first, with, Runs, ends, fails, takes, eats, leaves, sees, misses, reads, breaks}
 
 -- At the signs ts, of which `Known ts` is known, a plan goes on that began at the signs `begun ts`. Whatever it gives from there is in the relation.

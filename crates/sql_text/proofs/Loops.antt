@@ -13,7 +13,7 @@ use Rattle.away_grammar.specs.Signs.{Sign, mark}
 use Rattle.away_grammar.specs.Grammar.{at, links, list, arms, item, items, from_item, from_items, from_clause, key, keys, order_clause, select, selects, Tree, chained, operands}
 use Rattle.sql_text.specs.declared.refusal.Refusal.{Refusal}
 use Rattle.sql_text.specs.declared.refusal.Refusal.TheVariants.{NoTree}
-use Rattle.sql_text.specs.Next.{operator_in}
+use Rattle.sql_text.specs.SignKinds.{operator_in}
 use Rattle.sql_text.specs.Plans.{Plan, done, read, eat, expect, with, is_some, first, tail, Begins, Runs, ends, fails, takes, eats, leaves, sees, misses, reads, breaks, Gives, tree, no_tree, no_memory}
 use Rattle.sql_text.proofs.Steps.{run_of, read_no, read_on}
 use Rattle.sql_text.specs.Descent.{plan, chain_plan, links_plan}

@@ -1,10 +1,8 @@
--- Searches over tables of texts and their marks, and the numbers that digits spell, one step further.
-use Rattle.std.proofs.Common.{◌≡◌, ◌≤◌, ℕ, zero, suc, ◌+◌, ◌*◌, ◌-◌, ◌<◌, Bool, true, false, List, [], ◌∷◌, length, get_or, drop, map, Some, sym, ap, ◌∙◌, arith, Bor}
+-- Searches over tables of texts and their marks, one step further.
+use Rattle.std.proofs.Common.{◌≡◌, ℕ, zero, suc, ◌+◌, ◌<◌, Bool, true, false, List, [], ◌∷◌, length, get_or, drop, map, Some, arith, Bor}
 use Rattle.away_grammar.specs.declared.grammar.Mark.{Mark}
 use Rattle.away_grammar.specs.Signs.{first_mark}
-use Rattle.away_grammar.specs.Spellings.{number_from}
-use Rattle.away_lex.proofs.Steps.{number_ge, at_cons}
-use Rattle.sql_text.specs.Said.{entry}
+use Rattle.sql_text.specs.CodeSigns.{entry}
 
 pub mark_here : (same : List ℕ → Bool) (es : List (Bor (List ℕ) × Mark)) (i : ℕ) (d : Bor (List ℕ) × Mark) → i < length es → same (get_or es i d).0.now ≡ true → first_mark same (map entry (drop i es)) ≡ Some (get_or es i d).1
 mark_here same [] i d lt h = absurd (omega arith)
@@ -15,10 +13,3 @@ pub mark_next : (same : List ℕ → Bool) (es : List (Bor (List ℕ) × Mark)) 
 mark_next same [] i d lt h = absurd (omega arith)
 mark_next same (e ∷ es) zero d lt h = rw h
 mark_next same (e ∷ es) (suc i) d lt h = let n : suc i + 1 ≡ suc (i + 1) = omega arith in rw n (mark_next same es i d (omega arith) h)
-
--- one digit more of a number
-pub number_more : (z : List ℕ) (at v total : ℕ) → at < length z → number_from v (drop at z) ≡ total → v * 10 + (get_or z at 0 - 48) ≤ total
-number_more z at v total lt e =
-    let next = v * 10 + (get_or z at 0 - 48) in
-    let same : number_from next (drop (at + 1) z) ≡ total = sym (ap (number_from v) (at_cons z at lt)) ∙ e in
-    omega (arith, number_ge next (drop (at + 1) z), same)

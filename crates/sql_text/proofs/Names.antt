@@ -7,8 +7,8 @@ use Rattle.away_grammar.specs.Signs.{Sign, mark}
 use Rattle.away_grammar.specs.Grammar.{Sort, names, Tree}
 use Rattle.sql_text.specs.declared.refusal.Refusal.{Refusal}
 use Rattle.sql_text.specs.declared.refusal.Refusal.TheVariants.{NoTree, NoMemory}
-use Rattle.sql_text.specs.Next.{name_in}
-use Rattle.sql_text.specs.Said.{Found, Taken}
+use Rattle.sql_text.specs.SignKinds.{name_in}
+use Rattle.sql_text.specs.CodeSigns.{Found, Taken}
 use Rattle.sql_text.specs.Plans.{Plan, done, read, eat, with, perhaps_a, first, tail, Begins, Runs, ends, fails, takes, eats, leaves, reads, breaks, Gives, tree, no_tree, no_memory}
 use Rattle.sql_text.specs.Descent.{plan, a_name, qualified_name}
 use Rattle.sql_text.specs.Qualified.{NameRead}

@@ -82,13 +82,13 @@ no_tree_of {n = n} a none y b = none y (subst (λ ts. Reads n (all_say ts) y [])
 same_end : (n e f : ℕ) → e ≤ n → f ≤ n → n - e ≡ n - f → e ≡ f
 same_end n e f le lf h = omega (arith, h)
 
-said_length : (list : List Lexeme) (k : ℕ) → length (all_say (drop k list)) ≡ length list - k
-said_length list k = length-map (drop k list) says ∙ length-drop k list
+signs_length : (list : List Lexeme) (k : ℕ) → length (all_say (drop k list)) ≡ length list - k
+signs_length list k = length-map (drop k list) says ∙ length-drop k list
 
 pub one_expression : {list : List Lexeme} {begin e f : ℕ} {x y : Expr} → IsExpression list begin x e → IsExpression list begin y f → (x ≡ y) × (e ≡ f)
 one_expression {list = list} {e = e} {f = f} a b =
     let same = one_given (complete b.reads b.stops) a.reads a.stops in
-    (same.0, same_end (length list) e f a.within b.within (sym (said_length list e) ∙ ap length same.1 ∙ said_length list f))
+    (same.0, same_end (length list) e f a.within b.within (sym (signs_length list e) ∙ ap length same.1 ∙ signs_length list f))
 
 -- what is left of the signs is what the tokens say from a place on
 pub expression_read : (list : List Lexeme) (begin : ℕ) (x : Expr) (new : List Sign) → begin ≤ length list → Gives Tree plan (at l.Or) (plan (at l.Or)) (all_say (drop begin list)) (Ok x) new → Stops (at l.Or) new
@@ -97,7 +97,7 @@ expression_read list begin x new le d s =
     let run = run_of d in
     let front = leaves_end run in
     let k : ℕ = length front.0 in
-    let size : k + length new ≡ length list - begin = sym (length-append front.0 new) ∙ sym (ap length front.1) ∙ said_length list begin in
+    let size : k + length new ≡ length list - begin = sym (length-append front.0 new) ∙ sym (ap length front.1) ∙ signs_length list begin in
     let end : begin + k ≡ length list - length new = omega (arith, size, le) in
     let rest : all_say (drop (begin + k) list) ≡ new =
     ap all_say (sym (drop-drop k begin list)) ∙ sym (drop-map says k (drop begin list)) ∙ ap (drop k) front.1 ∙ drop-append_seam front.0 new in

@@ -1,5 +1,5 @@
 -- What the signs from a place on are, and that each token of a list is spelled.
-use Rattle.std.proofs.Common.{◌≡◌, ℕ, zero, suc, ◌+◌, ◌<◌, ◌≤◌, List, [], ◌∷◌, ◌++◌, length, get_or, drop, map, Some, refl, sym, ap, ◌∙◌, arith}
+use Rattle.std.proofs.Common.{◌≡◌, ℕ, zero, suc, ◌+◌, ◌<◌, List, [], ◌∷◌, ◌++◌, length, get_or, drop, map, Some, refl, sym, ap, ◌∙◌, arith}
 use Rattle.away_grammar.specs.declared.grammar.Mark.{Mark}
 use Rattle.away_grammar.specs.Signs.{Sign, mark, says, all_say}
 use Rattle.away_grammar.specs.Spellings.{Spells}
@@ -7,18 +7,18 @@ use Rattle.away_grammar.specs.Tokens.{AreSpelled}
 use Rattle.away_lex.specs.Lexed.{seen}
 use Rattle.away_lex.specs.declared.slices.Token as declared
 use Rattle.sql_text.specs.Plans.{first, tail, Begins}
-use Rattle.sql_text.specs.Said.{said}
+use Rattle.sql_text.specs.CodeSigns.{meaning_of}
 use Rattle.sql_text.specs.declared.signs.Sign as code
 
-pub said_on : (l : List code.Sign) (at : ℕ) → at < length l → map said (drop (at + 1) l) ≡ tail (map said (drop at l))
-said_on [] at lt = absurd (omega arith)
-said_on (t ∷ l) zero lt = refl
-said_on (t ∷ l) (suc at) lt = let n : suc at + 1 ≡ suc (at + 1) = omega arith in rw n (said_on l at (omega arith))
+pub meanings_on : (l : List code.Sign) (at : ℕ) → at < length l → map meaning_of (drop (at + 1) l) ≡ tail (map meaning_of (drop at l))
+meanings_on [] at lt = absurd (omega arith)
+meanings_on (t ∷ l) zero lt = refl
+meanings_on (t ∷ l) (suc at) lt = let n : suc at + 1 ≡ suc (at + 1) = omega arith in rw n (meanings_on l at (omega arith))
 
-pub said_first : (l : List code.Sign) (at : ℕ) (none : code.Sign) → at < length l → Some (said (get_or l at none)) ≡ first (map said (drop at l))
-said_first [] at none lt = absurd (omega arith)
-said_first (t ∷ l) zero none lt = refl
-said_first (t ∷ l) (suc at) none lt = said_first l at none (omega arith)
+pub first_meaning : (l : List code.Sign) (at : ℕ) (none : code.Sign) → at < length l → Some (meaning_of (get_or l at none)) ≡ first (map meaning_of (drop at l))
+first_meaning [] at none lt = absurd (omega arith)
+first_meaning (t ∷ l) zero none lt = refl
+first_meaning (t ∷ l) (suc at) none lt = first_meaning l at none (omega arith)
 
 pub spelled_at : (l : List declared.Token) (at : ℕ) (none : declared.Token) → AreSpelled (map seen l) → at < length l → Spells (get_or l at none).kind (get_or l at none).text.now
 spelled_at [] at none are lt = absurd (omega arith)
@@ -37,15 +37,15 @@ says_at [] at none lt = absurd (omega arith)
 says_at (t ∷ l) zero none lt = refl
 says_at (t ∷ l) (suc at) none lt = let n : suc at + 1 ≡ suc (at + 1) = omega arith in rw n (says_at l at none (omega arith))
 
-said_behind : (signs : List code.Sign) (s : code.Sign) (rest : List Sign) → map said (signs ++ s ∷ []) ++ rest ≡ map said signs ++ said s ∷ rest
-said_behind [] s rest = refl
-said_behind (first ∷ signs) s rest = ap (λ l. said first ∷ l) (said_behind signs s rest)
+meanings_behind : (signs : List code.Sign) (s : code.Sign) (rest : List Sign) → map meaning_of (signs ++ s ∷ []) ++ rest ≡ map meaning_of signs ++ meaning_of s ∷ rest
+meanings_behind [] s rest = refl
+meanings_behind (first ∷ signs) s rest = ap (λ l. meaning_of first ∷ l) (meanings_behind signs s rest)
 
-pub signs_more : (signs : List code.Sign) (s : code.Sign) (l : List declared.Token) (at : ℕ) (none : declared.Token) (all : List Sign) → at < length l → said s ≡ says (seen (get_or l at none))
-    → map said signs ++ all_say (map seen (drop at l)) ≡ all → map said (signs ++ s ∷ []) ++ all_say (map seen (drop (at + 1) l)) ≡ all
+pub signs_more : (signs : List code.Sign) (s : code.Sign) (l : List declared.Token) (at : ℕ) (none : declared.Token) (all : List Sign) → at < length l → meaning_of s ≡ says (seen (get_or l at none))
+    → map meaning_of signs ++ all_say (map seen (drop at l)) ≡ all → map meaning_of (signs ++ s ∷ []) ++ all_say (map seen (drop (at + 1) l)) ≡ all
 signs_more signs s l at none all lt is h =
-    said_behind signs s (all_say (map seen (drop (at + 1) l)))
-    ∙ ap (λ rest. map said signs ++ rest) (ap (λ first. first ∷ all_say (map seen (drop (at + 1) l))) is ∙ sym (says_at l at none lt))
+    meanings_behind signs s (all_say (map seen (drop (at + 1) l)))
+    ∙ ap (λ rest. map meaning_of signs ++ rest) (ap (λ first. first ∷ all_say (map seen (drop (at + 1) l))) is ∙ sym (says_at l at none lt))
     ∙ h
 
 pub begins_first : (ts : List Sign) (m : Mark) → Some (mark m) ≡ first ts → Begins ts m

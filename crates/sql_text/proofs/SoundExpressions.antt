@@ -12,7 +12,7 @@ use Rattle.away_trees.specs.declared.queries.Expr.TheVariants as e
 use Rattle.away_grammar.specs.Signs.{Sign, mark, name, integer, string, parameter, quote}
 use Rattle.away_grammar.specs.Grammar.{at, links, list, arms, IsChain, literal_of, called, perhaps, Reads, chain, no_link, link, affirmed, negated, untested, tested, uncompared, compared, unranged, between, one_of, unsigned, signed, least, uncast, cast_once, cast_twice, number, text, literal, named, dotted, typed_parameter, short_parameter, parentheses, scalar, cast, exists, cases, cases_else, call_word, count_rows, call_empty, call, last, another, no_arm, arm}
 use Rattle.sql_text.specs.Plans.{done, fail}
-use Rattle.sql_text.specs.Next.{is_least}
+use Rattle.sql_text.specs.SignKinds.{is_least}
 use Rattle.sql_text.specs.Descent.{unranged_plan, chain_plan, links_plan, not_plan, is_plan, compare_plan, within_plan, range_plan, sign_plan, cast_plan, named_plan, inside_plan, cast_call_plan, exists_plan, case_plan, parameter_plan, primary_with, primary_by, primary_plan, list_plan, arms_plan}
 use Rattle.sql_text.proofs.Holds.{Holds, Nothing, here, if_holds, name_taken, parameter_taken, type_taken, operator_taken, comparison_taken, test_taken}
 

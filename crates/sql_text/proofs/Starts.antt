@@ -11,7 +11,7 @@ use Rattle.away_grammar.specs.Signs.{Sign, mark, name, integer, string, paramete
 use Rattle.away_grammar.specs.Grammar as g
 use Rattle.away_grammar.specs.Grammar.{Sort, at, list, item, items, key, keys, select, selects, query, recursive, Tree, Reads, operands, rank, literal_of, called}
 use Rattle.sql_text.specs.Plans.{Begins}
-use Rattle.sql_text.specs.Next.{is_typed_parameter}
+use Rattle.sql_text.specs.SignKinds.{is_typed_parameter}
 
 abbrev pub mark_begins : Mark → ℕ
 mark_begins m.Open = 32

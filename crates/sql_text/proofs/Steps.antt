@@ -4,7 +4,7 @@ use Rattle.away_grammar.specs.declared.grammar.Mark.{Mark}
 use Rattle.sql_text.specs.declared.refusal.Refusal.{Refusal}
 use Rattle.sql_text.specs.declared.refusal.Refusal.TheVariants.{NoTree, NoMemory}
 use Rattle.away_grammar.specs.Signs.{Sign, mark}
-use Rattle.sql_text.specs.Said.{Found}
+use Rattle.sql_text.specs.CodeSigns.{Found}
 use Rattle.sql_text.specs.Plans.{Plan, done, fail, take, eat, look, read, first, tail, Begins, with, want, perhaps_a, expect, is_some, Runs, ends, fails, takes, eats, leaves, sees, misses, reads, breaks, Gives, tree, no_tree, no_memory}
 
 pub finished : {S : Type 0} {T : S → Type 0} {plan : (n : S) → Plan T n} {n : S} {x : T n} {ts new : List Sign} → new ≡ ts → Gives T plan n (done x) ts (Ok x) new

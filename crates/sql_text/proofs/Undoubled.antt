@@ -1,14 +1,11 @@
 -- The text that a string spells, by replacing each two quotes with one.
-use Rattle.std.proofs.Common.{◌≡◌, ℕ, zero, suc, ◌+◌, ◌-◌, ◌<◌, ◌≤◌, inl, inr, true, false, ◌&&◌, eqb, List, [], ◌∷◌, ◌++◌, length, take, drop, Option, Some, None, refl, sym, ap, ◌∙◌, subst, arith, length-append}
-use Rattle.std.proofs.Math.Seq.{take-append_seam}
+use Rattle.std.proofs.Common.{◌≡◌, ℕ, zero, suc, ◌+◌, ◌-◌, ◌<◌, ◌≤◌, inl, inr, true, false, ◌&&◌, eqb, List, [], ◌∷◌, ◌++◌, length, take, drop, Option, Some, None, refl, sym, ap, ◌∙◌, subst, arith}
 use Rattle.std.specs.List.{slice_range}
 use Rattle.std.proofs.lemmas.Bool.{cases_Bool}
 use Rattle.std.proofs.lemmas.Bool.Decides.{nat_tests}
 use Rattle.std.specs.Str.Pattern.{FindsText, LacksTextAt}
 use Rattle.std.specs.Str.Replace.{ReplacesMatches}
 use Rattle.away_grammar.specs.Signs.{undoubled, between_quotes}
-use Rattle.away_lex.proofs.Alone.{undoubled-doubled}
-use Rattle.away_grammar.specs.Spellings.{doubled, quoted}
 
 abbrev pub pair : List ℕ
 pair = 39 ∷ 39 ∷ []
@@ -56,11 +53,3 @@ replaced_is finds keeps text fits same (suc n) p is s out h =
 
 pub inside_is : (z : List ℕ) → slice_range z 1 (length z - 1) ≡ between_quotes z
 inside_is z = ap (λ n. take n (drop 1 z)) (omega arith)
-
-inside_quoted : (t : List ℕ) → between_quotes (quoted t) ≡ doubled t
-inside_quoted t =
-    let n : length (quoted t) - 2 ≡ length (doubled t) = omega (arith, length-append (doubled t) (39 ∷ [])) in
-    ap (λ n. take n (doubled t ++ 39 ∷ [])) n ∙ take-append_seam (doubled t) (39 ∷ [])
-
-pub undoubled_quoted : (t : List ℕ) → undoubled (between_quotes (quoted t)) ≡ t
-undoubled_quoted t = ap undoubled (inside_quoted t) ∙ undoubled-doubled t

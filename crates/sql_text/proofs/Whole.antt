@@ -7,7 +7,7 @@ use Rattle.away_grammar.specs.Grammar.{Sort, Tree}
 use Rattle.sql_text.specs.declared.refusal.Refusal.{Refusal}
 use Rattle.sql_text.specs.declared.refusal.Refusal.TheVariants.{NoTree, NoMemory}
 use Rattle.sql_text.specs.Plans.{Plan, done, with, Gives, tree, no_memory, ends}
-use Rattle.sql_text.specs.Said.{Found}
+use Rattle.sql_text.specs.CodeSigns.{Found}
 use Rattle.sql_text.specs.Descent.{plan, parted}
 use Rattle.sql_text.proofs.CompleteQueries.{parted_is}
 use Rattle.sql_text.proofs.Steps.{failed}

@@ -17,15 +17,17 @@ use Rattle.away_trees.specs.declared.queries.Recursive.{Recursive}
 use Rattle.away_trees.specs.declared.queries.Query.{Query}
 use Rattle.away_trees.specs.declared.queries.Expr.TheViews.{roll-Item, roll-FromItem, roll-Key, roll-Select, roll-Recursive, roll-Query}
 use Rattle.away_grammar.specs.Signs.{Sign, mark, name, integer, string, parameter}
-use Rattle.away_grammar.specs.Grammar.{Sort, at, links, list, arms, item, items, from_item, from_items, from_clause, where_clause, key, keys, order_clause, limit_clause, select, selects, query, names, recursive, file, column, columns, tables, Tree, literal_of, called, operands, chained, is_number, may_join}
+use Rattle.away_grammar.specs.Grammar.{Sort, at, links, list, arms, item, items, from_item, from_items, from_clause, where_clause}
+use Rattle.away_grammar.specs.Grammar.{key, keys, order_clause, limit_clause, select, selects, query, names, recursive, file}
+use Rattle.away_grammar.specs.Grammar.{column, columns, tables, Tree, literal_of, called, operands, chained, is_number, may_join}
 use Rattle.sql_text.specs.Plans.{Plan, done, fail, take, eat, look, read, with, want, perhaps_a, expect}
-use Rattle.sql_text.specs.Next.{operator_in, comparison_in, test_in, name_in, type_in, parameter_in, is_least, is_select, is_with, is_typed_parameter}
+use Rattle.sql_text.specs.SignKinds.{operator_in, comparison_in, test_in, name_in, type_in, parameter_in, is_least, is_select, is_with, is_typed_parameter}
 
 -- a name, and then by it
-abbrev pub a_name : {n : Sort} → (List ℕ → Plan Tree n) → Plan Tree n
+abbrev pub a_name : {S : Type 0} {T : S → Type 0} {n : S} → (List ℕ → Plan T n) → Plan T n
 a_name = want name_in
 
-abbrev pub a_type : {n : Sort} → (Ty → Plan Tree n) → Plan Tree n
+abbrev pub a_type : {S : Type 0} {T : S → Type 0} {n : S} → (Ty → Plan T n) → Plan T n
 a_type = want type_in
 
 -- ---- expressions
@@ -198,7 +200,7 @@ abbrev pub sub_plan : Bool → Plan Tree from_item
 sub_plan lateral = read query (λ q. expect m.Close (alias_plan q lateral))
 
 -- a name, perhaps behind `public.`
-abbrev pub qualified_name : {n : Sort} → (List ℕ → Plan Tree n) → Plan Tree n
+abbrev pub qualified_name : {S : Type 0} {T : S → Type 0} {n : S} → (List ℕ → Plan T n) → Plan T n
 qualified_name f = a_name (λ n. if bytes_eq n (codes "public") then eat m.Dot (a_name f) (f n) else f n)
 
 abbrev pub from_item_plan : Plan Tree from_item

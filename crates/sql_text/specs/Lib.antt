@@ -1,6 +1,6 @@
 pub mod Plans
-pub mod Next
+pub mod SignKinds
 pub mod Descent
-pub mod Said
+pub mod CodeSigns
 pub mod Qualified
 pub mod Refusals

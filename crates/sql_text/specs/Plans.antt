@@ -58,11 +58,15 @@ expect m p = eat m p fail
 pub data Runs {S : Type 0} (T : S → Type 0) (plan : (n : S) → Plan T n) : (n : S) → Plan T n → List Sign → Option (T n × List Sign) → Type 0 where
   ends : {n : S} {x : T n} {ts : List Sign} → Runs T plan n (done x) ts (Some (x, ts))
   fails : {n : S} {ts : List Sign} → Runs T plan n fail ts None
-  takes : {n : S} {f : Option Sign → Plan T n} {ts : List Sign} {o : Option (T n × List Sign)} → Runs T plan n (f (first ts)) (tail ts) o → Runs T plan n (take f) ts o
+  takes : {n : S} {f : Option Sign → Plan T n} {ts : List Sign} {o : Option (T n × List Sign)}
+      → Runs T plan n (f (first ts)) (tail ts) o → Runs T plan n (take f) ts o
   eats : {n : S} {m : Mark} {p q : Plan T n} {ts : List Sign} {o : Option (T n × List Sign)} → Runs T plan n p ts o → Runs T plan n (eat m p q) (mark m ∷ ts) o
-  leaves : {n : S} {m : Mark} {p q : Plan T n} {ts : List Sign} {o : Option (T n × List Sign)} → ¬ (Begins ts m) → Runs T plan n q ts o → Runs T plan n (eat m p q) ts o
-  sees : {n : S} {f : List Sign → Bool} {p q : Plan T n} {ts : List Sign} {o : Option (T n × List Sign)} → f ts ≡ true → Runs T plan n p ts o → Runs T plan n (look f p q) ts o
-  misses : {n : S} {f : List Sign → Bool} {p q : Plan T n} {ts : List Sign} {o : Option (T n × List Sign)} → f ts ≡ false → Runs T plan n q ts o → Runs T plan n (look f p q) ts o
+  leaves : {n : S} {m : Mark} {p q : Plan T n} {ts : List Sign} {o : Option (T n × List Sign)} → ¬ (Begins ts m)
+      → Runs T plan n q ts o → Runs T plan n (eat m p q) ts o
+  sees : {n : S} {f : List Sign → Bool} {p q : Plan T n} {ts : List Sign} {o : Option (T n × List Sign)} → f ts ≡ true
+      → Runs T plan n p ts o → Runs T plan n (look f p q) ts o
+  misses : {n : S} {f : List Sign → Bool} {p q : Plan T n} {ts : List Sign} {o : Option (T n × List Sign)}
+      → f ts ≡ false → Runs T plan n q ts o → Runs T plan n (look f p q) ts o
   reads : {n s : S} {f : T s → Plan T n} {ts middle : List Sign} {x : T s} {o : Option (T n × List Sign)}
       → Runs T plan s (plan s) ts (Some (x, middle)) → Runs T plan n (f x) middle o → Runs T plan n (read s f) ts o
   breaks : {n s : S} {f : T s → Plan T n} {ts : List Sign} → Runs T plan s (plan s) ts None → Runs T plan n (read s f) ts None

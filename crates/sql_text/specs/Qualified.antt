@@ -9,6 +9,7 @@ use Rattle.sql_text.specs.declared.refusal.Refusal.TheVariants.{NoTree, NoMemory
 
 -- A plan that begins with such a name goes on by this one from what is left, or gives no tree.
 abbrev pub NameRead : List Sign → Result (List ℕ) Refusal → List Sign → Type 0
-NameRead old (Ok n) new = (s : Sort) (f : List ℕ → Plan Tree s) (o : Option (Tree s × List Sign)) → Runs Tree plan s (f n) new o → Runs Tree plan s (qualified_name f) old o
+NameRead old (Ok n) new = (s : Sort) (f : List ℕ → Plan Tree s) (o : Option (Tree s × List Sign))
+    → Runs Tree plan s (f n) new o → Runs Tree plan s (qualified_name f) old o
 NameRead old (Err NoTree) new = (s : Sort) (f : List ℕ → Plan Tree s) → Runs Tree plan s (qualified_name f) old None
 NameRead old (Err NoMemory) new = Unit {0}

@@ -7,8 +7,9 @@ ghost use Rattle.away_grammar.specs.declared.grammar.Mark.TheVariants as m;
 ghost use Rattle.away_grammar.specs.Grammar.{at as expression, Stops};
 ghost use Rattle.away_grammar.specs.Signs.{mark};
 ghost use Rattle.sql_text.specs.Plans.{first, is_some, tail, Begins};
-ghost use Rattle.sql_text.specs.Next.{operator_in, comparison_in, test_in, name_in, type_in, parameter_in, is_least, is_select, is_with, is_typed_parameter};
-ghost use Rattle.sql_text.specs.Said.{said, said_next, IsSaid, Found, Expected, Taken};
+ghost use Rattle.sql_text.specs.SignKinds.{operator_in, comparison_in, test_in, name_in, type_in, parameter_in, is_least};
+ghost use Rattle.sql_text.specs.SignKinds.{is_select, is_with, is_typed_parameter};
+ghost use Rattle.sql_text.specs.CodeSigns.{meaning_of, next_meaning, HasSpelling, Found, Expected, Taken};
 
 use crate::refusal::Refusal;
 use crate::signs::{Sign, comparison_of, continues, operator_of, type_named};
@@ -31,21 +32,21 @@ pub struct Cursor<'a> {
 impl<'a> Model for Cursor<'a> {
     ghost use Rattle.std.specs.Prelude.{List, drop, length, map, All, ◌≤◌};
     ghost use Rattle.away_grammar.specs.Signs.{Sign};
-    ghost use Rattle.sql_text.specs.Said.{said, IsSaid};
+    ghost use Rattle.sql_text.specs.CodeSigns.{meaning_of, HasSpelling};
 
     ghost Value = { List Sign };
 
-    ghost view = { λ c. map said (drop c.at c.signs.now) };
+    ghost view = { λ c. map meaning_of (drop c.at c.signs.now) };
 
-    ghost invariant = { λ c. (c.at ≤ length c.signs.now) × All IsSaid c.signs.now };
+    ghost invariant = { λ c. (c.at ≤ length c.signs.now) × All HasSpelling c.signs.now };
 }
 
 impl<'a> Cursor<'a> {
     /// The place of this number in the list, from 0.
     pub fn new(signs: &'a [Sign<'a>], at: usize) -> Cursor<'a>
         requires within { at ≤ length signs.now }
-        requires spelled { All IsSaid signs.now }
-        ensures { result ≡ map said (drop at signs.now) }
+        requires spelled { All HasSpelling signs.now }
+        ensures { result ≡ map meaning_of (drop at signs.now) }
     {
         Cursor { signs, at }
     }
@@ -66,8 +67,8 @@ impl<'a> Cursor<'a> {
 
     /// What stands next.
     pub fn peek(&self) -> Option<Sign<'a>>
-        ensures value { said_next result ≡ first self.now }
-        ensures spelled { IfSome result IsSaid }
+        ensures value { next_meaning result ≡ first self.now }
+        ensures spelled { IfSome result HasSpelling }
     {
         if self.at < self.signs.len() {
             Some(self.signs[self.at])
@@ -78,9 +79,9 @@ impl<'a> Cursor<'a> {
 
     /// Takes what stands next.
     pub fn take(&mut self) -> Option<Sign<'a>>
-        ensures next { said_next result ≡ first self.old }
+        ensures next { next_meaning result ≡ first self.old }
         ensures rest { self.new ≡ tail self.old }
-        ensures spelled { IfSome result IsSaid }
+        ensures spelled { IfSome result HasSpelling }
         ensures shrinks { length self.new ≤ length self.old }
         ensures shorter { IfSome result (λ _. length self.new < length self.old) }
     {

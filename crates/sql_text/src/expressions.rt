@@ -3,10 +3,11 @@
 ghost use Rattle.std.specs.Prelude.{◌≡◌, ◌≤◌, length};
 ghost use Rattle.away_grammar.specs.Grammar.{IsChain, Tree, at, links, operands};
 ghost use Rattle.sql_text.specs.Plans.{Gives};
-ghost use Rattle.sql_text.specs.Descent.{plan, chain_plan, links_plan, not_plan, is_plan, tested_plan, compare_plan, range_plan, within_plan, between_plan, sign_plan, cast_plan, types_plan};
+ghost use Rattle.sql_text.specs.Descent.{plan, chain_plan, links_plan, not_plan, is_plan, tested_plan, compare_plan, range_plan};
+ghost use Rattle.sql_text.specs.Descent.{within_plan, between_plan, sign_plan, cast_plan, types_plan};
 
 use crate::cursor::Cursor;
-use crate::leaves::chain_of;
+use crate::nodes::chain_of;
 use crate::primaries::{list_of, primary};
 use crate::refusal::Refusal;
 use away_grammar::{Level, Mark};

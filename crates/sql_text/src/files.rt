@@ -5,10 +5,10 @@ ghost use Rattle.away_grammar.specs.Grammar.{Tree, file, recursive};
 ghost use Rattle.sql_text.specs.Plans.{Gives};
 ghost use Rattle.sql_text.specs.Descent as descent;
 ghost use Rattle.sql_text.specs.Descent.{plan, file_plan, file_with, recursive_file_plan, recursive_plan};
-ghost use Rattle.sql_text.specs.Said.{Found};
+ghost use Rattle.sql_text.specs.CodeSigns.{Found};
 
 use crate::cursor::Cursor;
-use crate::leaves::may_join;
+use crate::nodes::may_join;
 use crate::refusal::Refusal;
 use crate::selects::{query_of, selects_of};
 use crate::tables::names_of;

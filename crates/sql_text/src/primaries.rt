@@ -3,11 +3,13 @@
 ghost use Rattle.std.specs.Prelude.{◌≤◌, length};
 ghost use Rattle.away_grammar.specs.Grammar.{Tree, at, list, arms};
 ghost use Rattle.sql_text.specs.Plans.{Gives};
-ghost use Rattle.sql_text.specs.Descent.{plan, primary_plan, named_plan, inside_plan, cast_call_plan, exists_plan, case_plan, parameter_plan, typed_parameter_plan, marked_plan, word_plan, rows_plan, list_plan, arms_plan};
+ghost use Rattle.sql_text.specs.Descent.{plan, primary_plan, named_plan, inside_plan, cast_call_plan, exists_plan, case_plan};
+ghost use Rattle.sql_text.specs.Descent.{parameter_plan, typed_parameter_plan, marked_plan, word_plan, rows_plan, list_plan};
+ghost use Rattle.sql_text.specs.Descent.{arms_plan};
 
 use crate::cursor::Cursor;
 use crate::expressions::{expression, operand};
-use crate::leaves::{called_name, literal, number};
+use crate::nodes::{called_name, literal, number};
 use crate::refusal::Refusal;
 use crate::selects::query_of;
 use crate::signs::{Sign, is_count, text_of};

@@ -5,7 +5,7 @@ ghost use Rattle.away_grammar.specs.Texts.{IsText, IsExpression, ReadsQuery, Rea
 ghost use Rattle.away_grammar.specs.Tokens.{AreSpelled};
 ghost use Rattle.away_trees.specs.declared.queries.Expr.{Expr};
 ghost use Rattle.away_lex.specs.Lexed.{seen};
-ghost use Rattle.sql_text.specs.Said.{said, IsSaid};
+ghost use Rattle.sql_text.specs.CodeSigns.{meaning_of, HasSpelling};
 ghost use Rattle.sql_text.specs.Refusals.{HasFewTokens, HasSigns, MayBeRead, NoExpression, Refuses, RefusesTokens};
 
 use crate::cursor::Cursor;
@@ -15,7 +15,7 @@ use crate::refusal::Refusal;
 use crate::schemas::tables_of;
 use crate::signs::{Sign, signs_of};
 use away_grammar::Level;
-use away_lex::{LimitKind, ReadRefusal, Token, TokensRefusal, nesting, tokens};
+use away_lex::{LimitKind, ReadRefusal, Token, nesting, tokens};
 use away_trees::{Expr, Query, Schema};
 use sqlite_items::Items;
 use std::alloc::Global;
@@ -91,8 +91,8 @@ pub fn read_expr(alloc: Global, list: &[Token<'_>], at: usize) -> Result<(Expr, 
 
 /// What the tokens of bytes say that are a text and nest no deeper than is read.
 fn text_signs<'a>(alloc: Global, bytes: &'a [u8]) -> Result<Items<Sign<'a>>, ReadRefusal>
-    ensures ok { IfOk result (λ signs. HasSigns bytes.now (map said signs)) }
-    ensures spelled { IfOk result (λ signs. All IsSaid signs) }
+    ensures ok { IfOk result (λ signs. HasSigns bytes.now (map meaning_of signs)) }
+    ensures spelled { IfOk result (λ signs. All HasSpelling signs) }
     ensures err { IfErr result (RefusesTokens bytes.now) }
 {
     let list = tokens_of(alloc, bytes)?;
@@ -110,18 +110,13 @@ fn tokens_of<'a>(alloc: Global, bytes: &'a [u8]) -> Result<Vec<Token<'a>>, ReadR
     let Some(text) = as_text(bytes) else {
         return Err(ReadRefusal::NotText);
     };
-    match tokens(alloc, text) {
-        Ok(list) => {
-            let found = nesting(list.as_slice());
-            if found > MOST_NESTING {
-                let which = LimitKind::Nesting;
-                Err(ReadRefusal::Limit { which, found })
-            } else {
-                Ok(list)
-            }
-        }
-        Err(TokensRefusal::Bad { offset }) => Err(ReadRefusal::Token { offset }),
-        Err(TokensRefusal::NoMemory) => Err(ReadRefusal::NoMemory),
+    let list = tokens(alloc, text)?;
+    let found = nesting(list.as_slice());
+    if found > MOST_NESTING {
+        let which = LimitKind::Nesting;
+        Err(ReadRefusal::Limit { which, found })
+    } else {
+        Ok(list)
     }
 }
 

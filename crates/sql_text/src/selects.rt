@@ -1,13 +1,16 @@
 //! The selects of a query, and the queries inside expressions.
 
 ghost use Rattle.std.specs.Prelude.{◌≤◌, length};
-ghost use Rattle.away_grammar.specs.Grammar.{Tree, item, items, from_item, from_items, from_clause, where_clause, key, keys, order_clause, limit_clause, select, selects, query};
+ghost use Rattle.away_grammar.specs.Grammar.{Tree, item, items, from_item, from_items, from_clause, where_clause, key, keys};
+ghost use Rattle.away_grammar.specs.Grammar.{order_clause, limit_clause, select, selects, query};
 ghost use Rattle.sql_text.specs.Plans.{Gives};
-ghost use Rattle.sql_text.specs.Descent.{plan, query_plan, selects_plan, select_plan, items_plan, item_plan, from_clause_plan, from_items_plan, from_item_plan, sub_plan, where_plan, limit_plan, order_plan, keys_plan, key_plan};
+ghost use Rattle.sql_text.specs.Descent.{plan, query_plan, selects_plan, select_plan, items_plan, item_plan, from_clause_plan};
+ghost use Rattle.sql_text.specs.Descent.{from_items_plan, from_item_plan, sub_plan, where_plan, limit_plan, order_plan};
+ghost use Rattle.sql_text.specs.Descent.{keys_plan, key_plan};
 
 use crate::cursor::Cursor;
 use crate::expressions::operand;
-use crate::leaves::{is_number, item_with, key_with, may_join, plain_query, unboxed};
+use crate::nodes::{is_number, item_with, key_with, may_join, plain_query, unboxed};
 use crate::refusal::Refusal;
 use crate::tables::{named_subquery, table_item};
 use away_grammar::{Level, Mark};

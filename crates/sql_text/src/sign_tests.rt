@@ -1,6 +1,6 @@
 //! Worked examples of what tokens say.
 
-ghost use Rattle.sql_text.specs.Said.{IsSaid};
+ghost use Rattle.sql_text.specs.CodeSigns.{HasSpelling};
 
 use crate::cursor::Cursor;
 use crate::signs::{Sign, signs_of, text_of, type_named};
@@ -35,7 +35,7 @@ static ROWS: [(&str, &str); 4] = [
 ];
 
 fn part(alloc: Global, sign: Sign) -> Result<String, AllocError>
-    requires { IsSaid sign }
+    requires { HasSpelling sign }
 {
     match sign {
         Sign::Mark(mark) => format!(in alloc; "{mark:?} "),
@@ -67,8 +67,8 @@ fn shown(alloc: Global, text: &str) -> Result<String, AllocError> {
         match left.take() {
             None => return Ok(all),
             Some(sign) => {
-                let said = part(alloc, sign)?;
-                all.push_str(said.as_str())?;
+                let shown = part(alloc, sign)?;
+                all.push_str(shown.as_str())?;
             }
         }
     }

@@ -9,10 +9,10 @@ ghost use Rattle.away_grammar.specs.Reserved.{folded};
 ghost use Rattle.away_grammar.specs.Spellings.{Spells, IsString, number};
 ghost use Rattle.away_grammar.specs.Tokens.{AreSpelled};
 ghost use Rattle.away_lex.specs.Lexed.{seen};
-ghost use Rattle.sql_text.specs.Said.{said, IsSaid, entry};
+ghost use Rattle.sql_text.specs.CodeSigns.{meaning_of, HasSpelling, entry};
 
 use away_grammar::{Level, Mark};
-use away_lex::{Token, TokenKind};
+use away_lex::{INTEGER_LIMIT, Token, TokenKind};
 use away_values::{ChainOp, CmpOp, IntOp, Name, NoMemory, Ty, Word, word};
 use sqlite_items::Items;
 use std::alloc::Global;
@@ -117,8 +117,8 @@ pub enum Sign<'a> {
 /// What the token says, where it is spelled as its kind.
 pub fn sign_of<'a>(token: &Token<'a>) -> Sign<'a>
     requires { Spells (token.now).kind (token.now).text.now }
-    ensures value { said result ≡ spec.says (seen token.now) }
-    ensures spelled { IsSaid result }
+    ensures value { meaning_of result ≡ spec.says (seen token.now) }
+    ensures spelled { HasSpelling result }
 {
     let text = token.text;
     match token.kind {
@@ -140,8 +140,8 @@ pub fn sign_of<'a>(token: &Token<'a>) -> Sign<'a>
 /// What the tokens say, one after the other.
 pub fn signs_of<'a>(alloc: Global, tokens: &[Token<'a>]) -> Result<Items<Sign<'a>>, NoMemory>
     requires { AreSpelled (map seen tokens.now) }
-    ensures values { IfOk result (λ signs. map said signs ≡ spec.all_say (map seen tokens.now)) }
-    ensures spelled { IfOk result (λ signs. All IsSaid signs) }
+    ensures values { IfOk result (λ signs. map meaning_of signs ≡ spec.all_say (map seen tokens.now)) }
+    ensures spelled { IfOk result (λ signs. All HasSpelling signs) }
 {
     let mut signs = Items::from_vec(Vec::with_capacity(alloc, tokens.len())?);
     for token in tokens {
@@ -187,17 +187,18 @@ fn mark_as_written(symbol: &str, entries: &[(&str, Mark)]) -> Option<Mark>
     None
 }
 
-/// The number that decimal digits spell.
-#[tactic(auto, unfolding(away_grammar::specs::Spellings::number))]
+/// The number that the digits of a token spell.
 fn value_of(digits: &[u8]) -> u64
     requires { number digits.now ≤ 2 ^ 63 }
     ensures { result ≡ number digits.now }
 {
-    let mut value = 0;
-    for digit in digits {
-        value = value * 10 + u64::from(digit.saturating_sub(b'0'));
+    match away_lex::number(digits, INTEGER_LIMIT) {
+        Some(value) => value,
+        None => {
+            prove!(false);
+            0
+        }
     }
-    value
 }
 
 /// The text that a string spells: each quote in it stands twice.

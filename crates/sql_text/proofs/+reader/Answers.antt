@@ -1,12 +1,12 @@
-use Rattle.std.proofs.Common.{rules, sym, refl, arith, ◌∙◌}
+use Rattle.std.proofs.Common.{rules, sym, refl, arith}
 use Rattle.std.proofs.lemmas.Grind.{common_steps}
 use Rattle.std.proofs.lemmas.Result.{err_from_is_err_and}
 use Rattle.away_grammar.specs.declared.grammar.Mark.TheVariants as m
-use Rattle.sql_text.specs.Next.{comparison_in, name_in, type_in}
+use Rattle.sql_text.specs.SignKinds.{comparison_in, name_in, type_in}
 use Rattle.sql_text.specs.Plans.{no_memory}
 use Rattle.sql_text.proofs.Steps.{finished, eaten, left, read_on, read_no, taken, wanted, not_wanted, perhaps_found, perhaps_missed, looked, overlooked, refused, failed, moved}
 use Rattle.sql_text.proofs.Loops.{list_more, list_ends, list_fails, arms_more, arms_end, arms_fail, chain_fails, chain_alone, chain_on, links_begin, links_more, links_fail, links_end, levelled, passed, passed_keys, items_more, items_end, items_fail, from_more, from_end, from_fail, keys_more, keys_end, keys_fail, selects_more, selects_end, selects_fail, selects_break}
-use Rattle.sql_text.proofs.Cases.{number_gives, word_literal, word_called, word_refused, case_on, case_without, range_on, unranged, test_on, query_refused, query_given, key_refused, key_on, direction}
+use Rattle.sql_text.proofs.Cases.{number_gives, word_literal, word_called, word_refused, case_on, case_without, range_on, unranged, query_refused, query_given, key_refused, key_on, direction}
 use Rattle.sql_text.proofs.+reader.Goals as goal
 
 pub primaries::arms_of-returns-in_err-test-clause-found : goal.primaries::arms_of-returns-in_err-test-clause-found

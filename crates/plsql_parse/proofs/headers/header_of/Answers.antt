@@ -11,7 +11,7 @@ returns-in_err-expect-clause-found c =
     rw (p.1, p.2) (λ inside. refused m.Create c.in_err-expect.ensures.found)
 
 pub returns-then-not-eat-clause-found : goal.returns-then-not-eat-clause-found
-returns-then-not-eat-clause-found c = λ inside. eaten m.Create c.in_ok-expect.ensures.found (left m.Or c.if-not-eat.ensures.no (c.created.ensures.found inside))
+returns-then-not-eat-clause-found c = λ inside. eaten m.Create c.in_ok-expect.ensures.found (left m.Or c.if-not-eat.ensures.no (c.behind_create.ensures.found inside))
 
 pub returns-in_err-expect_word-clause-found : goal.returns-in_err-expect_word-clause-found
 returns-in_err-expect_word-clause-found c =
@@ -19,4 +19,4 @@ returns-in_err-expect_word-clause-found c =
     rw (p.1, p.2) (λ inside. eaten m.Create c.in_ok-expect.ensures.found (eaten m.Or c.if-not-eat.ensures.yes (word_refused (codes "replace") c.in_err-expect_word.ensures.found)))
 
 pub returns-clause-found : goal.returns-clause-found
-returns-clause-found c = λ inside. eaten m.Create c.in_ok-expect.ensures.found (eaten m.Or c.if-not-eat.ensures.yes (word_eaten (codes "replace") c.in_ok-expect_word.ensures.found (c.created-2.ensures.found inside)))
+returns-clause-found c = λ inside. eaten m.Create c.in_ok-expect.ensures.found (eaten m.Or c.if-not-eat.ensures.yes (word_eaten (codes "replace") c.in_ok-expect_word.ensures.found (c.behind_create-2.ensures.found inside)))

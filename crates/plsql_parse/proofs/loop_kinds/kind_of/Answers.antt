@@ -1,7 +1,7 @@
 use Rattle.std.proofs.Common.{refl}
 use Rattle.std.proofs.lemmas.Result.{err_from_is_err_and}
 use Rattle.away_grammar.specs.declared.grammar.Mark.TheVariants as m
-use Rattle.sql_text.specs.Next.{name_in}
+use Rattle.sql_text.specs.SignKinds.{name_in}
 use Rattle.sql_text.specs.Plans.{no_memory}
 use Rattle.sql_text.proofs.Steps.{finished, eaten, left, wanted, not_wanted, refused}
 use Rattle.plsql_parse.specs.Bodies.{counted_plan}
@@ -9,7 +9,7 @@ use Rattle.plsql_parse.proofs.BodySteps.{eat_by}
 use Rattle.plsql_parse.proofs.loop_kinds.kind_of.Goals as goal
 
 pub returns-then-eat-clause-found : goal.returns-then-eat-clause-found
-returns-then-eat-clause-found c = eaten m.While c.if-eat.ensures.yes (c.repeated_while.ensures.found)
+returns-then-eat-clause-found c = eaten m.While c.if-eat.ensures.yes (c.while_loop.ensures.found)
 
 pub returns-in_err-new-clause-found : goal.returns-in_err-new-clause-found
 returns-in_err-new-clause-found c =
@@ -30,4 +30,4 @@ returns-in_err-expect-clause-found c =
     rw (p.1, p.2) (left m.While c.if-eat.ensures.no (eaten m.For c.if-not-eat.ensures.yes (wanted name_in _ c.in_ok-name.ensures.found c.in_ok-name.ensures.rest (refused m.In c.in_err-expect.ensures.found))))
 
 pub returns-clause-found : goal.returns-clause-found
-returns-clause-found c = left m.While c.if-eat.ensures.no (eaten m.For c.if-not-eat.ensures.yes (wanted name_in _ c.in_ok-name.ensures.found c.in_ok-name.ensures.rest (eaten m.In c.in_ok-expect.ensures.found (eat_by m.Reverse (λ reverse. counted_plan c.in_ok-name.name reverse) _ c.eat-reverse.ensures.yes c.eat-reverse.ensures.no (c.counted.ensures.found)))))
+returns-clause-found c = left m.While c.if-eat.ensures.no (eaten m.For c.if-not-eat.ensures.yes (wanted name_in _ c.in_ok-name.ensures.found c.in_ok-name.ensures.rest (eaten m.In c.in_ok-expect.ensures.found (eat_by m.Reverse (λ reverse. counted_plan c.in_ok-name.name reverse) _ c.eat-reverse.ensures.yes c.eat-reverse.ensures.no (c.count_loop.ensures.found)))))

@@ -4,7 +4,7 @@ use Rattle.std.proofs.lemmas.Result.{err_from_is_err_and}
 use Rattle.away_grammar.specs.declared.grammar.Mark.TheVariants as m
 use Rattle.away_trees.specs.declared.statements.Stmt.TheVariants as s
 use Rattle.away_grammar.specs.FunctionGrammar.{elsifs, whens}
-use Rattle.sql_text.specs.Next.{name_in}
+use Rattle.sql_text.specs.SignKinds.{name_in}
 use Rattle.sql_text.specs.Plans.{done, no_memory}
 use Rattle.sql_text.proofs.Steps.{finished, eaten, left, read_on, read_no, taken, wanted, not_wanted, looked, overlooked, refused, failed}
 use Rattle.plsql_parse.proofs.BodySteps.{maybe_named, begins_none, behind_arms, arms_on, arms_no}
@@ -49,7 +49,7 @@ statement_of-returns-in_err-name-in-Some-Name-clause-found t c =
     rw (p.1, p.2) (no_memory)
 
 pub statement_of-returns-in_ok-name-in-Some-Name-clause-found : goal.statement_of-returns-in_ok-name-in-Some-Name-clause-found
-statement_of-returns-in_ok-name-in-Some-Name-clause-found t c = left m.LabelOpen c.if-eat.ensures.no (overlooked (sym c.if-sees_opening.ensures) (taken (rw c.in-Some-Name.field-0-is at c.in-Some-Name.ensures.next) c.in-Some-Name.ensures.rest ((rw c.in_ok-name-in-Some-Name.ensures at c.assignment.ensures.found))))
+statement_of-returns-in_ok-name-in-Some-Name-clause-found t c = left m.LabelOpen c.if-eat.ensures.no (overlooked (sym c.if-sees_opening.ensures) (taken (rw c.in-Some-Name.field-0-is at c.in-Some-Name.ensures.next) c.in-Some-Name.ensures.rest ((rw c.in_ok-name-in-Some-Name.ensures at c.assignment_statement.ensures.found))))
 
 pub statement_of-returns-in-Some-Mark-clause-found : goal.statement_of-returns-in-Some-Mark-clause-found
 statement_of-returns-in-Some-Mark-clause-found t c = left m.LabelOpen c.if-eat.ensures.no (overlooked (sym c.if-sees_opening.ensures) (taken (rw c.in-Some-Mark.field-0-is at c.in-Some-Mark.ensures.next) c.in-Some-Mark.ensures.rest (c.marked.ensures.found)))

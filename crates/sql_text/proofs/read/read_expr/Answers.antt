@@ -2,10 +2,9 @@ use Rattle.std.proofs.Common.{◌≡◌, ◌≤◌, ℕ, List, All, ◌-◌, len
 use Rattle.std.proofs.lemmas.List.{drop-map, length-drop, length-map, take_all}
 use Rattle.away_grammar.specs.Texts.{IsExpression}
 use Rattle.away_grammar.specs.Signs.{Sign, all_say}
-use Rattle.away_grammar.specs.Tokens.{AreSpelled}
 use Rattle.away_lex.specs.Lexed.{seen}
 use Rattle.away_lex.specs.declared.slices.Token as token
-use Rattle.sql_text.specs.Said.{said, IsSaid}
+use Rattle.sql_text.specs.CodeSigns.{meaning_of, HasSpelling}
 use Rattle.sql_text.specs.declared.signs.Sign as code
 use Rattle.sql_text.proofs.Places.{spelled_from}
 use Rattle.sql_text.proofs.OneTree.{expression_read, none_stops, none_begins, one_expression}
@@ -17,15 +16,15 @@ whole_rest : (at : ℕ) (list : List token.Token) → take (length list - at) (d
 whole_rest at list = take_all (length list - at) (drop at list) (omega (arith, length-drop at list))
 
 -- what the cursor stands over
-read_from : (at : ℕ) (list : List token.Token) {rest : List token.Token} {slice signs : List code.Sign} {left : List Sign} → left ≡ map said slice → slice ≡ signs → map said signs ≡ all_say (map seen rest) → rest ≡ drop at list
+read_from : (at : ℕ) (list : List token.Token) {rest : List token.Token} {slice signs : List code.Sign} {left : List Sign} → left ≡ map meaning_of slice → slice ≡ signs → map meaning_of signs ≡ all_say (map seen rest) → rest ≡ drop at list
     → left ≡ all_say (drop at (map seen list))
-read_from at list e f g h = e ∙ ap (map said) f ∙ g ∙ ap (λ l. all_say (map seen l)) h ∙ ap all_say (sym (drop-map seen at list))
+read_from at list e f g h = e ∙ ap (map meaning_of) f ∙ g ∙ ap (λ l. all_say (map seen l)) h ∙ ap all_say (sym (drop-map seen at list))
 
 pub signs_of-requires : goal.signs_of-requires
 signs_of-requires c = rw (whole_rest c.args.at c.args.list.now) (spelled_from c.args.list.now c.args.at c.requires.spelled)
 
 pub new-left-requires-clause-spelled : goal.new-left-requires-clause-spelled
-new-left-requires-clause-spelled c = subst (All IsSaid) (sym c.as_slice.ensures) c.in-Ok.ensures.spelled
+new-left-requires-clause-spelled c = subst (All HasSpelling) (sym c.as_slice.ensures) c.in-Ok.ensures.spelled
 
 pub returns-then-continues-clause-err : goal.returns-then-continues-clause-err
 returns-then-continues-clause-err c = none_stops (map seen c.args.list.now) c.args.at _ _ (moved (read_from c.args.at c.args.list.now c.new-left.ensures c.as_slice.ensures c.in-Ok.ensures.values (whole_rest c.args.at c.args.list.now)) c.in-Ok-operand.ensures.found) c.if-continues.ensures.yes

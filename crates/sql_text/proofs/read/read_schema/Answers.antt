@@ -1,7 +1,7 @@
 use Rattle.std.proofs.Common.{◌≡◌, ℕ, [], List, All, map, subst, sym, ◌∙◌, ap, arith}
 use Rattle.away_grammar.specs.Grammar.{tables}
 use Rattle.away_grammar.specs.Signs.{Sign, all_say}
-use Rattle.sql_text.specs.Said.{said, IsSaid}
+use Rattle.sql_text.specs.CodeSigns.{meaning_of, HasSpelling}
 use Rattle.sql_text.specs.Refusals.{HasSigns}
 use Rattle.sql_text.specs.declared.signs.Sign as code
 use Rattle.sql_text.proofs.OneTree.{all_read, not_all_read, none_read, no_tree_of}
@@ -9,11 +9,11 @@ use Rattle.sql_text.proofs.Steps.{moved}
 use Rattle.sql_text.proofs.read.read_schema.Goals as goal
 
 -- what the cursor stands over
-read_from : {bytes : List ℕ} {slice signs : List code.Sign} {left : List Sign} (ts : HasSigns bytes (map said signs)) → left ≡ map said slice → slice ≡ signs → left ≡ all_say ts.tokens
-read_from ts e f = e ∙ ap (map said) f ∙ ts.says
+read_from : {bytes : List ℕ} {slice signs : List code.Sign} {left : List Sign} (ts : HasSigns bytes (map meaning_of signs)) → left ≡ map meaning_of slice → slice ≡ signs → left ≡ all_say ts.tokens
+read_from ts e f = e ∙ ap (map meaning_of) f ∙ ts.says
 
 pub new-left-requires-clause-spelled : goal.new-left-requires-clause-spelled
-new-left-requires-clause-spelled c = subst (All IsSaid) (sym c.as_slice.ensures) c.in_ok-signs.ensures.spelled
+new-left-requires-clause-spelled c = subst (All HasSpelling) (sym c.as_slice.ensures) c.in_ok-signs.ensures.spelled
 
 pub returns-then-left-eq0-clause-ok : goal.returns-then-left-eq0-clause-ok
 returns-then-left-eq0-clause-ok c =

@@ -1,6 +1,6 @@
 use Rattle.std.proofs.Common.{◌≡◌, drop, map, bytes_eq}
 use Rattle.away_grammar.specs.Signs.{first_mark}
-use Rattle.sql_text.specs.Said.{entry}
+use Rattle.sql_text.specs.CodeSigns.{entry}
 use Rattle.sql_text.proofs.signs.mark_as_written.Given as goal
 
 abbrev pub invariant-loop-text : goal.invariant-loop-text

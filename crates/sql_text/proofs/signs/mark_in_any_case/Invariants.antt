@@ -1,7 +1,7 @@
 use Rattle.std.proofs.Common.{◌≡◌, drop, map}
 use Rattle.std.specs.Str.{str_eq_ignore_ascii_case}
 use Rattle.away_grammar.specs.Signs.{first_mark}
-use Rattle.sql_text.specs.Said.{entry}
+use Rattle.sql_text.specs.CodeSigns.{entry}
 use Rattle.sql_text.proofs.signs.mark_in_any_case.Given as goal
 
 abbrev pub invariant-loop-text : goal.invariant-loop-text

@@ -3,7 +3,8 @@ use Rattle.std.proofs.lemmas.Option.{MatchOption-at_some, MatchOption-at_none}
 use Rattle.std.proofs.lemmas.Str.{IsCharBoundary-after_ascii}
 use Rattle.away_grammar.specs.Signs.{undoubled, between_quotes}
 use Rattle.away_values.specs.Words.{IsWord}
-use Rattle.sql_text.proofs.Undoubled.{replaced_is, inside_is, undoubled_quoted}
+use Rattle.away_lex.proofs.Alone.{undoubled_quoted}
+use Rattle.sql_text.proofs.Undoubled.{replaced_is, inside_is}
 use Rattle.sql_text.proofs.signs.text_of.Goals as goal
 use Rattle.sql_text.proofs.signs.text_of.Goals.{After-as_str}
 
