@@ -4,8 +4,10 @@ use Rattle.std.specs.declared.option.Option.{Option}
 use Rattle.std.specs.List.{All}
 use Rattle.away_top.specs.declared.status.Status.{Status}
 use Rattle.away_top.specs.declared.status.Status.TheVariants.{Done, NoMemory}
-use Rattle.away_top.specs.Commands.{Compiles, compile_course, course, function_course}
+use Rattle.away_top.specs.Commands.{course}
+use Rattle.away_top.specs.CompileCourse.{Compiles, compile_course}
 use Rattle.away_top.specs.Course.{and_then, ends, AtFile, EachRead, Outcome}
+use Rattle.away_top.specs.Files.{function_course}
 use Rattle.away_top.specs.InMemory.{IsFitFunction, IsFitSchema, MayCompile, Translated}
 use Rattle.away_top.specs.MemoryFiles.{HeldFiles, IsSafeName, held_at}
 use Rattle.away_top.specs.MemorySink.{RoomySink, are_past, safe_room}
