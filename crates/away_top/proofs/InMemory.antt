@@ -24,7 +24,7 @@ told_is_some : (o : Option (List ℕ)) (bytes : List ℕ) → o ≡ Some bytes �
 told_is_some (Some _) bytes e = refl
 told_is_some None bytes e = absurd (cc)
 
-safe_name : (m : HeldFiles) (name bytes : List ℕ) → m.fails ≡ [] → held_at m.held name ≡ Some bytes → IsSafeName m name
+pub safe_name : (m : HeldFiles) (name bytes : List ℕ) → m.fails ≡ [] → held_at m.held name ≡ Some bytes → IsSafeName m name
 safe_name m name bytes none told = record { held = told_is_some (held_at m.held name) bytes told; quiet = subst (All (λ call. call < next_count m.calls)) (sym none) (nothing (λ call. call < next_count m.calls)) }
 
 -- the files of the run are safe
@@ -37,7 +37,7 @@ pub room_is_safe : (s : RoomySink) → s.fails ≡ [] → safe_room s ≡ s.room
 room_is_safe s none = ap (λ fails. cond (are_past s.calls fails) s.room 0) none
 
 -- a file that is told and short leads on
-leads_on : (name : List ℕ) (limit : ℕ) (Rest : List ℕ → Type 0) (told : Option (List ℕ)) (bytes : List ℕ) (status : Status) (output : List ℕ) → told ≡ Some bytes → length bytes ≤ limit
+pub leads_on : (name : List ℕ) (limit : ℕ) (Rest : List ℕ → Type 0) (told : Option (List ℕ)) (bytes : List ℕ) (status : Status) (output : List ℕ) → told ≡ Some bytes → length bytes ≤ limit
     → AtFile name limit Rest told status output → Rest bytes
 leads_on name limit Rest told bytes status output is short at = elim (subst (λ o. AtFile name limit Rest o status output) is at) [
   | inl (long, e) ↦ absurd (omega arith)

@@ -2,7 +2,7 @@
 
 use super::held::{Run, execute};
 use super::rows::TOTAL;
-use crate::code;
+use crate::{MemoryFiles, MemorySink, away_in_memory, code};
 use std::alloc::{AllocError, Global};
 use std::process::Abort;
 use std::test::Fail;
@@ -155,5 +155,20 @@ fn a_bound_is_digits_of_64_bits(rt: HostRuntime) -> Result<(), Fail> {
         let run = run(rt.alloc(), "not a query", bound, TABLE, &[])?;
         show(&rt, &run, 2, "usage\n");
     }
+    Ok(())
+}
+
+#[test]
+fn a_run_in_memory_answers(rt: HostRuntime) -> Result<(), Fail> {
+    let alloc = rt.alloc();
+    let held = super::held::held(alloc, &[("s.sql", b""), ("q.sql", SUM.as_bytes())])?;
+    let mut files = MemoryFiles::new(held, Vec::new(alloc));
+    let words = super::held::words(alloc, &["sql", "5", "s.sql", "q.sql", "d"])?;
+    let Ok(mut sink) = MemorySink::new(alloc, 9, Vec::new(alloc)) else {
+        return Ok(());
+    };
+    let status = away_in_memory(alloc, &words, &mut files, &mut sink);
+    assert_eq!(rt; code(&status), 0);
+    assert_eq!(rt; sink.written(), b"value 15\n".as_slice());
     Ok(())
 }
