@@ -34,17 +34,21 @@ some_of (Some a) s = (a, refl)
 
 -- ---- the files of the run are safe
 
+held_safe : (Q : List ℕ → Type 0) (held : Held) (file : List ℕ) (o : Or Rows) (next : Rows → Course (List Rows)) (last : List Rows → Course ⊥)
+    → ((rows : Rows) → EachRead Q held (and_then (next rows) last)) → EachRead Q held (and_then (and_then (holding file o) next) last)
+held_safe Q held file (Ok rows) next last rest = rest rows
+held_safe Q held file (Err e) next last rest = tt
+
 module _ (m : HeldFiles) (none : m.fails ≡ []) (dir : List ℕ) where
-  tables_safe : (next : List Rows → Course ⊥) → ((rows : List Rows) → EachRead (IsSafeName m) (held_at m.held) (next rows)) → (left : List TableSchema) (done : List Rows)
-      → AllByRecursion (IsFitTable (held_at m.held) dir) left → EachRead (IsSafeName m) (held_at m.held) (and_then (tables_behind dir done left) next)
-  held_safe : (next : List Rows → Course ⊥) → ((rows : List Rows) → EachRead (IsSafeName m) (held_at m.held) (next rows)) → (left : List TableSchema) (done : List Rows) (file : List ℕ) (o : Or Rows)
-      → AllByRecursion (IsFitTable (held_at m.held) dir) left
-      → EachRead (IsSafeName m) (held_at m.held) (and_then (and_then (holding file o) (λ rows. tables_behind dir (done ++ rows ∷ []) left)) next)
-  tables_safe next rest [] done fit = rest done
-  tables_safe next rest (t ∷ left) done fit =
-      (safe_name m (table_file dir t.name) fit.0.bytes none fit.0.holds, λ bytes told fits. held_safe next rest left done (table_file dir t.name) (rows_in t bytes) fit.1)
-  held_safe next rest left done file (Ok rows) fit = tables_safe next rest left (done ++ rows ∷ []) fit
-  held_safe next rest left done file (Err e) fit = tt
+  tables_safe : (last : List Rows → Course ⊥) → ((rows : List Rows) → EachRead (IsSafeName m) (held_at m.held) (last rows)) → (left : List TableSchema) (done : List Rows)
+      → AllByRecursion (IsFitTable (held_at m.held) dir) left → EachRead (IsSafeName m) (held_at m.held) (and_then (tables_behind dir done left) last)
+  tables_safe last rest [] done fit = rest done
+  tables_safe last rest (t ∷ left) done fit = (
+    safe_name m (table_file dir t.name) fit.0.bytes none fit.0.holds,
+    λ bytes told fits.
+        held_safe (IsSafeName m) (held_at m.held) (table_file dir t.name) (rows_in t bytes) (λ rows. tables_behind dir (done ++ rows ∷ []) left) last
+        (λ rows. tables_safe last rest left (done ++ rows ∷ []) fit.1),
+  )
 
   asked_safe : (n : ℕ) (s : Schema) (q : Asked) (o : Option (List Value)) → AllByRecursion (IsFitTable (held_at m.held) dir) s.tables
       → EachRead (IsSafeName m) (held_at m.held) (and_then (spelled o) (answer_course n s q dir))

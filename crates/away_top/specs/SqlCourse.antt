@@ -5,6 +5,7 @@ use Rattle.away_values.specs.declared.values.Value.{Value}
 use Rattle.away_values.specs.declared.values.Answer.{Answer}
 use Rattle.away_trees.specs.declared.queries.Query.{Query}
 use Rattle.away_trees.specs.declared.schemas.Schema.{Schema}
+use Rattle.away_types.specs.declared.checked_query.CheckedQuery.{CheckedQuery}
 use Rattle.away_types.specs.CheckedQueries.{judged_query, resolved_query}
 use Rattle.sql_meaning.specs.Context.{Rows}
 use Rattle.sql_meaning.specs.Working.{sql}
@@ -22,6 +23,9 @@ use Rattle.away_top.specs.TableFiles.{tables_course}
 pub record Asked : Type 0 where
   pub query : Query
   pub params : List (ℕ × Ty)
+
+abbrev pub as_asked : CheckedQuery → Asked
+as_asked c = record { query = c.query; params = c.params }
 
 abbrev pub asked_of : Schema → Query → Asked
 asked_of schema written = record { query = resolved_query schema written; params = (judged_query schema written).params }

@@ -7,7 +7,7 @@ ghost use Rattle.away_types.specs.CheckedQueries.{IsCheckedQuery, query_note};
 ghost use Rattle.away_types.specs.FunctionChecks.{function_note, resolved_function};
 ghost use Rattle.away_names.specs.Schemas.{schema_note};
 ghost use Rattle.away_top.specs.Files.{function_course, schema_course};
-ghost use Rattle.away_top.specs.SqlCourse.{asked_of, query_course};
+ghost use Rattle.away_top.specs.SqlCourse.{as_asked, asked_of, query_course};
 ghost use Rattle.away_top.specs.Course.{RefusedBy};
 ghost use Rattle.away_top.specs.Refusals.{BreaksRule, IsFunction, IsKept, IsQuery, IsSchema, RefusesFunction, RefusesQuery, RefusesSchema};
 ghost use Rattle.away_top.specs.Runs.{Follows, Holds, IsRead, StopsAt};
@@ -64,7 +64,7 @@ pub fn query_of<F: Files>(
     files: &mut F,
 ) -> Result<Boxed<CheckedQuery>, Halt>
     ensures { Follows F.Files files.old (query_course tables.now.schema name.now) files.new
-        (stretch_end (λ c. record { query = c.query; params = c.params }) result) }
+        (stretch_end as_asked result) }
 {
     let bytes = bytes_of(alloc, name, MAX_FILE, files)?;
     query_in(alloc, tables, name, &bytes)
@@ -131,7 +131,7 @@ fn query_in(
 ) -> Result<Boxed<CheckedQuery>, Halt>
     ensures { IsJudged (RefusedBy name.now (RefusesQuery tables.now.schema bytes.now))
         (λ c. (q : IsQuery tables.now.schema bytes.now)
-        × (record { query = c.query; params = c.params } ≡ asked_of tables.now.schema q.written)) result }
+        × (as_asked c ≡ asked_of tables.now.schema q.written)) result }
 {
     match read_query(alloc, bytes) {
         Ok(query) => checked_query(alloc, tables, name, query),

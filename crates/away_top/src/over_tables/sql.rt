@@ -2,7 +2,7 @@
 
 ghost use Rattle.std.specs.Prelude.{map, string_bytes};
 ghost use Rattle.away_top.specs.Runs.{Follows};
-ghost use Rattle.away_top.specs.SqlCourse.{answer_course, asked_course, over_schema as over_schema_course, sql_course};
+ghost use Rattle.away_top.specs.SqlCourse.{answer_course, as_asked, asked_course, over_schema as over_schema_course, sql_course};
 ghost use Rattle.away_top.specs.Steps.{run_end};
 
 use crate::Files;
@@ -67,7 +67,7 @@ fn asked<F: Files>(
     files: &mut F,
 ) -> Result<Ending, Halt>
     ensures { Follows F.Files files.old
-        (asked_course bound schema.now (record { query = query.now.query; params = query.now.params }) dir.now (map string_bytes args.now))
+        (asked_course bound schema.now (as_asked query.now) dir.now (map string_bytes args.now))
         files.new (run_end result) }
 {
     match values_of(alloc, query.params.as_slice(), args)? {
@@ -87,7 +87,7 @@ fn answered<F: Files>(
     files: &mut F,
 ) -> Result<Ending, Halt>
     ensures { Follows F.Files files.old
-        (answer_course bound schema.now (record { query = query.now.query; params = query.now.params }) dir.now values.now) files.new
+        (answer_course bound schema.now (as_asked query.now) dir.now values.now) files.new
         (run_end result) }
 {
     let tables = tables_of(alloc, dir, schema.tables.as_slice(), files)?;
