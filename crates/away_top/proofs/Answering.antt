@@ -152,7 +152,7 @@ module _ {D : Type 0} (F : Files D) where
       let kept = keeps F old s.middle (schema_course schema) (goes_on s.given) s.first in
       let from_schema = subst (λ s'. Follows F s.middle (over_schema b.given s' query dir args) new (ended status output)) read.is s.rest in
       let q = gone F s.middle new (query_course read.tables.schema query) (λ q. asked_course b.given read.tables.schema q dir args) (ended status output) late
-          (λ bytes. (silent_refusal query (RefusesQuery read.tables.schema bytes), λ w. tt)) from_schema in
+      (λ bytes. (silent_refusal query (RefusesQuery read.tables.schema bytes), λ w. tt)) from_schema in
       let asked = query_read s.middle q.middle read.tables.schema query q.given q.first in
       let kept_on = keeps F s.middle q.middle (query_course read.tables.schema query) (goes_on q.given) q.first in
       let from_query = subst (λ q'. Follows F q.middle (asked_course b.given read.tables.schema q' dir args) new (ended status output)) asked.is q.rest in

@@ -101,11 +101,11 @@ module _ (m : HeldFiles) (bound schema query dir : List ℕ) (args : List (List 
   query_leads n s o = elim (leads_on query 67108864 _ (held_at m.held query) may.asked status output may.holds_query may.fit_query.short o) [
     | inl (rule, refuses, e) ↦ absurd (may.fit_query.unrefused s rule refuses)
     | inr (q, rest) ↦ (
-      let asked = asked_of s.schema q.written in
-      let values = some_of (values_of asked.params args) (may.fit_query.spelled s q) in
-      tables_lead (held_at m.held) dir status output (λ tables. sql asked.query tables values.0 n) s.schema.tables [] (may.fit_tables s)
-      (subst (λ o. Outcome {A = ⊥} (held_at m.held) (and_then (spelled o) (answer_course n s.schema asked dir)) status output) values.1 rest)
-    )
+        let asked = asked_of s.schema q.written in
+        let values = some_of (values_of asked.params args) (may.fit_query.spelled s q) in
+        tables_lead (held_at m.held) dir status output (λ tables. sql asked.query tables values.0 n) s.schema.tables [] (may.fit_tables s)
+        (subst (λ o. Outcome {A = ⊥} (held_at m.held) (and_then (spelled o) (answer_course n s.schema asked dir)) status output) values.1 rest)
+        )
   ]
 
   leads : Outcome {A = ⊥} (held_at m.held) (sql_course bound schema query dir args) status output → IsAnswer status

@@ -41,8 +41,8 @@ module _ {D : Type 0} (F : Files D) (before middle : D) (dir file : List ℕ) (t
       → Follows F before (table_course dir t) middle (ended ending.status ending.output.items)
   table_refused e ending refuses (rule, is, end) =
       there (ended ending.status ending.output.items) (
-        subst (λ o. Follows F middle (holding file o) middle (ended ending.status ending.output.items)) (sym (refuses.meant_is (no_want e rule is)))
-        (record { same = refl; how = (rule, is, end) })
+      subst (λ o. Follows F middle (holding file o) middle (ended ending.status ending.output.items)) (sym (refuses.meant_is (no_want e rule is)))
+      (record { same = refl; how = (rule, is, end) })
       )
 
   pub table_wants : Follows F before (table_course dir t) middle wants_memory

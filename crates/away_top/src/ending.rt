@@ -52,7 +52,11 @@ impl From<AllocError> for Halt {
 }
 
 /// A status with this output.
-pub(crate) fn with_output(alloc: Global, status: Status, output: &[u8]) -> Result<Ending, AllocError>
+pub(crate) fn with_output(
+    alloc: Global,
+    status: Status,
+    output: &[u8],
+) -> Result<Ending, AllocError>
     ensures { IfOk result (λ ending. IsEnding ending status output.now) }
 {
     Ok(Ending {

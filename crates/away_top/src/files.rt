@@ -156,7 +156,12 @@ fn checked_query(
 }
 
 /// The bytes of a file that has at most so many.
-pub(crate) fn bytes_of<F: Files>(alloc: Global, name: &str, limit: u64, files: &mut F) -> Result<Vec<u8>, Halt>
+pub(crate) fn bytes_of<F: Files>(
+    alloc: Global,
+    name: &str,
+    limit: u64,
+    files: &mut F,
+) -> Result<Vec<u8>, Halt>
     ensures read { IsRead F.Files files.old name.now files.new }
     ensures bytes { IfOk result (λ bytes. Holds (F.held files.old name.now) limit bytes.items) }
     ensures stops { IfErr result (IsHalt (StopsAt F.Files files.old name.now limit files.new)) }

@@ -8,9 +8,9 @@ ghost use Rattle.away_top.specs.Runs.{Follows};
 ghost use Rattle.away_top.specs.Steps.{IsEnding, stretch_end};
 ghost use Rattle.away_top.specs.TableFiles.{IsTableRule, counted, table_course, table_file as file_of_table, tables_course};
 
-use crate::{Files, Status};
 use crate::ending::{Ending, Halt, refused};
 use crate::files::{MAX_FILE, bytes_of};
+use crate::{Files, Status};
 use away_trees::TableSchema;
 use away_values::{Table, Tables};
 use csv_tables::{TableRefusal, read_table};

@@ -45,8 +45,20 @@ static ANSWERS: [(&str, &str, &[&str], u8, &str); 19] = [
     (SUM, "5", &[], 0, "value 15\n"),
     (SUM, "4", &[], 6, "more\n"),
     (SUM, "18446744073709551615", &[], 0, "value 15\n"),
-    ("SELECT t.k, CAST(NULL AS text) FROM t", "0", &[], 9, "shape 3\n"),
-    ("SELECT t.k, CAST(NULL AS text) FROM t WHERE FALSE", "0", &[], 9, "shape 0\n"),
+    (
+        "SELECT t.k, CAST(NULL AS text) FROM t",
+        "0",
+        &[],
+        9,
+        "shape 3\n",
+    ),
+    (
+        "SELECT t.k, CAST(NULL AS text) FROM t WHERE FALSE",
+        "0",
+        &[],
+        9,
+        "shape 0\n",
+    ),
     ("SELECT 1", "0", &[], 1, "refused q.sql X18\n"),
     ("SELECT 1, 'x'", "0", &[], 9, "shape 1\n"),
     ("SELECT NULL, 'AB123'", "0", &[], 7, "fault AB123\n"),
@@ -100,11 +112,7 @@ fn tables_are_refused(rt: HostRuntime) -> Result<(), Fail> {
 }
 
 /// Runs a query of no table over two tables, some of whose files aren't held.
-fn run_over_two(
-    alloc: Global,
-    files: &[(&str, &[u8])],
-    args: &[&str],
-) -> Result<Run, AllocError> {
+fn run_over_two(alloc: Global, files: &[(&str, &[u8])], args: &[&str]) -> Result<Run, AllocError> {
     let mut words = Vec::new(alloc);
     words.extend_from_slice(&["sql", "0", "s.sql", "q.sql", "d"])?;
     words.extend_from_slice(args)?;
@@ -116,7 +124,10 @@ const TWO: &[u8] = b"CREATE TABLE u (k bigint NOT NULL); CREATE TABLE t (v text)
 #[test]
 fn files_and_arguments_are_judged_in_order(rt: HostRuntime) -> Result<(), Fail> {
     let alloc = rt.alloc();
-    let query: (&str, &[u8]) = ("q.sql", b"SELECT CAST($1 AS bigint) + 1, CAST(NULL AS text)");
+    let query: (&str, &[u8]) = (
+        "q.sql",
+        b"SELECT CAST($1 AS bigint) + 1, CAST(NULL AS text)",
+    );
     let u: (&str, &[u8]) = ("d/u.csv", b"k\n\\N\n");
     let fit: (&str, &[u8]) = ("d/u.csv", b"k\n1\n");
     let t: (&str, &[u8]) = ("d/t.csv", b"");
