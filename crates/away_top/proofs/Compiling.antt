@@ -7,8 +7,9 @@ use Rattle.away_top.specs.declared.outside.Files.{Ghosts as Files}
 use Rattle.away_top.specs.declared.status.Status.{Status}
 use Rattle.away_top.specs.declared.ending.Ending.{Ending}
 use Rattle.away_top.specs.declared.ending.Halt.{Halt}
-use Rattle.away_top.specs.Commands.{Compiles, compile_course, function_course, schema_course}
+use Rattle.away_top.specs.CompileCourse.{Compiles, compile_course}
 use Rattle.away_top.specs.Course.{and_then, ends, RefusedBy}
+use Rattle.away_top.specs.Files.{function_course, schema_course}
 use Rattle.away_top.specs.Refusals.{RefusesRead}
 use Rattle.away_top.specs.Runs.{End, goes_on, Follows, IsEnd, Runs}
 use Rattle.away_top.specs.Steps.{halt_end, ReadRefused}

@@ -8,7 +8,8 @@ use Rattle.away_top.specs.declared.status.Status.TheVariants.{Done, NoMemory, Re
 use Rattle.away_types.specs.FunctionChecks.{resolved_function}
 use Rattle.one_return.specs.Compiled.{IsCompiled}
 use Rattle.away_top.specs.Answer.{Delivers}
-use Rattle.away_top.specs.Commands.{Compiles, compile_course, course}
+use Rattle.away_top.specs.Commands.{course}
+use Rattle.away_top.specs.CompileCourse.{Compiles, compile_course}
 use Rattle.away_top.specs.Course.{RefusedBy}
 use Rattle.away_top.specs.Refusals.{IsFunction, IsSchema}
 use Rattle.away_top.specs.Runs.{End, wants_memory, ended, goes_on, Follows, Holds, StopsAt}

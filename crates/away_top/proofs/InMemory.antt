@@ -4,8 +4,10 @@ use Rattle.std.specs.declared.option.Option.{Option}
 use Rattle.std.specs.List.{All}
 use Rattle.away_top.specs.declared.status.Status.{Status}
 use Rattle.away_top.specs.declared.status.Status.TheVariants.{Done, NoMemory}
-use Rattle.away_top.specs.Commands.{Compiles, compile_course, course, function_course}
+use Rattle.away_top.specs.Commands.{course}
+use Rattle.away_top.specs.CompileCourse.{Compiles, compile_course}
 use Rattle.away_top.specs.Course.{and_then, ends, AtFile, EachRead, Outcome}
+use Rattle.away_top.specs.Files.{function_course}
 use Rattle.away_top.specs.InMemory.{IsFitFunction, IsFitSchema, MayCompile, Translated}
 use Rattle.away_top.specs.MemoryFiles.{HeldFiles, IsSafeName, held_at}
 use Rattle.away_top.specs.MemorySink.{RoomySink, are_past, safe_room}
@@ -22,7 +24,7 @@ told_is_some : (o : Option (List ℕ)) (bytes : List ℕ) → o ≡ Some bytes �
 told_is_some (Some _) bytes e = refl
 told_is_some None bytes e = absurd (cc)
 
-safe_name : (m : HeldFiles) (name bytes : List ℕ) → m.fails ≡ [] → held_at m.held name ≡ Some bytes → IsSafeName m name
+pub safe_name : (m : HeldFiles) (name bytes : List ℕ) → m.fails ≡ [] → held_at m.held name ≡ Some bytes → IsSafeName m name
 safe_name m name bytes none told = record { held = told_is_some (held_at m.held name) bytes told; quiet = subst (All (λ call. call < next_count m.calls)) (sym none) (nothing (λ call. call < next_count m.calls)) }
 
 -- the files of the run are safe
@@ -35,7 +37,7 @@ pub room_is_safe : (s : RoomySink) → s.fails ≡ [] → safe_room s ≡ s.room
 room_is_safe s none = ap (λ fails. cond (are_past s.calls fails) s.room 0) none
 
 -- a file that is told and short leads on
-leads_on : (name : List ℕ) (limit : ℕ) (Rest : List ℕ → Type 0) (told : Option (List ℕ)) (bytes : List ℕ) (status : Status) (output : List ℕ) → told ≡ Some bytes → length bytes ≤ limit
+pub leads_on : (name : List ℕ) (limit : ℕ) (Rest : List ℕ → Type 0) (told : Option (List ℕ)) (bytes : List ℕ) (status : Status) (output : List ℕ) → told ≡ Some bytes → length bytes ≤ limit
     → AtFile name limit Rest told status output → Rest bytes
 leads_on name limit Rest told bytes status output is short at = elim (subst (λ o. AtFile name limit Rest o status output) is at) [
   | inl (long, e) ↦ absurd (omega arith)

@@ -1,18 +1,32 @@
 -- No command ends by itself in a read fault, in a write fault or for want of memory.
-use Rattle.std.proofs.Common.{◌≡◌, ◌≢◌, inl, inr, ℕ, ◌≤◌, List, [], ◌∷◌, Bool, true, false, cond, codes, subst, sym, ◌∙◌, arith}
+use Rattle.std.proofs.Common.{◌≡◌, ◌≢◌, inl, inr, ℕ, ◌≤◌, List, [], ◌∷◌, ◌++◌, Bool, true, false, cond, codes, subst, sym, ◌∙◌, arith}
+use Rattle.std.specs.Prelude.{Option, Some, None, Ok, Err}
 use Rattle.std.specs.Str.{bytes_eq}
+use Rattle.away_values.specs.declared.values.Value.{Value}
+use Rattle.away_values.specs.declared.values.Answer.{Answer}
+use Rattle.away_values.specs.declared.values.Answer.TheVariants as answer
 use Rattle.away_trees.specs.declared.schemas.Schema.{Schema}
+use Rattle.away_trees.specs.declared.schemas.TableSchema.{TableSchema}
 use Rattle.away_trees.specs.declared.statements.Function.{Function}
 use Rattle.away_top.specs.declared.outside.Files.{Ghosts as Files}
 use Rattle.away_top.specs.declared.status.Status.{Status}
 use Rattle.away_top.specs.declared.status.Status.TheVariants.{Done, Refused, Usage, ReadFault, WriteFault, NoMemory, More, Fault, NotAccepted, Shape}
 use Rattle.away_types.specs.FunctionChecks.{resolved_function}
-use Rattle.away_top.specs.Commands.{Compiles, compile_course, about_end, choice, course, usage}
-use Rattle.away_top.specs.Course.{Course, ends, gives, judges, reads, Exactly, RefusedBy}
+use Rattle.csv_tables.specs.Files.{Or, rows_in}
+use Rattle.sql_meaning.specs.Context.{Rows}
+use Rattle.sql_meaning.specs.Working.{sql}
+use Rattle.away_top.specs.AnswerLines.{answer_end, value_line}
+use Rattle.away_top.specs.Arguments.{bound_of, values_of}
+use Rattle.away_top.specs.Commands.{about_end, choice, course, usage}
+use Rattle.away_top.specs.CompileCourse.{Compiles, compile_course}
+use Rattle.away_top.specs.Course.{Course, and_then, ends, gives, judges, reads, Exactly, RefusedBy}
+use Rattle.away_top.specs.Files.{schema_course}
+use Rattle.away_top.specs.SqlCourse.{Asked, Tells, answer_course, asked_course, at_bound, over_schema, query_course, spelled, sql_course}
+use Rattle.away_top.specs.TableFiles.{IsTableRule, holding, table_course, table_file, tables_behind, tables_course}
 use Rattle.away_top.specs.Help.{help_text, version_text}
 use Rattle.away_top.specs.Lines.{line}
 use Rattle.away_top.specs.Outside.{Rose}
-use Rattle.away_top.specs.Refusals.{RefusesForm, RefusesFunction, RefusesSchema}
+use Rattle.away_top.specs.Refusals.{RefusesForm, RefusesFunction, RefusesQuery, RefusesSchema}
 use Rattle.away_top.specs.Runs.{ended, Follows}
 
 -- a status that a command ends with by itself
@@ -96,7 +110,58 @@ plain_about word = plain_pair (bytes_eq word (codes "--help")) (Done, help_text)
 plain_compile : (schema func text : List ℕ) → IsPlainCourse (compile_course schema func text)
 plain_compile schema func text = λ bytes. (plain_refusal schema (RefusesSchema bytes), λ s more. (plain_refusal func (RefusesFunction s.schema more), λ f. plain_compiled func s.schema (resolved_function s.schema f.written) text))
 
+-- ---- a query over tables
+
+plain_then : {A B : Type 0} (c : Course A) (next : A → Course B) → IsPlainCourse c → ((a : A) → IsPlainCourse (next a)) → IsPlainCourse (and_then c next)
+plain_then (gives a) next plain rest = rest a
+plain_then (ends E) next plain rest = plain
+plain_then (judges E W more) next plain rest = (plain.0, λ w. plain_then (more w) next (plain.1 w) rest)
+plain_then (reads name limit more) next plain rest = λ bytes. plain_then (more bytes) next (plain bytes) rest
+
+plain_spelled : {A : Type 0} (o : Option A) → IsPlainCourse (spelled o)
+plain_spelled None = plain_end Usage (line (codes "usage")) tt
+plain_spelled (Some a) = tt
+
+plain_holding : (file : List ℕ) (o : Or Rows) → IsPlainCourse (holding file o)
+plain_holding file (Ok rows) = tt
+plain_holding file (Err refusal) = plain_refusal file (IsTableRule refusal)
+
+plain_tables : (dir : List ℕ) (done : List Rows) (left : List TableSchema) → IsPlainCourse (tables_behind dir done left)
+plain_tables dir done [] = tt
+plain_tables dir done (t ∷ left) =
+    plain_then (table_course dir t) (λ rows. tables_behind dir (done ++ rows ∷ []) left) (λ bytes. plain_holding (table_file dir t.name) (rows_in t bytes)) (λ rows. plain_tables dir (done ++ rows ∷ []) left)
+
+plain_told : (a : Answer) → ArePlain (Tells a)
+plain_told (answer.Value v) = plain_end Done (value_line v) tt
+plain_told (answer.Fault c) = plain_end Fault (answer_end (answer.Fault c)).1 tt
+plain_told answer.More = plain_end More (answer_end answer.More).1 tt
+plain_told (answer.Shape n) = plain_end Shape (answer_end (answer.Shape n)).1 tt
+
+plain_answer : (bound : ℕ) (s : Schema) (q : Asked) (dir : List ℕ) (values : List Value) → IsPlainCourse (answer_course bound s q dir values)
+plain_answer bound s q dir values =
+    plain_then (tables_course dir s.tables) (λ tables. ends (Tells (sql q.query tables values bound))) (plain_tables dir [] s.tables) (λ tables. plain_told (sql q.query tables values bound))
+
+plain_asked : (bound : ℕ) (s : Schema) (q : Asked) (dir : List ℕ) (args : List (List ℕ)) → IsPlainCourse (asked_course bound s q dir args)
+plain_asked bound s q dir args = plain_then (spelled (values_of q.params args)) (answer_course bound s q dir) (plain_spelled (values_of q.params args)) (plain_answer bound s q dir)
+
+plain_over : (bound : ℕ) (s : Schema) (query dir : List ℕ) (args : List (List ℕ)) → IsPlainCourse (over_schema bound s query dir args)
+plain_over bound s query dir args =
+    plain_then (query_course s query) (λ q. asked_course bound s q dir args) (λ bytes. (plain_refusal query (RefusesQuery s bytes), λ q. tt)) (λ q. plain_asked bound s q dir args)
+
+plain_sql : (bound schema query dir : List ℕ) (args : List (List ℕ)) → IsPlainCourse (sql_course bound schema query dir args)
+plain_sql bound schema query dir args =
+    plain_then (spelled (bound_of bound)) (at_bound schema query dir args) (plain_spelled (bound_of bound))
+    (λ n. plain_then (schema_course schema) (λ s. over_schema n s query dir args) (λ bytes. (plain_refusal schema (RefusesSchema bytes), λ s. tt)) (λ s. plain_over n s query dir args))
+
+-- ---- all words
+
+plain_either : (b : Bool) (left right : Course ⊥) → IsPlainCourse left → IsPlainCourse right → IsPlainCourse (choice b left right)
+plain_either true left right p q = p
+plain_either false left right p q = q
+
 pub plain_course : (words : List (List ℕ)) (text : List ℕ) → IsPlainCourse (course words text)
 plain_course (word ∷ []) text = plain_end (about_end word).0 (about_end word).1 (plain_about word)
 plain_course (command ∷ schema ∷ func ∷ []) text = plain_choice (bytes_eq command (codes "compile")) (compile_course schema func) (λ text. usage) text (plain_compile schema func text) (plain_end Usage (line (codes "usage")) tt)
+plain_course (command ∷ bound ∷ schema ∷ file ∷ dir ∷ args) text =
+    plain_either (bytes_eq command (codes "sql")) (sql_course bound schema file dir args) usage (plain_sql bound schema file dir args) (plain_end Usage (line (codes "usage")) tt)
 plain_course _ text = plain_end Usage (line (codes "usage")) tt

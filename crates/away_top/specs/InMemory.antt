@@ -1,11 +1,19 @@
--- What `compile` answers over files and a sink in memory that are to meet no failure.
-use Rattle.std.specs.Prelude.{◌≡◌, ◌⊎◌, ℕ, ◌≤◌, List, [], ◌∷◌, ◌++◌, length, codes, Some}
+-- What `compile` and `sql` answer over files and a sink in memory that are to meet no failure.
+use Rattle.std.specs.Prelude.{◌≡◌, ◌⊎◌, ℕ, ◌≤◌, List, [], ◌∷◌, ◌++◌, length, codes, Ok, Some, IsSome}
+use Rattle.std.specs.List.{AllByRecursion}
+use Rattle.away_trees.specs.declared.schemas.TableSchema.{TableSchema}
 use Rattle.away_top.specs.declared.status.Status.{Status}
 use Rattle.away_top.specs.declared.status.Status.TheVariants.{Done, NoMemory}
 use Rattle.away_top.specs.MemoryFiles.{HeldFiles, held_at}
 use Rattle.away_top.specs.MemorySink.{RoomySink}
+use Rattle.away_types.specs.CheckedQueries.{judged_query}
 use Rattle.away_types.specs.FunctionChecks.{resolved_function}
-use Rattle.away_top.specs.Refusals.{IsFunction, IsSchema, RefusesForm, RefusesFunction, RefusesSchema}
+use Rattle.csv_tables.specs.Files.{rows_in}
+use Rattle.sql_meaning.specs.Context.{Rows}
+use Rattle.away_top.specs.Arguments.{bound_of, values_of}
+use Rattle.away_top.specs.QueryAnswers.{Held, IsAnswer, IsAnswered}
+use Rattle.away_top.specs.Refusals.{IsFunction, IsQuery, IsSchema, RefusesForm, RefusesFunction, RefusesQuery, RefusesSchema}
+use Rattle.away_top.specs.TableFiles.{table_file}
 use Rattle.away_top.specs.Translation.{IsTranslation}
 
 -- a schema's file is within its limit, and no rule refuses it
@@ -43,3 +51,44 @@ Translated before after result tables function =
     (result ≡ NoMemory)
     ⊎ ((text : List ℕ) × IsTranslation tables function text
     × (length text ≤ before.room → IsWritten before after result text))
+
+-- ---- sql
+
+-- a query's file is within its limit, over the schema of these bytes no rule refuses it, and the words spell its arguments
+pub record IsFitQuery (tables bytes : List ℕ) (args : List (List ℕ)) : Type 0 where
+  pub short : length bytes ≤ 67108864
+  pub unrefused : (s : IsSchema tables) (rule : List ℕ) → ¬ (RefusesQuery s.schema bytes rule)
+  pub spelled : (s : IsSchema tables) (q : IsQuery s.schema bytes) → IsSome (values_of (judged_query s.schema q.written).params args)
+
+-- a table's file is held, is within its limit, and holds rows
+pub record IsFitTable (held : Held) (dir : List ℕ) (t : TableSchema) : Type 0 where
+  pub bytes : List ℕ
+  pub holds : held (table_file dir t.name) ≡ Some bytes
+  pub short : length bytes ≤ 67108864
+  pub rows : Rows
+  pub rows_are : rows_in t bytes ≡ Ok rows
+
+-- The words behind `sql` spell a bound, their files are held and fit, and no read is to fail.
+pub record MayAnswer (files : HeldFiles) (bound schema query dir : List ℕ) (args : List (List ℕ)) : Type 0 where
+  pub spells_bound : IsSome (bound_of bound)
+  pub tables : List ℕ
+  pub asked : List ℕ
+  pub holds_schema : held_at files.held schema ≡ Some tables
+  pub holds_query : held_at files.held query ≡ Some asked
+  pub fit_schema : IsFitSchema tables
+  pub fit_query : IsFitQuery tables asked args
+  pub fit_tables : (s : IsSchema tables) → AllByRecursion (IsFitTable (held_at files.held) dir) s.schema.tables
+  pub no_failure : files.fails ≡ []
+
+-- the status is answered, with exactly this output written
+pub record IsTold (before after : RoomySink) (result status : Status) (output : List ℕ) : Type 0 where
+  pub status_is : result ≡ status
+  pub bytes_are : after.bytes ≡ before.bytes ++ output
+
+-- Memory was wanting, or there is the answer of the query that the call tells, where the room holds it.
+abbrev pub Answered : HeldFiles → RoomySink → RoomySink → Status → List ℕ → List ℕ → List ℕ → List ℕ → List (List ℕ) → Type 0
+Answered files before after result bound schema query dir args =
+    (result ≡ NoMemory)
+    ⊎ ((status : Status) × (output : List ℕ) × IsAnswer status
+    × IsAnswered (held_at files.held) bound schema query dir args status output
+    × (length output ≤ before.room → IsTold before after result status output))

@@ -1,15 +1,17 @@
 -- What the files of a run read as and are judged to be, and which rules they are refused by.
 use Rattle.std.specs.Prelude.{◌≡◌, ◌≢◌, ◌⊎◌, ℕ, List, codes}
+use Rattle.away_trees.specs.declared.queries.Query.{Query}
 use Rattle.away_trees.specs.declared.schemas.Schema.{Schema}
 use Rattle.away_trees.specs.declared.statements.Function.{Function}
 use Rattle.away_trees.specs.Limits.{KeepsLimits}
 use Rattle.away_grammar.specs.FunctionGrammar.{ReadsFunction}
-use Rattle.away_grammar.specs.Texts.{ReadsSchema}
+use Rattle.away_grammar.specs.Texts.{ReadsQuery, ReadsSchema}
 use Rattle.away_lex.specs.declared.refusals.ReadRefusal.{ReadRefusal}
 use Rattle.away_lex.specs.declared.refusals.ReadRefusal.TheVariants.{NotText, Token, NoTree, Outside, Limit, NoMemory}
 use Rattle.sql_text.specs.Refusals as texts
 use Rattle.plsql_parse.specs.Refusals as functions
 use Rattle.away_names.specs.declared.note.Note.{Note}
+use Rattle.away_types.specs.CheckedQueries.{query_note}
 use Rattle.away_types.specs.FunctionChecks.{function_note}
 use Rattle.away_types.specs.Refusals.{IsUnbroken}
 use Rattle.away_names.specs.Schemas.{schema_note}
@@ -77,6 +79,27 @@ abbrev pub RefusesFunction : Schema → List ℕ → List ℕ → Type 0
 RefusesFunction schema bytes rule =
     RefusesRead (functions.Refuses bytes) rule
     ⊎ ((function : Function) × ReadsAsFunction bytes function × BreaksRule (function_note schema function) rule)
+
+-- ---- the query
+
+-- the bytes read as this query
+pub record ReadsAsQuery (bytes : List ℕ) (query : Query) : Type 0 where
+  pub may_be_read : texts.MayBeRead bytes
+  pub reads : ReadsQuery bytes query
+
+-- the query that the bytes read as, which breaks no rule over the tables of the schema
+pub record IsQuery (schema : Schema) (bytes : List ℕ) : Type 0 where
+  pub written : Query
+  pub reads_as : ReadsAsQuery bytes written
+  pub unbroken : IsUnbroken (query_note schema written)
+
+-- it isn't read, or it breaks a rule
+abbrev pub RefusesQuery : Schema → List ℕ → List ℕ → Type 0
+RefusesQuery schema bytes rule =
+    RefusesRead (texts.Refuses (ReadsQuery bytes) bytes) rule
+    ⊎ ((query : Query) × ReadsAsQuery bytes query × BreaksRule (query_note schema query) rule)
+
+-- ---- the form that is compiled
 
 -- the function, whose names are resolved, isn't of the form that is compiled
 abbrev pub RefusesForm : Function → List ℕ → Type 0

@@ -1,6 +1,6 @@
 //! `compile SCHEMA FUNC`.
 
-ghost use Rattle.away_top.specs.Commands.{compile_course, Compiles};
+ghost use Rattle.away_top.specs.CompileCourse.{compile_course, Compiles};
 ghost use Rattle.away_top.specs.Runs.{IsEnd, Runs};
 ghost use Rattle.away_top.specs.Steps.{run_end};
 ghost use Rattle.std.specs.Prelude.{List, ℕ};

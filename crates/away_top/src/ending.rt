@@ -7,12 +7,12 @@ ghost use Rattle.away_top.specs.Steps.{IsEnding};
 
 use crate::Status;
 use away_lex::LimitKind;
-use away_values::Name;
+use away_values::{Name, NoMemory};
 use itoa::Buffer;
 use std::alloc::{AllocError, Global};
 
 const HELP: &[u8] =
-    b"away compile SCHEMA FUNC   write the query that the function in FUNC becomes, over the tables of SCHEMA\naway --help                write these lines\naway --version             write the program's name and version\n";
+    b"away compile SCHEMA FUNC                 write the query that the function in FUNC becomes, over the tables of SCHEMA\naway sql BOUND SCHEMA QUERY DIR ARG..    write what the query in QUERY answers over the tables in DIR, within BOUND iterations\naway --help                              write these lines\naway --version                           write the program's name and version\n";
 
 /// A status with the whole output of the run.
 #[derive(Drop)]
@@ -29,6 +29,17 @@ pub enum Halt {
     NoMemory,
 }
 
+impl From<NoMemory> for Halt {
+    ghost use Rattle.std.specs.Prelude.{◌≡◌};
+    ghost use Rattle.away_top.specs.declared.ending.Halt.TheVariants.{NoMemory};
+
+    ghost from_gives = { λ _ e. e ≡ NoMemory };
+
+    fn from(_error: NoMemory) -> Halt {
+        Halt::NoMemory
+    }
+}
+
 impl From<AllocError> for Halt {
     ghost use Rattle.std.specs.Prelude.{◌≡◌};
     ghost use Rattle.away_top.specs.declared.ending.Halt.TheVariants.{NoMemory};
@@ -40,7 +51,12 @@ impl From<AllocError> for Halt {
     }
 }
 
-fn with_output(alloc: Global, status: Status, output: &[u8]) -> Result<Ending, AllocError>
+/// A status with this output.
+pub(crate) fn with_output(
+    alloc: Global,
+    status: Status,
+    output: &[u8],
+) -> Result<Ending, AllocError>
     ensures { IfOk result (λ ending. IsEnding ending status output.now) }
 {
     Ok(Ending {

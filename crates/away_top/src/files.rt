@@ -3,11 +3,13 @@
 ghost use Rattle.std.specs.Prelude.{◌≡◌, IfErr, IfOk};
 ghost use Rattle.away_trees.specs.Limits.{KeepsLimits};
 ghost use Rattle.away_types.specs.CheckedFunctions.{IsChecked};
+ghost use Rattle.away_types.specs.CheckedQueries.{IsCheckedQuery, query_note};
 ghost use Rattle.away_types.specs.FunctionChecks.{function_note, resolved_function};
 ghost use Rattle.away_names.specs.Schemas.{schema_note};
-ghost use Rattle.away_top.specs.Commands.{function_course, schema_course};
+ghost use Rattle.away_top.specs.Files.{function_course, schema_course};
+ghost use Rattle.away_top.specs.SqlCourse.{as_asked, asked_of, query_course};
 ghost use Rattle.away_top.specs.Course.{RefusedBy};
-ghost use Rattle.away_top.specs.Refusals.{BreaksRule, IsFunction, IsKept, IsSchema, RefusesFunction, RefusesSchema};
+ghost use Rattle.away_top.specs.Refusals.{BreaksRule, IsFunction, IsKept, IsQuery, IsSchema, RefusesFunction, RefusesQuery, RefusesSchema};
 ghost use Rattle.away_top.specs.Runs.{Follows, Holds, IsRead, StopsAt};
 ghost use Rattle.away_top.specs.Steps.{IsHalt, IsJudged, ReadRefused, stretch_end};
 
@@ -16,15 +18,18 @@ use crate::ending::{
 };
 use crate::{Files, ReadError};
 use away_lex::ReadRefusal;
-use away_trees::{Function, Schema};
-use away_types::{CheckedFunction, CheckedSchema, RuleRefusal, check_function, check_schema};
+use away_trees::{Function, Query, Schema};
+use away_types::{
+    CheckedFunction, CheckedQuery, CheckedSchema, RuleRefusal, check_function, check_query,
+    check_schema,
+};
 use plsql_parse::read_function;
-use sql_text::read_schema;
+use sql_text::{read_query, read_schema};
 use sqlite_items::Boxed;
 use std::alloc::{AllocError, Global};
 
-/// The most bytes of a schema.
-const MAX_SCHEMA: u64 = 67_108_864;
+/// The most bytes of a file that is no function's.
+pub(crate) const MAX_FILE: u64 = 67_108_864;
 
 /// The most bytes of a function's file.
 const MAX_FUNCTION: u64 = 1_048_576;
@@ -33,7 +38,7 @@ const MAX_FUNCTION: u64 = 1_048_576;
 pub fn schema_of<F: Files>(alloc: Global, name: &str, files: &mut F) -> Result<CheckedSchema, Halt>
     ensures { Follows F.Files files.old (schema_course name.now) files.new (stretch_end (λ c. c.schema) result) }
 {
-    let bytes = bytes_of(alloc, name, MAX_SCHEMA, files)?;
+    let bytes = bytes_of(alloc, name, MAX_FILE, files)?;
     schema_in(alloc, name, &bytes)
 }
 
@@ -49,6 +54,20 @@ pub fn function_of<F: Files>(
 {
     let bytes = bytes_of(alloc, name, MAX_FUNCTION, files)?;
     function_in(alloc, tables, name, &bytes)
+}
+
+/// The query that a file reads as, judged over the tables of the schema.
+pub fn query_of<F: Files>(
+    alloc: Global,
+    tables: &CheckedSchema,
+    name: &str,
+    files: &mut F,
+) -> Result<Boxed<CheckedQuery>, Halt>
+    ensures { Follows F.Files files.old (query_course tables.now.schema name.now) files.new
+        (stretch_end as_asked result) }
+{
+    let bytes = bytes_of(alloc, name, MAX_FILE, files)?;
+    query_in(alloc, tables, name, &bytes)
 }
 
 fn schema_in(alloc: Global, name: &str, bytes: &[u8]) -> Result<CheckedSchema, Halt>
@@ -104,8 +123,45 @@ fn checked_function(
     }
 }
 
+fn query_in(
+    alloc: Global,
+    tables: &CheckedSchema,
+    name: &str,
+    bytes: &[u8],
+) -> Result<Boxed<CheckedQuery>, Halt>
+    ensures { IsJudged (RefusedBy name.now (RefusesQuery tables.now.schema bytes.now))
+        (λ c. (q : IsQuery tables.now.schema bytes.now)
+        × (as_asked c ≡ asked_of tables.now.schema q.written)) result }
+{
+    match read_query(alloc, bytes) {
+        Ok(query) => checked_query(alloc, tables, name, query),
+        Err(error) => Err(Halt::Ended(refuse(alloc, name, error)?)),
+    }
+}
+
+fn checked_query(
+    alloc: Global,
+    tables: &CheckedSchema,
+    name: &str,
+    query: Query,
+) -> Result<Boxed<CheckedQuery>, Halt>
+    ensures { IsJudged (RefusedBy name.now (BreaksRule (query_note tables.now.schema query)))
+        (λ c. IsCheckedQuery tables.now.schema query c.query c.params c.result) result }
+{
+    match check_query(alloc, tables, query) {
+        Ok(checked) => Ok(Boxed::new(alloc, checked)?),
+        Err(RuleRefusal::Rule(rule)) => Err(Halt::Ended(refused_rule(alloc, name, rule)?)),
+        Err(RuleRefusal::NoMemory) => Err(Halt::NoMemory),
+    }
+}
+
 /// The bytes of a file that has at most so many.
-fn bytes_of<F: Files>(alloc: Global, name: &str, limit: u64, files: &mut F) -> Result<Vec<u8>, Halt>
+pub(crate) fn bytes_of<F: Files>(
+    alloc: Global,
+    name: &str,
+    limit: u64,
+    files: &mut F,
+) -> Result<Vec<u8>, Halt>
     ensures read { IsRead F.Files files.old name.now files.new }
     ensures bytes { IfOk result (λ bytes. Holds (F.held files.old name.now) limit bytes.items) }
     ensures stops { IfErr result (IsHalt (StopsAt F.Files files.old name.now limit files.new)) }

@@ -1,21 +1,26 @@
 //! Runs over files and a sink in memory.
 
-ghost use Rattle.std.specs.Prelude.{◌≡◌, ℕ, List, [], map, string_bytes};
-ghost use Rattle.away_top.specs.InMemory.{MayCompile, Translated};
+ghost use Rattle.std.specs.Prelude.{◌≡◌, ℕ, List, [], ◌∷◌, codes, map, string_bytes};
+ghost use Rattle.away_top.specs.InMemory.{Answered, MayAnswer, MayCompile, Translated};
 
 use crate::{MemoryFiles, MemorySink, Status, away};
 use std::alloc::Global;
 
 /// Runs `away` over files and a sink in memory. Where the words are those of `compile`, the files that they name are
-/// held and fit, and no read or write is to fail, only want of memory or of room is in the way of a translation.
+/// held and fit, and no read or write is to fail, only want of memory or of room is in the way of a translation. Where they are
+/// those of `sql`, the same is so of the answer of its query.
 pub fn away_in_memory(
     alloc: Global,
     words: &[String],
     files: &mut MemoryFiles,
     out: &mut MemorySink,
 ) -> Status
-    ensures { (tables function : List ℕ) → MayCompile files.old (map string_bytes words.now) tables function
+    ensures compile { (tables function : List ℕ) → MayCompile files.old (map string_bytes words.now) tables function
         → out.old.fails ≡ [] → Translated out.old out.new result tables function }
+    ensures query { (bound schema query dir : List ℕ) (args : List (List ℕ))
+        → map string_bytes words.now ≡ codes "sql" ∷ bound ∷ schema ∷ query ∷ dir ∷ args
+        → MayAnswer files.old bound schema query dir args → out.old.fails ≡ []
+        → Answered files.old out.old out.new result bound schema query dir args }
 {
     away(alloc, words, files, out)
 }

@@ -2,6 +2,7 @@
 
 mod held;
 mod printed_queries;
+mod queries;
 mod rows;
 mod rules;
 mod system;

@@ -5,11 +5,11 @@ use crate::{Files, MemoryFiles, MemorySink, ReadError, Status, away_in_memory, c
 use std::alloc::{AllocError, Global};
 use std::test::Fail;
 
-const TOTAL: &str =
+pub const TOTAL: &str =
     "WITH RECURSIVE away_r(away_go, away_fn, away_c0, away_c1, away_res, away_err) AS (SELECT CAST(TRUE AS boolean), CAST(1 AS bigint), CAST($1 AS bigint), CAST($2 AS bigint), CAST(NULL AS bigint), CAST(NULL AS text) UNION ALL SELECT away_s.away_go, away_s.away_fn, away_s.away_c0, away_s.away_c1, away_s.away_res, away_s.away_err FROM away_r, LATERAL (SELECT CAST(FALSE AS boolean), CAST(0 AS bigint), CAST(NULL AS bigint), CAST(NULL AS bigint), away_k2.away_v, CAST(NULL AS text) FROM LATERAL (SELECT CAST(TRUE AS boolean) WHERE away_r.away_fn = CAST(1 AS bigint)) AS away_k1(away_v), LATERAL (SELECT away_r.away_c0 + away_r.away_c1 * CAST(2 AS bigint)) AS away_k2(away_v)) AS away_s(away_go, away_fn, away_c0, away_c1, away_res, away_err) WHERE away_r.away_go) SELECT away_r.away_res, away_r.away_err FROM away_r WHERE NOT away_r.away_go\n";
 
 const HELP: &str =
-    "away compile SCHEMA FUNC   write the query that the function in FUNC becomes, over the tables of SCHEMA\naway --help                write these lines\naway --version             write the program's name and version\n";
+    "away compile SCHEMA FUNC                 write the query that the function in FUNC becomes, over the tables of SCHEMA\naway sql BOUND SCHEMA QUERY DIR ARG..    write what the query in QUERY answers over the tables in DIR, within BOUND iterations\naway --help                              write these lines\naway --version                           write the program's name and version\n";
 
 fn show(rt: &impl std::process::Abort, run: &Run, status: u8, output: &str) {
     assert_eq!(rt; code(&run.status), status);

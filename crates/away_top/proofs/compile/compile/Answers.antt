@@ -1,7 +1,7 @@
 use Rattle.std.proofs.lemmas.Result.{err_from_is_err_and}
 use Rattle.std.proofs.Common.{ℕ, List, subst}
 use Rattle.away_types.specs.declared.checked_function.CheckedFunction.{CheckedFunction}
-use Rattle.away_top.specs.Commands.{Compiles}
+use Rattle.away_top.specs.CompileCourse.{Compiles}
 use Rattle.away_top.specs.Runs.{IsEnd}
 use Rattle.away_top.specs.Steps.{run_end}
 use Rattle.away_top.proofs.Compiling.{compiles, function_stops, schema_stops}
