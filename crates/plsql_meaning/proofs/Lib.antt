@@ -1,0 +1,4 @@
+pub mod Slots
+pub mod Spends
+pub mod Stays
+pub mod FunctionLaws
