@@ -2,3 +2,4 @@ pub mod Slots
 pub mod Spends
 pub mod Stays
 pub mod FunctionLaws
+pub mod CounterLaws

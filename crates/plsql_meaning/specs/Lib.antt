@@ -4,4 +4,5 @@ pub mod Statements
 pub mod Slots
 pub mod Functions
 pub mod Equivalent
+pub mod Counters
 pub mod Examples

@@ -9,4 +9,7 @@ pub use examples::{
     blocks_have_their_variables, for_has_its_own_counter, select_into_sets_its_targets,
     turns_are_counted_over_all_loops,
 };
-pub use laws::{answers_of_functions_stay, functions_have_no_shape, one_return_is_a_function};
+pub use laws::{
+    answers_of_functions_stay, counters_end_without_a_fault, functions_have_no_shape,
+    one_return_is_a_function,
+};
