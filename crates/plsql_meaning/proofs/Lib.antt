@@ -3,3 +3,4 @@ pub mod Spends
 pub mod Stays
 pub mod FunctionLaws
 pub mod CounterLaws
+pub mod InSight

@@ -5,4 +5,5 @@ pub mod Slots
 pub mod Functions
 pub mod Equivalent
 pub mod Counters
+pub mod Sight
 pub mod Examples

@@ -3,6 +3,7 @@
 
 mod examples;
 mod laws;
+mod sight;
 
 pub use examples::{
     a_condition_is_taken_where_it_is_true, a_function_ends_as_its_body_does,
@@ -13,3 +14,4 @@ pub use laws::{
     answers_of_functions_stay, counters_end_without_a_fault, functions_have_no_shape,
     one_return_is_a_function,
 };
+pub use sight::runs_read_slots_in_sight;
