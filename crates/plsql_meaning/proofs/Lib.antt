@@ -4,3 +4,4 @@ pub mod Stays
 pub mod FunctionLaws
 pub mod CounterLaws
 pub mod InSight
+pub mod Readers

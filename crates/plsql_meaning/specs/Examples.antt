@@ -188,3 +188,7 @@ abbrev pub selecting_two : Stmt
 selecting_two = block (var None ∷ []) (
     stmt.Into false (([], Some 0) ∷ ([], Some 1) ∷ []) (select (col 0 0 0 ∷ col 0 0 1 ∷ []) (table_by (48 ∷ []) ∷ []) None)
     ∷ stmt.Return (plus (arith op.Mul (n 10) (slot 0)) (slot 1)) ∷ [])
+
+-- BEGIN RETURN (the first slot); END
+abbrev pub returning_the_first : Stmt
+returning_the_first = block [] (stmt.Return (slot 0) ∷ [])

@@ -10,6 +10,7 @@ use Rattle.away_trees.specs.declared.statements.Stmt.TheOpen.{Stmt-F, Arm-F}
 use Rattle.away_trees.specs.declared.statements.Stmt.TheOpen as st
 use Rattle.away_trees.specs.StatementAlgebra.{StatementAlgebra, stmt_of}
 use Rattle.sql_meaning.specs.Context.{at}
+use Rattle.sql_meaning.specs.Reads.{fits}
 use Rattle.plsql_meaning.specs.Outcomes.{Env, Done}
 use Rattle.plsql_meaning.specs.Statements.{Setting, body_at, kind_vars}
 
@@ -102,6 +103,10 @@ module _ (r : Readers) where
   -- a statement whose first slot is `at` reads slots in sight alone: those around it, the declarations before in its blocks, the variables of its FORs
   abbrev pub reads_in_sight : Stmt → ℕ → Sight → Bool
   reads_in_sight s = (stmt_of seeing s).sees
+
+-- Over so many tables an expression reads slots in sight, these tables and no parameter of a query. SELECT INTO isn't spoken of.
+abbrev pub of_expressions : ℕ → Readers
+of_expressions tables = record { expr = λ sight e. fits sight 0 tables e; select = λ sight s. false }
 
 -- ---- what it means
 

@@ -14,4 +14,4 @@ pub use laws::{
     answers_of_functions_stay, counters_end_without_a_fault, functions_have_no_shape,
     one_return_is_a_function,
 };
-pub use sight::runs_read_slots_in_sight;
+pub use sight::{runs_read_slots_in_sight, sights_are_computed};
