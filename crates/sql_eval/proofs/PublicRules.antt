@@ -9,9 +9,11 @@ use Rattle.sql_meaning.specs.AtBound.{turned, rows_within}
 use Rattle.away_values.specs.declared.values.Value.{Value}
 use Rattle.away_values.specs.declared.errors.OpError.{OpError}
 use Rattle.away_trees.specs.declared.queries.Expr.{Expr}
+use Rattle.away_trees.specs.declared.queries.Select.{Select}
 use Rattle.away_values.specs.Results.{Or, Answers}
 use Rattle.sql_meaning.specs.Context.{Rows, Context}
-use Rattle.sql_meaning.specs.Meaning.{value}
+use Rattle.sql_meaning.specs.Meaning.{rows_of_select, value}
+use Rattle.sql_meaning.specs.Selected.{select_rows}
 use Rattle.sql_meaning.specs.Gives.{Gives, value_of}
 
 pub value_answers : (cx : Context) (e : Expr) (r : Result Value OpError) → Gives (value_of cx e) r → Answers (value e cx) r
@@ -19,6 +21,12 @@ unfolding Gives value_of
 value_answers cx e r h = h
 
 pub ruleset public_rules = (value_answers)
+
+pub select_answers : (cx : Context) (s : Select) (r : Result Rows OpError) → Gives (select_rows cx s) r → Answers (rows_of_select s cx) r
+unfolding Gives select_rows
+select_answers cx s r h = h
+
+pub ruleset select_rules = (select_answers)
 
 pub rows_answer_so : (q : Query) (T : List Rows) (args : List Value) (k : ℕ) (r : Result (Option Rows) OpError) → Gives (rows_within q T args k) r → Answers (turned (rows q T args k)) r
 unfolding Gives rows_within

@@ -6,8 +6,8 @@ ghost use Rattle.sql_eval.specs.Classes.{class_char, class_told, zeros};
 use away_values::{Class, NoMemory, Word};
 use std::alloc::{AllocError, Global};
 
-/// The class that a text is, if it is one.
-pub(crate) fn class_of(alloc: Global, code: &Word) -> Result<Option<Class>, NoMemory>
+/// The class that a text is, where it is one: five digits or upper-case letters, and not 00000.
+pub fn class_of(alloc: Global, code: &Word) -> Result<Option<Class>, NoMemory>
     ensures { IfOk result (λ r. r ≡ class_told code.now) }
 {
     let letters = letters_of(alloc, code.text())?;

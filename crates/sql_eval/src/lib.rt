@@ -3,6 +3,7 @@
 
 mod aggregates;
 mod answers;
+mod bodies;
 mod classes;
 mod eval;
 mod expressions;
@@ -18,6 +19,8 @@ mod tables;
 mod working;
 
 pub use answers::{rows, run_query};
+pub use bodies::{rows_in_body, value_in_body};
+pub use classes::class_of;
 pub use expressions::{Frames, eval_expr};
 pub use lengths::query_length;
 

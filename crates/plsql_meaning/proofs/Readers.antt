@@ -1,0 +1,52 @@
+-- The value of an expression is by the slots that it reads.
+use Rattle.std.proofs.Common.{◌≡◌, refl, ℕ, zero, suc, ◌<◌, Bool, true, false, not, ◌==◌, ◌&&◌, nat_lt, if◌then◌else◌, List, [], ◌∷◌, length, filter, filter_map, slice_index_or, All, arith}
+use Rattle.std.specs.List.{list_all}
+use Rattle.std.proofs.lemmas.Bool.{and_parts, false≢true}
+use Rattle.away_values.specs.declared.values.Value.{Value}
+use Rattle.sql_meaning.specs.Context.{Rows, at}
+use Rattle.sql_meaning.specs.OneReturn.{body}
+use Rattle.sql_meaning.specs.Reads.{Read, Slot, Param, Table, Outer, allows, fits, first_occurrences, reads, slot_of, slots_of}
+use Rattle.sql_meaning.specs.Substitution.{SeesAlike}
+use Rattle.sql_meaning.proofs.Substitution.{only_slots_matter}
+use Rattle.plsql_meaning.specs.Functions.{over}
+use Rattle.plsql_meaning.specs.Sight.{Agree, AreReaders, of_expressions, Sight}
+
+abbrev Each : (ℕ → Type 0) → List ℕ → Type 0
+Each P [] = Unit {0}
+Each P (x ∷ xs) = P x × Each P xs
+
+all_of : (P : ℕ → Type 0) (xs : List ℕ) → Each P xs → (k d : ℕ) → k < length xs → P (slice_index_or xs k d)
+all_of P [] h k d lt = absurd (omega (arith, lt))
+all_of P (x ∷ xs) h zero d lt = h.0
+all_of P (x ∷ xs) h (suc k) d lt = all_of P xs h.1 k d (omega (arith, lt))
+
+each_filter : (P : ℕ → Type 0) (test : ℕ → Bool) (xs : List ℕ) → Each P xs → Each P (filter test xs)
+each_filter P test [] h = tt
+each_filter P test (x ∷ xs) h = by (test x) (each_filter P test xs h.1)
+  where
+    by : (b : Bool) → Each P (filter test xs) → Each P (if b then x ∷ filter test xs else filter test xs)
+    by true rest = (h.0, rest)
+    by false rest = rest
+
+each_first : (P : ℕ → Type 0) (xs : List ℕ) → Each P xs → Each P (first_occurrences xs)
+each_first P [] h = tt
+each_first P (x ∷ xs) h = (h.0, each_filter P (λ y. not (y == x)) (first_occurrences xs) (each_first P xs h.1))
+
+each_slot : (P : ℕ → Type 0) (sight : Sight) (tables : ℕ) → ((i : ℕ) → sight i ≡ true → P i) → (rs : List Read) → list_all (allows sight 0 tables) rs ≡ true → Each P (filter_map slot_of rs)
+each_slot P sight tables go [] h = tt
+each_slot P sight tables go (Slot i ∷ rs) h = let p = and_parts (sight i) (list_all (allows sight 0 tables) rs) h in (go i p.0, each_slot P sight tables go rs p.1)
+each_slot P sight tables go (Param i ∷ rs) h = each_slot P sight tables go rs (and_parts (nat_lt i 0) (list_all (allows sight 0 tables) rs) h).1
+each_slot P sight tables go (Table i ∷ rs) h = each_slot P sight tables go rs (and_parts (nat_lt i tables) (list_all (allows sight 0 tables) rs) h).1
+each_slot P sight tables go (Outer c ∷ rs) h = absurd (false≢true h)
+
+sees_alike : (T : List Rows) (env other : List Value) → SeesAlike 0 (length T) (body T other) (body T env)
+sees_alike T env other = record { params_are = λ i h. refl; tables_are = λ k h. refl; no_group = refl; no_rows = refl }
+
+pub expressions_are_readers : (T : List Rows) (not_null : List Bool) → AreReaders (over T not_null) (of_expressions (length T))
+expressions_are_readers T not_null = record {
+  value = λ sight e h env other a.
+      let same : ℕ → Type 0 = λ i. at env i ≡ at other i in
+      only_slots_matter sight 0 (length T) (body T other) (body T env) (sees_alike T env other) e h
+      (all_of same (slots_of e) (each_first same (filter_map slot_of (reads e)) (each_slot same sight (length T) a.values (reads e) h)));
+  rows = λ sight s h env other a. absurd (false≢true h);
+}

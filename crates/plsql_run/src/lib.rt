@@ -1,0 +1,20 @@
+//! The interpreter: runs a function statement by statement, over a stack of places.
+#![tactic(auto)]
+
+mod counting;
+mod enter;
+mod frames;
+mod function;
+mod into;
+mod layout;
+mod leaves;
+mod loops;
+mod machine;
+mod names;
+mod setting;
+mod simple;
+
+pub use function::run_function;
+
+#[cfg(test)]
+mod tests;
