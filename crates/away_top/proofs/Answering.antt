@@ -18,6 +18,7 @@ use Rattle.away_top.specs.Arguments.{bound_of, values_of}
 use Rattle.away_top.specs.Commands.{course}
 use Rattle.away_top.specs.Course.{Course, and_then, ends}
 use Rattle.away_top.specs.Files.{schema_course}
+use Rattle.away_top.specs.Lines.{line}
 use Rattle.away_top.specs.Outside.{Keeps}
 use Rattle.away_top.specs.QueryAnswers.{AnswersQuery, AreBytesOf, Held, HoldsRows, IsAnswer, IsAnswered}
 use Rattle.away_top.specs.Refusals.{IsQuery, IsSchema, RefusesQuery, RefusesSchema}
@@ -46,19 +47,47 @@ rows_before old now dir keep (t ∷ ts) (r ∷ rs) all = (
 
 -- ---- stretches that give
 
-pub silent_spelled : {A : Type 0} (o : Option A) → IsSilent (spelled o)
-silent_spelled None = silent_usage _
+silent_spelled : {A : Type 0} (o : Option A) → IsSilent (spelled o)
+silent_spelled None = silent_usage (line (codes "usage"))
 silent_spelled (Some a) = tt
 
-pub silent_holding : (file : List ℕ) (o : Or Rows) → IsSilent (holding file o)
+silent_holding : (file : List ℕ) (o : Or Rows) → IsSilent (holding file o)
 silent_holding file (Ok rows) = tt
 silent_holding file (Err refusal) = silent_refusal file (IsTableRule refusal)
 
-module _ {D : Type 0} (F : Files D) where
-  record WasSpelled {A : Type 0} (now after : D) (o : Option A) (a : A) : Type 0 where
-    pub same : after ≡ now
-    pub is : o ≡ Some a
+silent_tables : (dir : List ℕ) (done : List Rows) (left : List TableSchema) → IsSilent (tables_behind dir done left)
+silent_tables dir done [] = tt
+silent_tables dir done (t ∷ left) = silent_then (table_course dir t) (λ rows. tables_behind dir (done ++ rows ∷ []) left) (λ bytes. silent_holding (table_file dir t.name) (rows_in t bytes)) (λ rows. silent_tables dir (done ++ rows ∷ []) left)
 
+record WasSpelled {D A : Type 0} (now after : D) (o : Option A) (a : A) : Type 0 where
+  pub same : after ≡ now
+  pub is : o ≡ Some a
+
+record WereRead (held : Held) (dir : List ℕ) (done : List Rows) (left : List TableSchema) (all : List Rows) : Type 0 where
+  pub more : List Rows
+  pub are : all ≡ done ++ more
+  pub hold : AllZip (HoldsRows held dir) left more
+
+record SchemaRead (held : Held) (name : List ℕ) (s : Schema) : Type 0 where
+  pub bytes : List ℕ
+  pub are_its : AreBytesOf held name bytes
+  pub tables : IsSchema bytes
+  pub is : s ≡ tables.schema
+
+record QueryRead (held : Held) (s : Schema) (name : List ℕ) (q : Asked) : Type 0 where
+  pub bytes : List ℕ
+  pub are_its : AreBytesOf held name bytes
+  pub asked : IsQuery s bytes
+  pub is : q ≡ asked_of s asked.written
+
+record Told (held : Held) (dir : List ℕ) (s : Schema) (q : Asked) (args : List (List ℕ)) (most : ℕ) (status : Status) (output : List ℕ) : Type 0 where
+  pub values : List Value
+  pub arguments_are : values_of q.params args ≡ Some values
+  pub rows : List Rows
+  pub hold : AllZip (HoldsRows held dir) s.tables rows
+  pub tells : Tells (sql q.query rows values most) status output
+
+module _ {D : Type 0} (F : Files D) where
   was_spelled : {A : Type 0} (now after : D) (o : Option A) (a : A) → Follows F now (spelled o) after (goes_on a) → WasSpelled now after o a
   was_spelled now after None a h = absurd h.how
   was_spelled now after (Some b) a h = record { same = h.same; is = ap Some (sym h.how) }
@@ -72,12 +101,7 @@ module _ {D : Type 0} (F : Files D) where
   table_read now after dir t rows (inr (middle, read, inl h)) = absurd h.how
   table_read now after dir t rows (inr (middle, read, inr (bytes, holds, h))) = record { bytes = bytes; are_its = holds.same; rows_are = (was_held middle after (table_file dir t.name) (rows_in t bytes) rows h).0 }
 
-  record WereRead (now : D) (dir : List ℕ) (done : List Rows) (left : List TableSchema) (all : List Rows) : Type 0 where
-    pub more : List Rows
-    pub are : all ≡ done ++ more
-    pub hold : AllZip (HoldsRows (F.held now) dir) left more
-
-  tables_read : (now after : D) (dir : List ℕ) (done : List Rows) (left : List TableSchema) (all : List Rows) → Follows F now (tables_behind dir done left) after (goes_on all) → WereRead now dir done left all
+  tables_read : (now after : D) (dir : List ℕ) (done : List Rows) (left : List TableSchema) (all : List Rows) → Follows F now (tables_behind dir done left) after (goes_on all) → WereRead (F.held now) dir done left all
   tables_read now after dir done [] all h = record { more = []; are = h.how ∙ sym (append-nil done); hold = tt }
   tables_read now after dir done (t ∷ left) all h =
       let g = gone F now after (table_course dir t) (λ rows. tables_behind dir (done ++ rows ∷ []) left) (goes_on all) tt (λ bytes. silent_holding (table_file dir t.name) (rows_in t bytes)) h in
@@ -88,29 +112,13 @@ module _ {D : Type 0} (F : Files D) where
         hold = (table_read now g.middle dir t g.given g.first, rows_before (F.held now) (F.held g.middle) dir (keeps F now g.middle (table_course dir t) (goes_on g.given) g.first) left rest.more rest.hold);
       }
 
-  pub silent_tables : (dir : List ℕ) (done : List Rows) (left : List TableSchema) → IsSilent (tables_behind dir done left)
-  silent_tables dir done [] = tt
-  silent_tables dir done (t ∷ left) = silent_then (table_course dir t) (λ rows. tables_behind dir (done ++ rows ∷ []) left) (λ bytes. silent_holding (table_file dir t.name) (rows_in t bytes)) (λ rows. silent_tables dir (done ++ rows ∷ []) left)
-
-  record SchemaRead (now : D) (name : List ℕ) (s : Schema) : Type 0 where
-    pub bytes : List ℕ
-    pub are_its : AreBytesOf (F.held now) name bytes
-    pub tables : IsSchema bytes
-    pub is : s ≡ tables.schema
-
-  schema_read : (now after : D) (name : List ℕ) (s : Schema) → Follows F now (schema_course name) after (goes_on s) → SchemaRead now name s
+  schema_read : (now after : D) (name : List ℕ) (s : Schema) → Follows F now (schema_course name) after (goes_on s) → SchemaRead (F.held now) name s
   schema_read now after name s (inl h) = absurd h.how
   schema_read now after name s (inr (middle, read, inl h)) = absurd h.how
   schema_read now after name s (inr (middle, read, inr (bytes, holds, inl h))) = absurd h.how
   schema_read now after name s (inr (middle, read, inr (bytes, holds, inr (w, h)))) = record { bytes = bytes; are_its = holds.same; tables = w; is = h.how }
 
-  record QueryRead (now : D) (s : Schema) (name : List ℕ) (q : Asked) : Type 0 where
-    pub bytes : List ℕ
-    pub are_its : AreBytesOf (F.held now) name bytes
-    pub asked : IsQuery s bytes
-    pub is : q ≡ asked_of s asked.written
-
-  query_read : (now after : D) (s : Schema) (name : List ℕ) (q : Asked) → Follows F now (query_course s name) after (goes_on q) → QueryRead now s name q
+  query_read : (now after : D) (s : Schema) (name : List ℕ) (q : Asked) → Follows F now (query_course s name) after (goes_on q) → QueryRead (F.held now) s name q
   query_read now after s name q (inl h) = absurd h.how
   query_read now after s name q (inr (middle, read, inl h)) = absurd h.how
   query_read now after s name q (inr (middle, read, inr (bytes, holds, inl h))) = absurd h.how
@@ -118,15 +126,8 @@ module _ {D : Type 0} (F : Files D) where
 
   -- ---- the whole run
 
-  record Told (now : D) (dir : List ℕ) (s : Schema) (q : Asked) (args : List (List ℕ)) (most : ℕ) (status : Status) (output : List ℕ) : Type 0 where
-    pub values : List Value
-    pub arguments_are : values_of q.params args ≡ Some values
-    pub rows : List Rows
-    pub hold : AllZip (HoldsRows (F.held now) dir) s.tables rows
-    pub tells : Tells (sql q.query rows values most) status output
-
   asked_told : (now after : D) (dir : List ℕ) (s : Schema) (q : Asked) (args : List (List ℕ)) (most : ℕ) (status : Status) (output : List ℕ) → IsAnswer status
-      → Follows F now (asked_course most s q dir args) after (ended status output) → Told now dir s q args most status output
+      → Follows F now (asked_course most s q dir args) after (ended status output) → Told (F.held now) dir s q args most status output
   asked_told now after dir s q args most status output late h =
       let g = gone F now after (spelled (values_of q.params args)) (answer_course most s q dir) (ended status output) late (silent_spelled (values_of q.params args)) h in
       let spelt = was_spelled now g.middle (values_of q.params args) g.given g.first in

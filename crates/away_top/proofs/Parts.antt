@@ -41,19 +41,19 @@ not_late E wants_memory silent is late = late
 not_late E (ended status output) silent is late = silent status output is late
 not_late E (goes_on a) silent is late = is
 
+-- a first stretch that the run has gone through, and where it is then
+pub record Gone {D A B : Type 0} (F : Files D) (now after : D) (c : Course A) (next : A → Course B) (end : End B) : Type 0 where
+  pub middle : D
+  pub given : A
+  pub first : Follows F now c middle (goes_on given)
+  pub rest : Follows F middle (next given) after end
+
 module _ {D : Type 0} (F : Files D) where
   silent_stop : (before after : D) (name : List ℕ) (limit : ℕ) → AreSilent (StopsAt F before name limit after)
   silent_stop before after name limit status output (inl (u, e)) answer = subst IsAnswer e.0 answer
   silent_stop before after name limit status output (inr (long, e)) answer = subst IsAnswer e.0 answer
 
-  -- a first stretch that the run has gone through, and where it is then
-  pub record Gone {A B : Type 0} (now after : D) (c : Course A) (next : A → Course B) (end : End B) : Type 0 where
-    pub middle : D
-    pub given : A
-    pub first : Follows F now c middle (goes_on given)
-    pub rest : Follows F middle (next given) after end
-
-  pub gone : {A B : Type 0} (now after : D) (c : Course A) (next : A → Course B) (end : End B) → IsLate end → IsSilent c → Follows F now (and_then c next) after end → Gone now after c next end
+  pub gone : {A B : Type 0} (now after : D) (c : Course A) (next : A → Course B) (end : End B) → IsLate end → IsSilent c → Follows F now (and_then c next) after end → Gone F now after c next end
   gone now after (gives a) next end late silent h = record { middle = now; given = a; first = record { same = refl; how = refl }; rest = h }
   gone now after (ends E) next end late silent h = absurd (not_late E end silent h.how late)
   gone now after (judges E W more) next end late silent (inl h) = absurd (not_late E end silent.0 h.how late)
