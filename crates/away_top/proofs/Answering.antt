@@ -33,10 +33,10 @@ bytes_before : (old now : Held) (name bytes : List ℕ) (told : Option (List ℕ
 bytes_before old now name bytes None is keep are = tt
 bytes_before old now name bytes (Some known) is keep are = subst (λ o. IfSome o (λ known. bytes ≡ known)) (keep name known is) are
 
-before : (old now : Held) (name bytes : List ℕ) → Keeps old now → AreBytesOf now name bytes → AreBytesOf old name bytes
+pub before : (old now : Held) (name bytes : List ℕ) → Keeps old now → AreBytesOf now name bytes → AreBytesOf old name bytes
 before old now name bytes keep are = bytes_before old now name bytes (old name) refl keep are
 
-rows_before : (old now : Held) (dir : List ℕ) → Keeps old now → (ts : List TableSchema) (rs : List Rows) → AllZip (HoldsRows now dir) ts rs → AllZip (HoldsRows old dir) ts rs
+pub rows_before : (old now : Held) (dir : List ℕ) → Keeps old now → (ts : List TableSchema) (rs : List Rows) → AllZip (HoldsRows now dir) ts rs → AllZip (HoldsRows old dir) ts rs
 rows_before old now dir keep [] [] all = tt
 rows_before old now dir keep [] (r ∷ rs) all = all
 rows_before old now dir keep (t ∷ ts) [] all = all
@@ -47,28 +47,28 @@ rows_before old now dir keep (t ∷ ts) (r ∷ rs) all = (
 
 -- ---- stretches that give
 
-silent_spelled : {A : Type 0} (o : Option A) → IsSilent (spelled o)
+pub silent_spelled : {A : Type 0} (o : Option A) → IsSilent (spelled o)
 silent_spelled None = silent_usage (line (codes "usage"))
 silent_spelled (Some a) = tt
 
-silent_holding : (file : List ℕ) (o : Or Rows) → IsSilent (holding file o)
+pub silent_holding : (file : List ℕ) (o : Or Rows) → IsSilent (holding file o)
 silent_holding file (Ok rows) = tt
 silent_holding file (Err refusal) = silent_refusal file (IsTableRule refusal)
 
-silent_tables : (dir : List ℕ) (done : List Rows) (left : List TableSchema) → IsSilent (tables_behind dir done left)
+pub silent_tables : (dir : List ℕ) (done : List Rows) (left : List TableSchema) → IsSilent (tables_behind dir done left)
 silent_tables dir done [] = tt
 silent_tables dir done (t ∷ left) = silent_then (table_course dir t) (λ rows. tables_behind dir (done ++ rows ∷ []) left) (λ bytes. silent_holding (table_file dir t.name) (rows_in t bytes)) (λ rows. silent_tables dir (done ++ rows ∷ []) left)
 
-record WasSpelled {D A : Type 0} (now after : D) (o : Option A) (a : A) : Type 0 where
+pub record WasSpelled {D A : Type 0} (now after : D) (o : Option A) (a : A) : Type 0 where
   pub same : after ≡ now
   pub is : o ≡ Some a
 
-record WereRead (held : Held) (dir : List ℕ) (done : List Rows) (left : List TableSchema) (all : List Rows) : Type 0 where
+pub record WereRead (held : Held) (dir : List ℕ) (done : List Rows) (left : List TableSchema) (all : List Rows) : Type 0 where
   pub more : List Rows
   pub are : all ≡ done ++ more
   pub hold : AllZip (HoldsRows held dir) left more
 
-record SchemaRead (held : Held) (name : List ℕ) (s : Schema) : Type 0 where
+pub record SchemaRead (held : Held) (name : List ℕ) (s : Schema) : Type 0 where
   pub bytes : List ℕ
   pub are_its : AreBytesOf held name bytes
   pub tables : IsSchema bytes
@@ -88,7 +88,7 @@ record Told (held : Held) (dir : List ℕ) (s : Schema) (q : Asked) (args : List
   pub tells : Tells (sql q.query rows values most) status output
 
 module _ {D : Type 0} (F : Files D) where
-  was_spelled : {A : Type 0} (now after : D) (o : Option A) (a : A) → Follows F now (spelled o) after (goes_on a) → WasSpelled now after o a
+  pub was_spelled : {A : Type 0} (now after : D) (o : Option A) (a : A) → Follows F now (spelled o) after (goes_on a) → WasSpelled now after o a
   was_spelled now after None a h = absurd h.how
   was_spelled now after (Some b) a h = record { same = h.same; is = ap Some (sym h.how) }
 
@@ -101,7 +101,7 @@ module _ {D : Type 0} (F : Files D) where
   table_read now after dir t rows (inr (middle, read, inl h)) = absurd h.how
   table_read now after dir t rows (inr (middle, read, inr (bytes, holds, h))) = record { bytes = bytes; are_its = holds.same; rows_are = (was_held middle after (table_file dir t.name) (rows_in t bytes) rows h).0 }
 
-  tables_read : (now after : D) (dir : List ℕ) (done : List Rows) (left : List TableSchema) (all : List Rows) → Follows F now (tables_behind dir done left) after (goes_on all) → WereRead (F.held now) dir done left all
+  pub tables_read : (now after : D) (dir : List ℕ) (done : List Rows) (left : List TableSchema) (all : List Rows) → Follows F now (tables_behind dir done left) after (goes_on all) → WereRead (F.held now) dir done left all
   tables_read now after dir done [] all h = record { more = []; are = h.how ∙ sym (append-nil done); hold = tt }
   tables_read now after dir done (t ∷ left) all h =
       let g = gone F now after (table_course dir t) (λ rows. tables_behind dir (done ++ rows ∷ []) left) (goes_on all) tt (λ bytes. silent_holding (table_file dir t.name) (rows_in t bytes)) h in
@@ -112,7 +112,7 @@ module _ {D : Type 0} (F : Files D) where
         hold = (table_read now g.middle dir t g.given g.first, rows_before (F.held now) (F.held g.middle) dir (keeps F now g.middle (table_course dir t) (goes_on g.given) g.first) left rest.more rest.hold);
       }
 
-  schema_read : (now after : D) (name : List ℕ) (s : Schema) → Follows F now (schema_course name) after (goes_on s) → SchemaRead (F.held now) name s
+  pub schema_read : (now after : D) (name : List ℕ) (s : Schema) → Follows F now (schema_course name) after (goes_on s) → SchemaRead (F.held now) name s
   schema_read now after name s (inl h) = absurd h.how
   schema_read now after name s (inr (middle, read, inl h)) = absurd h.how
   schema_read now after name s (inr (middle, read, inr (bytes, holds, inl h))) = absurd h.how

@@ -16,7 +16,7 @@ drop_get [] i x h e = absurd (omega (arith, h))
 drop_get (y ∷ ys) zero x h e = ap (λ z. z ∷ ys) (sym e)
 drop_get (y ∷ ys) (suc i) x h e = drop_get ys i x (omega (arith, h)) e ∙ ap (λ n. x ∷ drop n (y ∷ ys)) (sym (suc-add-one i))
 
-drop_image : {A B : Type 0} (f : A → B) (xs : List A) (i : ℕ) (x : A) → i < length xs → x ≡ get_or xs i x → drop i (map f xs) ≡ f x ∷ drop (i + 1) (map f xs)
+pub drop_image : {A B : Type 0} (f : A → B) (xs : List A) (i : ℕ) (x : A) → i < length xs → x ≡ get_or xs i x → drop i (map f xs) ≡ f x ∷ drop (i + 1) (map f xs)
 drop_image f [] i x h e = absurd (omega (arith, h))
 drop_image f (y ∷ ys) zero x h e = ap (λ z. f z ∷ map f ys) (sym e)
 drop_image f (y ∷ ys) (suc i) x h e = drop_image f ys i x (omega (arith, h)) e ∙ ap (λ n. f x ∷ drop n (f y ∷ map f ys)) (sym (suc-add-one i))
@@ -27,7 +27,7 @@ drop_past [] (suc i) h = refl
 drop_past (x ∷ xs) zero h = absurd (omega arith)
 drop_past (x ∷ xs) (suc i) h = drop_past xs i (omega arith)
 
-drop_past_image : {A B : Type 0} (f : A → B) (xs : List A) (i : ℕ) → length xs ≤ i → drop i (map f xs) ≡ []
+pub drop_past_image : {A B : Type 0} (f : A → B) (xs : List A) (i : ℕ) → length xs ≤ i → drop i (map f xs) ≡ []
 drop_past_image f [] zero h = refl
 drop_past_image f [] (suc i) h = refl
 drop_past_image f (x ∷ xs) zero h = absurd (omega arith)
@@ -36,11 +36,11 @@ drop_past_image f (x ∷ xs) (suc i) h = drop_past_image f xs i (omega arith)
 abbrev pub behind : List Value → Option (List Value) → Option (List Value)
 behind done o = option_map (λ more. done ++ more) o
 
-none_yet : (o : Option (List Value)) → o ≡ behind [] o
+pub none_yet : (o : Option (List Value)) → o ≡ behind [] o
 none_yet (Some values) = refl
 none_yet None = refl
 
-one_more : (done : List Value) (v : Value) (o : Option (List Value)) → behind done (option_map (λ more. v ∷ more) o) ≡ behind (done ++ v ∷ []) o
+pub one_more : (done : List Value) (v : Value) (o : Option (List Value)) → behind done (option_map (λ more. v ∷ more) o) ≡ behind (done ++ v ∷ []) o
 one_more done v (Some more) = ap Some (sym (append_assoc done (v ∷ []) more))
 one_more done v None = refl
 

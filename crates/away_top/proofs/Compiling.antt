@@ -9,7 +9,7 @@ use Rattle.away_top.specs.declared.ending.Ending.{Ending}
 use Rattle.away_top.specs.declared.ending.Halt.{Halt}
 use Rattle.away_top.specs.CompileCourse.{Compiles, compile_course}
 use Rattle.away_top.specs.Course.{and_then, ends, RefusedBy}
-use Rattle.away_top.specs.Files.{function_course, schema_course}
+use Rattle.away_top.specs.Files.{Callable, function_course, schema_course}
 use Rattle.away_top.specs.Refusals.{RefusesRead}
 use Rattle.away_top.specs.Runs.{End, goes_on, Follows, IsEnd, Runs}
 use Rattle.away_top.specs.Steps.{halt_end, ReadRefused}
@@ -30,7 +30,7 @@ pub schema_stops : {D : Type 0} (F : Files D) (old new : D) (schema func : List 
     → Runs F old (compile_course schema func) new (halt_end halt)
 schema_stops F old new schema func halt first = record {
   text = [];
-  follows = stops_early F old new (schema_course schema) (λ tables. and_then (function_course tables func) (λ f. ends (Compiles func tables f []))) halt first;
+  follows = stops_early F old new (schema_course schema) (λ tables. and_then (function_course tables func) (λ f. ends (Compiles func tables f.function []))) halt first;
 }
 
 module _ {D : Type 0} (F : Files D) (old middle new : D) (schema func : List ℕ) (tables : Schema) where
@@ -38,12 +38,12 @@ module _ {D : Type 0} (F : Files D) (old middle new : D) (schema func : List ℕ
   end_of text f end is = record { same = refl; how = is }
 
   -- both files are judged, and the function is compiled
-  pub compiles : (f : Function) (end : End ⊥) → Follows F old (schema_course schema) middle (goes_on tables) → Follows F middle (function_course tables func) new (goes_on f)
-      → ((text : List ℕ) × IsEnd (Compiles func tables f text) end) → Runs F old (compile_course schema func) new end
+  pub compiles : (f : Callable) (end : End ⊥) → Follows F old (schema_course schema) middle (goes_on tables) → Follows F middle (function_course tables func) new (goes_on f)
+      → ((text : List ℕ) × IsEnd (Compiles func tables f.function text) end) → Runs F old (compile_course schema func) new end
   compiles f end first second (text, is) = record {
     text = text;
-    follows = goes_further F old middle new (schema_course schema) (λ tables. and_then (function_course tables func) (λ f. ends (Compiles func tables f text))) tables end first
-        (goes_further F middle new new (function_course tables func) (λ f. ends (Compiles func tables f text)) f end second (end_of text f end is));
+    follows = goes_further F old middle new (schema_course schema) (λ tables. and_then (function_course tables func) (λ f. ends (Compiles func tables f.function text))) tables end first
+        (goes_further F middle new new (function_course tables func) (λ f. ends (Compiles func tables f.function text)) f end second (end_of text f.function end is));
   }
 
   -- the run ends with the function's file
@@ -51,6 +51,6 @@ module _ {D : Type 0} (F : Files D) (old middle new : D) (schema func : List ℕ
       → Runs F old (compile_course schema func) new (halt_end halt)
   function_stops halt first second = record {
     text = [];
-    follows = goes_further F old middle new (schema_course schema) (λ tables. and_then (function_course tables func) (λ f. ends (Compiles func tables f []))) tables (halt_end halt) first
-        (stops_early F middle new (function_course tables func) (λ f. ends (Compiles func tables f [])) halt second);
+    follows = goes_further F old middle new (schema_course schema) (λ tables. and_then (function_course tables func) (λ f. ends (Compiles func tables f.function []))) tables (halt_end halt) first
+        (stops_early F middle new (function_course tables func) (λ f. ends (Compiles func tables f.function [])) halt second);
   }

@@ -52,7 +52,7 @@ compiled schema func s fit f name text output status (inr (is, e)) =
 
 module _ (held : List ℕ → Option (List ℕ)) (schema func tables function text : List ℕ) (fits : IsFitSchema tables) (fit : IsFitFunction tables function) where
   function_done : (s : IsSchema tables) → held func ≡ Some function → (status : Status) (output : List ℕ)
-      → Outcome {A = ⊥} held (and_then (function_course s.schema func) (λ f. ends (Compiles func s.schema f text))) status output → (status ≡ Done) × IsTranslation tables function output
+      → Outcome {A = ⊥} held (and_then (function_course s.schema func) (λ f. ends (Compiles func s.schema f.function text))) status output → (status ≡ Done) × IsTranslation tables function output
   function_done s told status output o = elim (leads_on func 1048576 _ (held func) function status output told fit.short o) [
     | inl (rule, refuses, e) ↦ absurd (fit.unrefused s rule refuses)
     | inr (f, compiles) ↦ compiled tables function s fit f func text output status compiles

@@ -15,12 +15,15 @@ use Rattle.away_types.specs.FunctionChecks.{resolved_function}
 use Rattle.csv_tables.specs.Files.{Or, rows_in}
 use Rattle.sql_meaning.specs.Context.{Rows}
 use Rattle.sql_meaning.specs.Working.{sql}
+use Rattle.plsql_meaning.specs.Equivalent.{answers}
+use Rattle.plsql_run.specs.Settings.{not_nulls}
 use Rattle.away_top.specs.AnswerLines.{answer_end, value_line}
-use Rattle.away_top.specs.Arguments.{bound_of, values_of}
+use Rattle.away_top.specs.Arguments.{bound_of, values_for, values_of}
 use Rattle.away_top.specs.Commands.{about_end, choice, course, usage}
 use Rattle.away_top.specs.CompileCourse.{Compiles, compile_course}
 use Rattle.away_top.specs.Course.{Course, and_then, ends, gives, judges, reads, Exactly, RefusedBy}
-use Rattle.away_top.specs.Files.{schema_course}
+use Rattle.away_top.specs.Files.{Callable, function_course, schema_course}
+use Rattle.away_top.specs.FnCourse.{call_at_bound, call_over_schema, called_course, fn_course, with_arguments}
 use Rattle.away_top.specs.SqlCourse.{Asked, Tells, answer_course, asked_course, at_bound, over_schema, query_course, spelled, sql_course}
 use Rattle.away_top.specs.TableFiles.{IsTableRule, holding, table_course, table_file, tables_behind, tables_course}
 use Rattle.away_top.specs.Help.{help_text, version_text}
@@ -153,6 +156,26 @@ plain_sql bound schema query dir args =
     plain_then (spelled (bound_of bound)) (at_bound schema query dir args) (plain_spelled (bound_of bound))
     (λ n. plain_then (schema_course schema) (λ s. over_schema n s query dir args) (λ bytes. (plain_refusal schema (RefusesSchema bytes), λ s. tt)) (λ s. plain_over n s query dir args))
 
+-- ---- a function over tables
+
+plain_called : (bound : ℕ) (s : Schema) (f : Callable) (dir : List ℕ) (values : List Value) → IsPlainCourse (called_course bound s f dir values)
+plain_called bound s f dir values =
+    plain_then (tables_course dir s.tables) (λ tables. ends (Tells (answers f.function (not_nulls f.slots) tables values bound))) (plain_tables dir [] s.tables)
+    (λ tables. plain_told (answers f.function (not_nulls f.slots) tables values bound))
+
+plain_arguments : (bound : ℕ) (s : Schema) (f : Callable) (dir : List ℕ) (args : List (List ℕ)) → IsPlainCourse (with_arguments bound s f dir args)
+plain_arguments bound s f dir args =
+    plain_then (spelled (values_for f.function.params args)) (called_course bound s f dir) (plain_spelled (values_for f.function.params args)) (plain_called bound s f dir)
+
+plain_call : (bound : ℕ) (s : Schema) (func dir : List ℕ) (args : List (List ℕ)) → IsPlainCourse (call_over_schema bound s func dir args)
+plain_call bound s func dir args =
+    plain_then (function_course s func) (λ f. with_arguments bound s f dir args) (λ bytes. (plain_refusal func (RefusesFunction s bytes), λ f. tt)) (λ f. plain_arguments bound s f dir args)
+
+plain_fn : (bound schema func dir : List ℕ) (args : List (List ℕ)) → IsPlainCourse (fn_course bound schema func dir args)
+plain_fn bound schema func dir args =
+    plain_then (spelled (bound_of bound)) (call_at_bound schema func dir args) (plain_spelled (bound_of bound))
+    (λ n. plain_then (schema_course schema) (λ s. call_over_schema n s func dir args) (λ bytes. (plain_refusal schema (RefusesSchema bytes), λ s. tt)) (λ s. plain_call n s func dir args))
+
 -- ---- all words
 
 plain_either : (b : Bool) (left right : Course ⊥) → IsPlainCourse left → IsPlainCourse right → IsPlainCourse (choice b left right)
@@ -163,5 +186,7 @@ pub plain_course : (words : List (List ℕ)) (text : List ℕ) → IsPlainCourse
 plain_course (word ∷ []) text = plain_end (about_end word).0 (about_end word).1 (plain_about word)
 plain_course (command ∷ schema ∷ func ∷ []) text = plain_choice (bytes_eq command (codes "compile")) (compile_course schema func) (λ text. usage) text (plain_compile schema func text) (plain_end Usage (line (codes "usage")) tt)
 plain_course (command ∷ bound ∷ schema ∷ file ∷ dir ∷ args) text =
-    plain_either (bytes_eq command (codes "sql")) (sql_course bound schema file dir args) usage (plain_sql bound schema file dir args) (plain_end Usage (line (codes "usage")) tt)
+    plain_either (bytes_eq command (codes "sql")) (sql_course bound schema file dir args)
+    (choice (bytes_eq command (codes "fn")) (fn_course bound schema file dir args) usage) (plain_sql bound schema file dir args)
+    (plain_either (bytes_eq command (codes "fn")) (fn_course bound schema file dir args) usage (plain_fn bound schema file dir args) (plain_end Usage (line (codes "usage")) tt))
 plain_course _ text = plain_end Usage (line (codes "usage")) tt

@@ -28,7 +28,7 @@ use Rattle.away_top.proofs.Answering as runs
 use Rattle.away_top.proofs.InMemory.{leads_on, room_is_safe, safe_name}
 use Rattle.away_top.proofs.Telling.{runs_so, telling}
 
-some_of : {A : Type 0} (o : Option A) → IsSome o → (a : A) × (o ≡ Some a)
+pub some_of : {A : Type 0} (o : Option A) → IsSome o → (a : A) × (o ≡ Some a)
 some_of None s = absurd (cc)
 some_of (Some a) s = (a, refl)
 
@@ -40,7 +40,7 @@ held_safe Q held file (Ok rows) next last rest = rest rows
 held_safe Q held file (Err e) next last rest = tt
 
 module _ (m : HeldFiles) (none : m.fails ≡ []) (dir : List ℕ) where
-  tables_safe : (last : List Rows → Course ⊥) → ((rows : List Rows) → EachRead (IsSafeName m) (held_at m.held) (last rows)) → (left : List TableSchema) (done : List Rows)
+  pub tables_safe : (last : List Rows → Course ⊥) → ((rows : List Rows) → EachRead (IsSafeName m) (held_at m.held) (last rows)) → (left : List TableSchema) (done : List Rows)
       → AllByRecursion (IsFitTable (held_at m.held) dir) left → EachRead (IsSafeName m) (held_at m.held) (and_then (tables_behind dir done left) last)
   tables_safe last rest [] done fit = rest done
   tables_safe last rest (t ∷ left) done fit = (
@@ -55,7 +55,7 @@ module _ (m : HeldFiles) (none : m.fails ≡ []) (dir : List ℕ) where
   asked_safe n s q None fit = tt
   asked_safe n s q (Some values) fit = tables_safe (λ tables. ends (Tells (sql q.query tables values n))) (λ rows. tt) s.tables [] fit
 
-same_some : (a b : List ℕ) → Some a ≡ Some b → a ≡ b
+pub same_some : (a b : List ℕ) → Some a ≡ Some b → a ≡ b
 same_some a b e = cc
 
 module _ (m : HeldFiles) (bound schema query dir : List ℕ) (args : List (List ℕ)) (may : MayAnswer m bound schema query dir args) where
@@ -87,7 +87,7 @@ tells_answer answer.More status output e = subst IsAnswer (sym e.0) tt
 tells_answer (answer.Shape n) status output e = subst IsAnswer (sym e.0) tt
 
 module _ (held : Held) (dir : List ℕ) (status : Status) (output : List ℕ) (tell : List Rows → Answer) where
-  tables_lead : (left : List TableSchema) (done : List Rows) → AllByRecursion (IsFitTable held dir) left
+  pub tables_lead : (left : List TableSchema) (done : List Rows) → AllByRecursion (IsFitTable held dir) left
       → Outcome {A = ⊥} held (and_then (tables_behind dir done left) (λ tables. ends (Tells (tell tables)))) status output → IsAnswer status
   tables_lead [] done fit o = tells_answer (tell done) status output o
   tables_lead (t ∷ left) done fit o =

@@ -39,3 +39,11 @@ are_enough params count = nat_le count 64 && list_all (λ p. nat_le p.0 count) p
 -- the arguments of a query, which may have more of them than it uses
 unfoldable pub values_of : List (ℕ × Ty) → List (List ℕ) → Option (List Value)
 values_of params words = if are_enough params (length words) then values_from params 1 words else None
+
+-- the values of a function's arguments: exactly one word for each parameter
+unfoldable pub values_for : List (List ℕ × Ty) → List (List ℕ) → Option (List Value)
+values_for [] [] = Some []
+values_for [] (word ∷ words) = None
+values_for (p ∷ params) [] = None
+values_for (p ∷ params) (word ∷ words) =
+    option_and_then (λ v. option_map (λ vs. v ∷ vs) (values_for params words)) (value_of p.1 word)

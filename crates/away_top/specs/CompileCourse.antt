@@ -17,4 +17,4 @@ Compiles name schema f text status output =
 abbrev pub compile_course : List ℕ → List ℕ → List ℕ → Course ⊥
 compile_course schema func text =
     and_then (schema_course schema)
-    (λ tables. and_then (function_course tables func) (λ f. ends (Compiles func tables f text)))
+    (λ tables. and_then (function_course tables func) (λ f. ends (Compiles func tables f.function text)))

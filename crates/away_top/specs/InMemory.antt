@@ -1,4 +1,4 @@
--- What `compile` and `sql` answer over files and a sink in memory that are to meet no failure.
+-- What `compile`, `sql` and `fn` answer over files and a sink in memory that are to meet no failure.
 use Rattle.std.specs.Prelude.{◌≡◌, ◌⊎◌, ℕ, ◌≤◌, List, [], ◌∷◌, ◌++◌, length, codes, Ok, Some, IsSome}
 use Rattle.std.specs.List.{AllByRecursion}
 use Rattle.away_trees.specs.declared.schemas.TableSchema.{TableSchema}
@@ -10,7 +10,8 @@ use Rattle.away_types.specs.CheckedQueries.{judged_query}
 use Rattle.away_types.specs.FunctionChecks.{resolved_function}
 use Rattle.csv_tables.specs.Files.{rows_in}
 use Rattle.sql_meaning.specs.Context.{Rows}
-use Rattle.away_top.specs.Arguments.{bound_of, values_of}
+use Rattle.away_top.specs.Arguments.{bound_of, values_for, values_of}
+use Rattle.away_top.specs.FunctionAnswers.{IsCalled}
 use Rattle.away_top.specs.QueryAnswers.{Held, IsAnswer, IsAnswered}
 use Rattle.away_top.specs.Refusals.{IsFunction, IsQuery, IsSchema, RefusesForm, RefusesFunction, RefusesQuery, RefusesSchema}
 use Rattle.away_top.specs.TableFiles.{table_file}
@@ -91,4 +92,32 @@ Answered files before after result bound schema query dir args =
     (result ≡ NoMemory)
     ⊎ ((status : Status) × (output : List ℕ) × IsAnswer status
     × IsAnswered (held_at files.held) bound schema query dir args status output
+    × (length output ≤ before.room → IsTold before after result status output))
+
+-- ---- fn
+
+-- a function's file is within its limit, over the schema of these bytes no rule refuses it, and the words spell its arguments
+pub record IsFitCall (tables bytes : List ℕ) (args : List (List ℕ)) : Type 0 where
+  pub short : length bytes ≤ 1048576
+  pub unrefused : (s : IsSchema tables) (rule : List ℕ) → ¬ (RefusesFunction s.schema bytes rule)
+  pub spelled : (s : IsSchema tables) (f : IsFunction s.schema bytes) → IsSome (values_for f.written.params args)
+
+-- The words behind `fn` spell a bound, their files are held and fit, and no read is to fail.
+pub record MayCall (files : HeldFiles) (bound schema func dir : List ℕ) (args : List (List ℕ)) : Type 0 where
+  pub spells_bound : IsSome (bound_of bound)
+  pub tables : List ℕ
+  pub called : List ℕ
+  pub holds_schema : held_at files.held schema ≡ Some tables
+  pub holds_function : held_at files.held func ≡ Some called
+  pub fit_schema : IsFitSchema tables
+  pub fit_call : IsFitCall tables called args
+  pub fit_tables : (s : IsSchema tables) → AllByRecursion (IsFitTable (held_at files.held) dir) s.schema.tables
+  pub no_failure : files.fails ≡ []
+
+-- Memory was wanting, or there is the answer of the function that the call tells, where the room holds it.
+abbrev pub Called : HeldFiles → RoomySink → RoomySink → Status → List ℕ → List ℕ → List ℕ → List ℕ → List (List ℕ) → Type 0
+Called files before after result bound schema func dir args =
+    (result ≡ NoMemory)
+    ⊎ ((status : Status) × (output : List ℕ) × IsAnswer status
+    × IsCalled (held_at files.held) bound schema func dir args status output
     × (length output ≤ before.room → IsTold before after result status output))

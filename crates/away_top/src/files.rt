@@ -4,9 +4,9 @@ ghost use Rattle.std.specs.Prelude.{◌≡◌, IfErr, IfOk};
 ghost use Rattle.away_trees.specs.Limits.{KeepsLimits};
 ghost use Rattle.away_types.specs.CheckedFunctions.{IsChecked};
 ghost use Rattle.away_types.specs.CheckedQueries.{IsCheckedQuery, query_note};
-ghost use Rattle.away_types.specs.FunctionChecks.{function_note, resolved_function};
+ghost use Rattle.away_types.specs.FunctionChecks.{function_note};
 ghost use Rattle.away_names.specs.Schemas.{schema_note};
-ghost use Rattle.away_top.specs.Files.{function_course, schema_course};
+ghost use Rattle.away_top.specs.Files.{as_callable, callable_of, function_course, schema_course};
 ghost use Rattle.away_top.specs.SqlCourse.{as_asked, asked_of, query_course};
 ghost use Rattle.away_top.specs.Course.{RefusedBy};
 ghost use Rattle.away_top.specs.Refusals.{BreaksRule, IsFunction, IsKept, IsQuery, IsSchema, RefusesFunction, RefusesQuery, RefusesSchema};
@@ -50,7 +50,7 @@ pub fn function_of<F: Files>(
     files: &mut F,
 ) -> Result<Boxed<CheckedFunction>, Halt>
     ensures { Follows F.Files files.old (function_course tables.now.schema name.now) files.new
-        (stretch_end (λ c. c.function) result) }
+        (stretch_end as_callable result) }
 {
     let bytes = bytes_of(alloc, name, MAX_FUNCTION, files)?;
     function_in(alloc, tables, name, &bytes)
@@ -98,7 +98,7 @@ fn function_in(
 ) -> Result<Boxed<CheckedFunction>, Halt>
     ensures { IsJudged (RefusedBy name.now (RefusesFunction tables.now.schema bytes.now))
         (λ c. (f : IsFunction tables.now.schema bytes.now)
-        × (c.function ≡ resolved_function tables.now.schema f.written)) result }
+        × (as_callable c ≡ callable_of tables.now.schema f.written)) result }
 {
     match read_function(alloc, bytes) {
         Ok(function) => checked_function(alloc, tables, name, function),

@@ -1,14 +1,14 @@
 //! Runs over files and a sink in memory.
 
 ghost use Rattle.std.specs.Prelude.{◌≡◌, ℕ, List, [], ◌∷◌, codes, map, string_bytes};
-ghost use Rattle.away_top.specs.InMemory.{Answered, MayAnswer, MayCompile, Translated};
+ghost use Rattle.away_top.specs.InMemory.{Answered, Called, MayAnswer, MayCall, MayCompile, Translated};
 
 use crate::{MemoryFiles, MemorySink, Status, away};
 use std::alloc::Global;
 
 /// Runs `away` over files and a sink in memory. Where the words are those of `compile`, the files that they name are
 /// held and fit, and no read or write is to fail, only want of memory or of room is in the way of a translation. Where they are
-/// those of `sql`, the same is so of the answer of its query.
+/// those of `sql`, the same is so of the answer of its query, and where they are those of `fn`, of that of its function.
 pub fn away_in_memory(
     alloc: Global,
     words: &[String],
@@ -21,6 +21,10 @@ pub fn away_in_memory(
         → map string_bytes words.now ≡ codes "sql" ∷ bound ∷ schema ∷ query ∷ dir ∷ args
         → MayAnswer files.old bound schema query dir args → out.old.fails ≡ []
         → Answered files.old out.old out.new result bound schema query dir args }
+    ensures function { (bound schema func dir : List ℕ) (args : List (List ℕ))
+        → map string_bytes words.now ≡ codes "fn" ∷ bound ∷ schema ∷ func ∷ dir ∷ args
+        → MayCall files.old bound schema func dir args → out.old.fails ≡ []
+        → Called files.old out.old out.new result bound schema func dir args }
 {
     away(alloc, words, files, out)
 }

@@ -1,10 +1,10 @@
 //! The words of a run over tables: its bound, and the values of its arguments.
 
-ghost use Rattle.std.specs.Prelude.{◌≡◌, ◌==◌, IfOk, map, nat_le, slice_index, string_bytes};
+ghost use Rattle.std.specs.Prelude.{◌≡◌, ◌==◌, IfOk, length, map, nat_le, slice_index, string_bytes};
 ghost use Rattle.std.specs.List.{list_all};
-ghost use Rattle.away_top.specs.Arguments.{are_enough as are_enough_for, argument_of, bound_of as bound_by, type_of as type_by, values_from, values_of as values_by};
+ghost use Rattle.away_top.specs.Arguments.{values_for as values_by_place, are_enough as are_enough_for, argument_of, bound_of as bound_by, type_of as type_by, values_from, values_of as values_by};
 
-use away_values::{NoMemory, Ty, Value};
+use away_values::{Name, NoMemory, Ty, Value};
 use csv_tables::read_value;
 use sqlite_items::Items;
 use std::alloc::Global;
@@ -43,6 +43,42 @@ pub fn values_of(
     } else {
         Ok(None)
     }
+}
+
+/// The arguments of a function with these parameters. None where there isn't exactly one word for each, or where a word is no
+/// spelling of its parameter's type.
+pub fn values_for(
+    alloc: Global,
+    params: &[(Name, Ty)],
+    words: &[String],
+) -> Result<Option<Items<Value>>, NoMemory>
+    ensures { IfOk result (λ values. values ≡ values_by_place params.now (map string_bytes words.now)) }
+{
+    if params.len() == words.len() {
+        spelled_in_order(alloc, params, words)
+    } else {
+        Ok(None)
+    }
+}
+
+/// The values of as many words as there are parameters.
+fn spelled_in_order(
+    alloc: Global,
+    params: &[(Name, Ty)],
+    words: &[String],
+) -> Result<Option<Items<Value>>, NoMemory>
+    requires { length params.now ≡ length words.now }
+    ensures { IfOk result (λ values. values ≡ values_by_place params.now (map string_bytes words.now)) }
+{
+    let mut values = Items::new(alloc);
+    for i in 0..words.len() {
+        let (_, ty) = &params[i];
+        match read_value(alloc, *ty, words[i].as_str().as_bytes())? {
+            Some(value) => values.push(value)?,
+            None => return Ok(None),
+        }
+    }
+    Ok(Some(values))
 }
 
 fn are_enough(params: &[(u32, Ty)], count: usize) -> bool

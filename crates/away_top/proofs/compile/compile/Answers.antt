@@ -2,6 +2,7 @@ use Rattle.std.proofs.lemmas.Result.{err_from_is_err_and}
 use Rattle.std.proofs.Common.{ℕ, List, subst}
 use Rattle.away_types.specs.declared.checked_function.CheckedFunction.{CheckedFunction}
 use Rattle.away_top.specs.CompileCourse.{Compiles}
+use Rattle.away_top.specs.Files.{as_callable}
 use Rattle.away_top.specs.Runs.{IsEnd}
 use Rattle.away_top.specs.Steps.{run_end}
 use Rattle.away_top.proofs.Compiling.{compiles, function_stops, schema_stops}
@@ -21,5 +22,5 @@ pub returns : goal.returns
 returns g c =
     let tables = c.in_ok-tables.tables.schema in
     let leads : (f : CheckedFunction) → Type 0 = λ f. (text : List ℕ) × IsEnd (Compiles c.args.func.now tables f.function text) (run_end c.query_of.result) in
-    compiles g.F.Files c.args.files.now c.schema_of.new.files c.function_of.new.files c.args.schema.now c.args.func.now tables c.in_ok-function.function.function (run_end c.query_of.result)
+    compiles g.F.Files c.args.files.now c.schema_of.new.files c.function_of.new.files c.args.schema.now c.args.func.now tables (as_callable c.in_ok-function.function) (run_end c.query_of.result)
     c.in_ok-tables.ensures c.in_ok-function.ensures (subst leads c.get.ensures c.query_of.ensures)

@@ -1,6 +1,6 @@
 use Rattle.std.proofs.Common.{inr, subst, sym}
-use Rattle.away_types.specs.FunctionChecks.{resolved_function}
 use Rattle.away_top.specs.Course.{RefusedBy}
+use Rattle.away_top.specs.Files.{as_callable, callable_of}
 use Rattle.away_top.specs.Refusals.{IsFunction, RefusesFunction}
 use Rattle.away_top.specs.Runs.{Holds}
 use Rattle.away_top.proofs.Stretches.{judged_here}
@@ -10,5 +10,5 @@ pub returns : goal.returns
 returns g c =
     let tables = c.args.tables.now.schema in
     let holds = subst (Holds (g.F.Files.held c.args.files.now c.args.name.now) 1048576) (sym c.deref.ensures.value) c.in_ok-bytes.ensures.bytes in
-    let judged = judged_here g.F.Files c.bytes_of.new.files (RefusedBy c.args.name.now (RefusesFunction tables c.deref.result.now)) (λ (f : IsFunction tables c.deref.result.now). resolved_function tables f.written) (λ x. x.function) c.function_in.result c.function_in.ensures in
+    let judged = judged_here g.F.Files c.bytes_of.new.files (RefusedBy c.args.name.now (RefusesFunction tables c.deref.result.now)) (λ (f : IsFunction tables c.deref.result.now). callable_of tables f.written) as_callable c.function_in.result c.function_in.ensures in
     inr (c.bytes_of.new.files, c.bytes_of.ensures.read, inr (c.deref.result.now, holds, judged))

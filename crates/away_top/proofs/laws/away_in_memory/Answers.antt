@@ -1,4 +1,5 @@
 use Rattle.std.proofs.Common.{map, string_bytes}
+use Rattle.away_top.proofs.CallsInMemory as calls
 use Rattle.away_top.proofs.InMemory.{all_safe, translated}
 use Rattle.away_top.proofs.QueriesInMemory as queries
 use Rattle.away_top.proofs.laws.away_in_memory.Goals as goal
@@ -14,3 +15,9 @@ returns-clause-query c = λ bound schema query dir args is may none.
     let a = c.away.ensures.answer in
     queries.answered c.args.files.now c.args.out.now c.away.new.out (map string_bytes c.args.words.now) a.text bound schema query dir args c.away.result _ (λ status output whole. (whole.status_is, whole.written)) is may none
     (a.complete (queries.all_safe c.args.files.now (map string_bytes c.args.words.now) a.text bound schema query dir args is may))
+
+pub returns-clause-function : goal.returns-clause-function
+returns-clause-function c = λ bound schema func dir args is may none.
+    let a = c.away.ensures.answer in
+    calls.answered c.args.files.now c.args.out.now c.away.new.out (map string_bytes c.args.words.now) a.text bound schema func dir args c.away.result _ (λ status output whole. (whole.status_is, whole.written)) is may none
+    (a.complete (calls.all_safe c.args.files.now (map string_bytes c.args.words.now) a.text bound schema func dir args is may))
