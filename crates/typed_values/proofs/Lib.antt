@@ -9,3 +9,5 @@ pub mod Places
 pub mod Selects
 pub mod Unions
 pub mod Trees
+pub mod CleanNotes
+pub mod Found

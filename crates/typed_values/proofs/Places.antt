@@ -1,5 +1,5 @@
 -- Where an expression stands: the values of variables and columns, and the places of a select's parts.
-use Rattle.std.proofs.Common.{◌≡◌, refl, ℕ, Bool, true, false, List, [], ◌∷◌, drop, slice_index_or, Option, Some, None}
+use Rattle.std.proofs.Common.{◌≡◌, refl, subst, ℕ, zero, suc, Bool, true, false, List, [], ◌∷◌, drop, slice_index_or, Option, Some, None}
 use Rattle.std.specs.Prelude.{if◌then◌else◌, slice_get, option_and_then}
 use Rattle.std.specs.List.{AllZip}
 use Rattle.away_values.specs.declared.types.Ty.{Ty}
@@ -8,9 +8,9 @@ use Rattle.away_values.specs.declared.values.Value.TheVariants as val
 use Rattle.away_trees.specs.declared.queries.Col.{Col}
 use Rattle.away_typing.specs.Typing as typing
 use Rattle.away_typing.specs.Typing.{Places}
-use Rattle.sql_meaning.specs.Context.{Frame, Context, at, column, inside, over, at_row}
+use Rattle.sql_meaning.specs.Context.{Rows, Frame, Context, at, column, inside, over, at_row}
 use Rattle.typed_values.specs.Sorts.{IsOf, Every}
-use Rattle.typed_values.specs.Surroundings.{IsRow, IsFrame, IsSeen, IsOfGroup, Fit}
+use Rattle.typed_values.specs.Surroundings.{IsRow, AreRows, AreTables, IsFrame, IsSeen, IsOfGroup, Fit}
 use Rattle.typed_values.specs.TypedValues.{Holds}
 use Rattle.typed_values.proofs.KindRules.{of_type_holds}
 use Rattle.typed_values.proofs.Lists.{zip_at}
@@ -46,6 +46,16 @@ column_holds types frames c h = by (slice_get types c.level) refl
     by : (o : Option typing.Frame) → slice_get types c.level ≡ o → Holds (typing.kind_at (option_and_then (λ ts. slice_get ts c.column) (option_and_then (λ frame. slice_get frame c.item) o))) (column frames c)
     by None e = tt
     by (Some frame) e = item_holds frame (slice_index_or frames c.level []) c.item c.column (zip_at IsSeen types frames [] h c.level frame e)
+
+-- the rows of a table by its place
+pub rows_at : (types : List (List Ty)) (tables : List Rows) → AreTables types tables → (k : ℕ) (ts : List Ty) → slice_get types k ≡ Some ts → AreRows ts (slice_index_or tables k [])
+rows_at [] tables h k ts e = cc
+rows_at (us ∷ types) [] h k ts e = tt
+rows_at (us ∷ types) (rows ∷ more) h zero ts e = subst (λ us. AreRows us rows) (same us ts e) h.0
+  where
+    same : (us ts : List Ty) → Some us ≡ Some ts → us ≡ ts
+    same us ts e = cc
+rows_at (us ∷ types) (rows ∷ more) h (suc k) ts e = rows_at types more h.1 k ts e
 
 -- ---- the places of a select's parts
 

@@ -31,7 +31,7 @@ use Rattle.typed_values.proofs.KindRules.{of_type_holds}
 use Rattle.typed_values.proofs.Lists.{every_left, every_right, zip_at, zipped}
 use Rattle.typed_values.proofs.Nodes as nodes
 use Rattle.typed_values.proofs.Operators.{typed_ok}
-use Rattle.typed_values.proofs.Places.{at_holds, column_holds, fit_inside, fit_at_row, before_seen}
+use Rattle.typed_values.proofs.Places.{at_holds, rows_at, column_holds, fit_inside, fit_at_row, before_seen}
 use Rattle.typed_values.proofs.Results.{then_of, ok_is}
 use Rattle.typed_values.proofs.Selects.{IsListed, PartAt, some_of, some_is, product_at, every_kept, every_cut, listed_at}
 use Rattle.typed_values.proofs.Unions.{ListingAt, union_at, shape_at}
@@ -123,7 +123,7 @@ in_list (c ∷ cs) (Some us) ts e = by (length (c ∷ cs) == length us) e
 
 table_at : (columns : List (List ℕ)) (p : Places) (cx : Context) → Fit p cx → (ts : List Ty) → typing.table_shape p.tables columns ≡ Some ts → AreRows ts (slice_index_or cx.tables (meant.place_of columns) [])
 unfolding typing.table_shape
-table_at columns p cx f ts e = zip_at AreRows p.tables cx.tables [] f.tables (meant.place_of columns) ts e
+table_at columns p cx f ts e = rows_at p.tables cx.tables f.tables (meant.place_of columns) ts e
 
 -- ---- a select
 

@@ -15,6 +15,12 @@ IsRow = AllZip IsOf
 abbrev pub AreRows : List Ty → Rows → Type 0
 AreRows ts = Every (IsRow ts)
 
+-- Tables of these types. One that is missing has no rows, as the recursive table has none while the first term is evaluated.
+abbrev pub AreTables : List (List Ty) → List Rows → Type 0
+AreTables types [] = Unit {0}
+AreTables [] (rows ∷ more) = Unit {0}
+AreTables (ts ∷ types) (rows ∷ more) = AreRows ts rows × AreTables types more
+
 -- a row of FROM: a row of each item
 abbrev pub IsFrame : typing.Frame → Frame → Type 0
 IsFrame = AllZip IsRow
@@ -33,5 +39,5 @@ IsOfGroup (types ∷ outer) frame = IsFrame types frame
 pub record Fit (p : Places) (cx : Context) : Type 0 where
   pub variables : IsRow p.slots cx.env
   pub frames : AllZip IsSeen p.frames cx.frames
-  pub tables : AllZip AreRows p.tables cx.tables
+  pub tables : AreTables p.tables cx.tables
   pub group : Every (IsOfGroup p.frames) cx.group

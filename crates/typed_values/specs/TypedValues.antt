@@ -27,7 +27,8 @@ Holds Wrong v = Unit {0}
 -- An expression of a type has, where it stands, a value of that type's sort, NULL or a fault.
 abbrev pub ValuesHaveTheirTypes : Type 0
 ValuesHaveTheirTypes =
-    (e : Expr) (p : Places) (cx : Context) (t : Ty) (v : Value) → Fit p cx → Supplied cx.args (params_in e) → kind_of e p ≡ Of t → value e cx ≡ Ok v → IsOf t v
+    (e : Expr) (p : Places) (cx : Context) (t : Ty) (v : Value) → Fit p cx → Supplied cx.args (params_in e)
+    → kind_of e p ≡ Of t → value e cx ≡ Ok v → IsOf t v
 
 -- What is of a type's sort and a value, as all is that code holds, is a value of the type.
 abbrev pub ValuesAreOfTheirTypes : Type 0
@@ -36,4 +37,5 @@ ValuesAreOfTheirTypes = (t : Ty) (v : Value) → IsOf t v → IsValue v → HasT
 -- A query's rows have the types of its columns.
 abbrev pub RowsHaveTheirTypes : Type 0
 RowsHaveTheirTypes =
-    (q : Query) (p : Places) (cx : Context) (ts : List Ty) (rows : Rows) → Fit p cx → Supplied cx.args (params_in_query q) → shape_of_query q p ≡ Some ts → rows_of_query q cx ≡ Ok rows → AreRows ts rows
+    (q : Query) (p : Places) (cx : Context) (ts : List Ty) (rows : Rows) → Fit p cx → Supplied cx.args (params_in_query q)
+    → shape_of_query q p ≡ Some ts → rows_of_query q cx ≡ Ok rows → AreRows ts rows
