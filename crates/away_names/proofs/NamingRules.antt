@@ -76,11 +76,11 @@ pub dotted_is : (a x : Name) (s : Scope) → named_expr (expr.Dotted a x) s ≡ 
 unfolding named_expr
 dotted_is a x s = refl
 
-pub slot_is : (i : ℕ) (s : Scope) → named_expr (expr.Slot i) s ≡ pure (expr.Slot i)
+pub slot_is : (i : ℕ) (s : Scope) → named_expr (expr.Slot i) s ≡ n.unwritten (expr.Slot i)
 unfolding named_expr
 slot_is i s = refl
 
-pub column_is : (c : Col) (s : Scope) → named_expr (expr.Column c) s ≡ pure (expr.Column c)
+pub column_is : (c : Col) (s : Scope) → named_expr (expr.Column c) s ≡ n.unwritten (expr.Column c)
 unfolding named_expr
 column_is c s = refl
 

@@ -102,6 +102,10 @@ dotted_by a n None = noted (breaks 7 true) (expr.Dotted a n)
 unfoldable pub dotted : Name → Name → Scope → Named Expr
 dotted a n s = also (joined (written s a) (written s n)) (dotted_by a n (column_dotted a n s.levels))
 
+-- slots and columns stand for names, and no reader writes one; where one is written, it's no name that is known
+unfoldable pub unwritten : Expr → Named Expr
+unwritten e = noted (breaks 7 true) e
+
 -- a function is known by its name
 unfoldable pub called : Scope → Name → Note
 called s name = joined (written s name) (breaks 7 (not (is_some (function name))))
@@ -122,8 +126,8 @@ judge (ex.Bool b) s = pure (expr.Bool b)
 judge ex.Null s = pure expr.Null
 judge (ex.Named n) s = named n s
 judge (ex.Dotted a n) s = dotted a n s
-judge (ex.Slot i) s = pure (expr.Slot i)
-judge (ex.Column c) s = pure (expr.Column c)
+judge (ex.Slot i) s = unwritten (expr.Slot i)
+judge (ex.Column c) s = unwritten (expr.Column c)
 judge (ex.Param i ty) s = noted (breaks 7 s.in_function) (expr.Param i ty)
 judge (ex.Neg e) s = mapped (λ e. expr.Neg e) (e.judge s)
 judge (ex.NegSmall e) s = mapped (λ e. expr.NegSmall e) (e.judge s)

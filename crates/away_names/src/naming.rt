@@ -1,6 +1,7 @@
 //! Expressions with what their names stand for, and the least rule that their names break.
 
 ghost use Rattle.std.specs.Prelude.{◌≡◌, IfOk};
+ghost use Rattle.away_names.specs.Naming as spec;
 ghost use Rattle.away_names.specs.NamingLists as lists;
 ghost use Rattle.away_names.specs.Notes as notes;
 ghost use Rattle.away_names.specs.Places.{scope};
@@ -24,6 +25,16 @@ fn pure(e: Expr) -> Named<Expr>
     }
 }
 
+#[tactic(auto, unfolding(crate::specs::Naming::unwritten))]
+fn unwritten(e: Expr) -> Named<Expr>
+    ensures { result ≡ spec.unwritten e }
+{
+    Named {
+        it: e,
+        note: breaks(7, true),
+    }
+}
+
 /// An expression.
 #[cycle(naming)]
 #[tactic(auto, using(crate::proofs::NamingRules::naming_rules))]
@@ -37,8 +48,8 @@ pub fn named_expr(alloc: Global, e: &Expr, s: &Scope<'_>) -> Result<Named<Expr>,
         Expr::Null => Ok(pure(Expr::Null)),
         Expr::Named(n) => named(alloc, n, s),
         Expr::Dotted(a, n) => dotted(alloc, a, n, s),
-        Expr::Slot(i) => Ok(pure(Expr::Slot(*i))),
-        Expr::Column(c) => Ok(pure(Expr::Column(*c))),
+        Expr::Slot(i) => Ok(unwritten(Expr::Slot(*i))),
+        Expr::Column(c) => Ok(unwritten(Expr::Column(*c))),
         Expr::Param(i, ty) => Ok(Named {
             it: Expr::Param(*i, *ty),
             note: breaks(7, s.in_function),

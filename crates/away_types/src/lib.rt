@@ -26,7 +26,7 @@ pub use checked_function::CheckedFunction;
 pub use checked_query::CheckedQuery;
 pub use checked_schema::CheckedSchema;
 pub use function_check::check_function;
-pub use laws::a_query_has_one_checked_tree;
+pub use laws::{a_function_has_one_checked_tree, a_query_has_one_checked_tree};
 pub use query_check::check_query;
 pub use schema_check::check_schema;
 pub use slots::Slot;

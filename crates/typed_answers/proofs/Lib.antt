@@ -1,0 +1,4 @@
+pub mod Tables
+pub mod Recursions
+pub mod Queries
+pub mod Statements

@@ -1,0 +1,2 @@
+pub mod TypedAnswers
+pub mod AskedTypes

@@ -1,0 +1,4 @@
+pub mod Sorts
+pub mod Arguments
+pub mod Surroundings
+pub mod TypedValues
