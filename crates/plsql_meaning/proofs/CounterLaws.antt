@@ -1,5 +1,5 @@
 -- A counter's end is no fault.
-use Rattle.std.proofs.Common.{◌≡◌, ◌∙◌, ap, arith, ℕ, Bool, true, false, ℤ, pos, negsuc, ◌+ℤ◌, ◌-ℤ◌, ◌<ℤ◌, ◌≤ℤ◌, Some, inl, inr}
+use Rattle.std.proofs.Common.{◌≡◌, ◌∙◌, ap, arith, ℕ, Bool, true, false, ℤ, pos, negsuc, ◌+ℤ◌, ◌-ℤ◌, ◌<ℤ◌, Some, inl, inr}
 use Rattle.std.specs.Prelude.{Ok, Err, codes, if◌then◌else◌, int_lt}
 use Rattle.std.proofs.lemmas.Bool.{cases_Bool}
 use Rattle.std.proofs.lemmas.Bool.Decides.{nat_tests}
@@ -60,8 +60,9 @@ counts_up last var c by hc hb p =
     record {
       within = λ h. decided_up false c (top -ℤ by) (int_op int.Sub greatest (val.Int by)) next (to_end by hb p) (not_past c by h) ∙ ap (mapped Some) (in_range (c +ℤ by) h);
       beyond = λ h. elim (cases_Bool (int_lt (top -ℤ by) c)) [
-        inl e ↦ decided_up true c (top -ℤ by) (int_op int.Sub greatest (val.Int by)) next (to_end by hb p) e
-        | inr e ↦ absurd (h (within_up c by hc p e)) ];
+        | inl e ↦ decided_up true c (top -ℤ by) (int_op int.Sub greatest (val.Int by)) next (to_end by hb p) e
+        | inr e ↦ absurd (h (within_up c by hc p e))
+      ];
     }
 
 pub counts_down : (last : Value) (var : ℕ) (c by : ℤ) → IsBigint c → IsBigint by → pos 0 <ℤ by → CountsTo (c -ℤ by) ((counts true last (val.Int by) var).next (val.Int c))
@@ -70,6 +71,7 @@ counts_down last var c by hc hb p =
     record {
       within = λ h. decided_down false c (bottom +ℤ by) (int_op int.Add least (val.Int by)) next (from_end by hb p) (not_before c by h) ∙ ap (mapped Some) (in_range (c -ℤ by) h);
       beyond = λ h. elim (cases_Bool (int_lt c (bottom +ℤ by))) [
-        inl e ↦ decided_down true c (bottom +ℤ by) (int_op int.Add least (val.Int by)) next (from_end by hb p) e
-        | inr e ↦ absurd (h (within_down c by hc p e)) ];
+        | inl e ↦ decided_down true c (bottom +ℤ by) (int_op int.Add least (val.Int by)) next (from_end by hb p) e
+        | inr e ↦ absurd (h (within_down c by hc p e))
+      ];
     }

@@ -1,10 +1,9 @@
 -- A run reads no slot that isn't in sight.
-use Rattle.std.proofs.Common.{◌≡◌, refl, sym, ap, ◌∙◌, subst, pos, ℕ, zero, suc, ◌+◌, Bool, true, false, ◌&&◌, ◌||◌, ◌==◌, List, [], ◌∷◌, length, map, slice_set, Option, Some, None, Ok, Err, arith, inl, inr}
+use Rattle.std.proofs.Common.{◌≡◌, refl, sym, ap, ◌∙◌, subst, pos, ℕ, zero, suc, ◌+◌, Bool, true, false, ◌&&◌, ◌||◌, ◌==◌, List, [], ◌∷◌, length, slice_set, Option, Some, None, Ok, Err, arith, inl, inr}
 use Rattle.std.proofs.lemmas.Bool.{and_parts, cases_Bool, false≢true}
 use Rattle.std.proofs.lemmas.Bool.Decides.{nat_tests}
 use Rattle.std.proofs.lemmas.List.{get_or-set_other, length-set}
 use Rattle.away_values.specs.declared.operators.CmpOp.TheVariants as cmp
-use Rattle.away_values.specs.declared.values.Class.{Class}
 use Rattle.away_values.specs.declared.values.Value.{Value}
 use Rattle.away_values.specs.declared.values.Value.TheVariants as val
 use Rattle.away_values.specs.Operators.{compare, is_null, is_true}
@@ -20,7 +19,7 @@ use Rattle.sql_meaning.specs.Context.{Rows, at}
 use Rattle.plsql_meaning.specs.Outcomes.{Env, Label, Outcome, normal, exits, continues, returns, faults, more, Done, done, Step, after, and_then, case_not_found, close, closed_as}
 use Rattle.plsql_meaning.specs.Loops.{Turning, started, Verdict, again, leave, verdict, moved, ended, finished, turns, turning, always, while, going, counts, reaches}
 use Rattle.plsql_meaning.specs.Statements.{Setting, is_not_null, stored, put, assign, initial, declare, pick, choose, jump, give, in_row, in_arms, in_else, row_vars, arms_vars, else_vars, kind_vars, body_at, bounded, with_bound, judged, with_step, loop, put_all, head_or_null, rest_of, into, running}
-use Rattle.plsql_meaning.specs.Sight.{Sight, with_slot, with_slots, Readers, StatementSight, row_slots, row_sees, arms_see, other_slots, other_sees, body_sight, maybe_sees, decls_see, kind_sees, seeing, Agree, AreReaders, EndAlike, Alike}
+use Rattle.plsql_meaning.specs.Sight.{Sight, with_slot, with_slots, Readers, row_slots, row_sees, arms_see, other_slots, other_sees, body_sight, maybe_sees, decls_see, kind_sees, seeing, Agree, AreReaders, EndAlike, Alike}
 
 -- ---- sights
 
@@ -66,8 +65,9 @@ agree_set : (sight : Sight) (slot : ℕ) (v : Value) (env other : Env) → Agree
 agree_set sight slot v env other a = record {
   long = length-set env slot v ∙ a.long ∙ sym (length-set other slot v);
   values = λ i h. elim (cases_Bool (i == slot)) [
-    inl e ↦ subst (λ j. at (slice_set env slot v) j ≡ at (slice_set other slot v) j) (sym (slot_is i slot e)) (same_slot env other slot v a.long)
-    | inr e ↦ get_or-set_other env slot i v val.Null (slot_is_not i slot e) ∙ a.values i (shown_by (sight i) (i == slot) h e) ∙ sym (get_or-set_other other slot i v val.Null (slot_is_not i slot e)) ];
+    | inl e ↦ subst (λ j. at (slice_set env slot v) j ≡ at (slice_set other slot v) j) (sym (slot_is i slot e)) (same_slot env other slot v a.long)
+    | inr e ↦ get_or-set_other env slot i v val.Null (slot_is_not i slot e) ∙ a.values i (shown_by (sight i) (i == slot) h e) ∙ sym (get_or-set_other other slot i v val.Null (slot_is_not i slot e))
+  ];
 }
 
 -- ---- one step behind another

@@ -1,15 +1,15 @@
 -- The value of an expression is by the slots that it reads.
-use Rattle.std.proofs.Common.{◌≡◌, refl, ℕ, zero, suc, ◌<◌, Bool, true, false, not, ◌==◌, ◌&&◌, nat_lt, if◌then◌else◌, List, [], ◌∷◌, length, filter, filter_map, slice_index_or, All, arith}
+use Rattle.std.proofs.Common.{◌≡◌, refl, ℕ, zero, suc, ◌<◌, Bool, true, false, not, ◌==◌, nat_lt, if◌then◌else◌, List, [], ◌∷◌, length, filter, filter_map, slice_index_or, arith}
 use Rattle.std.specs.List.{list_all}
 use Rattle.std.proofs.lemmas.Bool.{and_parts, false≢true}
 use Rattle.away_values.specs.declared.values.Value.{Value}
 use Rattle.sql_meaning.specs.Context.{Rows, at}
 use Rattle.sql_meaning.specs.OneReturn.{body}
-use Rattle.sql_meaning.specs.Reads.{Read, Slot, Param, Table, Outer, allows, fits, first_occurrences, reads, slot_of, slots_of}
+use Rattle.sql_meaning.specs.Reads.{Read, Slot, Param, Table, Outer, allows, first_occurrences, reads, slot_of, slots_of}
 use Rattle.sql_meaning.specs.Substitution.{SeesAlike}
 use Rattle.sql_meaning.proofs.Substitution.{only_slots_matter}
 use Rattle.plsql_meaning.specs.Functions.{over}
-use Rattle.plsql_meaning.specs.Sight.{Agree, AreReaders, of_expressions, Sight}
+use Rattle.plsql_meaning.specs.Sight.{AreReaders, of_expressions, Sight}
 
 abbrev Each : (ℕ → Type 0) → List ℕ → Type 0
 Each P [] = Unit {0}

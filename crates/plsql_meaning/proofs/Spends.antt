@@ -1,5 +1,5 @@
 -- No statement gives turns back, so the fuel of a loop never runs out before its turns do; and the equation of loops that follows.
-use Rattle.std.proofs.Common.{◌≡◌, refl, sym, pos, ℕ, zero, suc, ◌+◌, ◌<◌, ◌≤◌, Bool, true, false, ◌&&◌, if◌then◌else◌, List, [], ◌∷◌, length, map, ap, ◌∙◌, subst, Option, Some, None, Result, Ok, Err, arith}
+use Rattle.std.proofs.Common.{◌≡◌, refl, pos, ℕ, zero, suc, ◌+◌, ◌<◌, ◌≤◌, Bool, true, false, ◌&&◌, List, [], ◌∷◌, length, map, Option, Some, None, Ok, Err, arith}
 use Rattle.away_values.specs.declared.values.Value.{Value}
 use Rattle.away_values.specs.declared.values.Value.TheVariants as val
 use Rattle.away_trees.specs.declared.queries.Expr.{Expr}
@@ -13,9 +13,9 @@ use Rattle.away_values.specs.Operators.{is_true, is_null, compare}
 use Rattle.away_values.specs.declared.operators.CmpOp.TheVariants as cmp
 use Rattle.away_values.specs.Results.{Or}
 use Rattle.sql_meaning.specs.Context.{Rows}
-use Rattle.plsql_meaning.specs.Outcomes.{Env, Label, Outcome, normal, exits, continues, returns, faults, more, Done, done, Step, after, and_then, close, case_not_found}
-use Rattle.plsql_meaning.specs.Loops.{Turning, taken, started, Verdict, again, leave, verdict, moved, ended, finished, turns, turning, always, while, counts}
-use Rattle.plsql_meaning.specs.Statements.{Setting, StatementMeaning, ArmMeaning, is_not_null, stored, put, assign, initial, declare, pick, choose, jump, give, in_row, in_arms, in_else, bounded, with_bound, judged, with_step, loop, put_all, head_or_null, rest_of, into, running}
+use Rattle.plsql_meaning.specs.Outcomes.{Env, Label, Outcome, normal, exits, continues, returns, faults, more, Done, done, Step, after, and_then, case_not_found}
+use Rattle.plsql_meaning.specs.Loops.{Turning, started, Verdict, again, leave, verdict, moved, ended, finished, turns, turning, always, while, counts}
+use Rattle.plsql_meaning.specs.Statements.{Setting, is_not_null, stored, put, assign, initial, declare, pick, choose, jump, give, in_row, in_arms, in_else, bounded, with_bound, judged, with_step, loop, put_all, head_or_null, rest_of, into, running}
 
 abbrev pub Spends : Step → Type 0
 Spends f = (env : Env) (n : ℕ) → (f env n).left ≤ n

@@ -1,5 +1,5 @@
 -- An end other than for want of turns stays the same with more turns, and leaves as many more.
-use Rattle.std.proofs.Common.{◌≡◌, ◌≢◌, refl, sym, pos, ℕ, zero, suc, ◌+◌, ◌<◌, ◌≤◌, Bool, true, false, ◌&&◌, if◌then◌else◌, List, [], ◌∷◌, length, ap, ◌∙◌, subst, Option, Some, None, Result, Ok, Err, arith}
+use Rattle.std.proofs.Common.{◌≡◌, ◌≢◌, refl, pos, ℕ, zero, suc, ◌+◌, ◌<◌, ◌≤◌, Bool, true, false, ◌&&◌, if◌then◌else◌, List, [], ◌∷◌, length, ap, ◌∙◌, Option, Some, None, Ok, Err, arith}
 use Rattle.std.specs.List.{list_any}
 use Rattle.away_values.specs.declared.values.Value.{Value}
 use Rattle.away_values.specs.declared.values.Value.TheVariants as val
@@ -182,7 +182,7 @@ module _ (set : Setting) where
     pub statement_lasts : (s : Stmt) (at : ℕ) → Lasts ((stmt_of (running set) s).run at)
     statement_lasts (b.Block' label decls _ body closing) at env n k =
         close_lasts label k (and_then (declare set decls at env n) (in_row (stmts_of (running set) body) (at + length decls))) (and_then (declare set decls at env (n + k)) (in_row (stmts_of (running set) body) (at + length decls)))
-          (and_then_lasts k (declare set decls at env n) (declare set decls at env (n + k)) (in_row (stmts_of (running set) body) (at + length decls)) (declare_lasts decls at env n k) (row_lasts body (at + length decls)))
+        (and_then_lasts k (declare set decls at env n) (declare set decls at env (n + k)) (in_row (stmts_of (running set) body) (at + length decls)) (declare_lasts decls at env n k) (row_lasts body (at + length decls)))
     statement_lasts (b.Assign name slot e) at env n k = assign_lasts slot (set.value e env) env n k
     statement_lasts (b.If' _ arms other) at env n k = arms_last arms (in_else set (else_of (running set) other) normal) (else_lasts other normal) at env n k
     statement_lasts (b.Cases' _ arms other) at env n k = arms_last arms (in_else set (else_of (running set) other) (faults case_not_found)) (else_lasts other (faults case_not_found)) at env n k

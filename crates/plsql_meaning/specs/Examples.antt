@@ -4,7 +4,6 @@ use Rattle.away_values.specs.declared.types.Ty.TheVariants as ty
 use Rattle.away_values.specs.declared.values.Value.{Value}
 use Rattle.away_values.specs.declared.values.Value.TheVariants as val
 use Rattle.away_values.specs.declared.values.Answer.{Answer}
-use Rattle.away_values.specs.declared.values.Answer.TheVariants as answer
 use Rattle.away_values.specs.declared.operators.ChainOp.TheVariants as chain
 use Rattle.away_values.specs.declared.operators.IntOp.{IntOp}
 use Rattle.away_values.specs.declared.operators.IntOp.TheVariants as op
@@ -17,8 +16,6 @@ use Rattle.away_trees.specs.declared.statements.LoopKind.TheVariants as kind
 use Rattle.away_trees.specs.declared.statements.Raised.TheVariants as raised
 use Rattle.away_trees.specs.declared.statements.Stmt.{Stmt}
 use Rattle.away_trees.specs.declared.statements.Stmt.TheVariants as stmt
-use Rattle.away_trees.specs.declared.statements.Function.{Function}
-use Rattle.away_values.specs.Results.{class}
 use Rattle.sql_meaning.specs.Context.{Rows}
 use Rattle.sql_meaning.specs.Trees.{col, table_by, select}
 use Rattle.plsql_meaning.specs.Functions.{function_answer, over}
@@ -55,10 +52,13 @@ for reverse first last by body = stmt.Loop None (kind.Count [] reverse first las
 
 -- no tables, no slot NOT NULL
 abbrev pub answer_at : Stmt → ℕ → Answer
-answer_at body turns = function_answer (over [] []) (record { name = []; strict = false; params = []; result = ty.Bigint; body = body }) [] turns
+answer_at body turns =
+    function_answer (over [] []) (record { name = []; strict = false; params = []; result = ty.Bigint; body = body }) [] turns
 
 abbrev pub called : Stmt → List Bool → Rows → Value → ℕ → Answer
-called body not_null rows a turns = function_answer (over (rows ∷ []) not_null) (record { name = []; strict = true; params = ([], ty.Bigint) ∷ []; result = ty.Bigint; body = body }) (a ∷ []) turns
+called body not_null rows a turns =
+    let f = record { name = []; strict = true; params = ([], ty.Bigint) ∷ []; result = ty.Bigint; body = body } in
+    function_answer (over (rows ∷ []) not_null) f (a ∷ []) turns
 
 -- DECLARE c bigint := 0; BEGIN FOR i IN first..last BY by LOOP c := c + i; END LOOP; RETURN c; END
 abbrev pub summing : Bool → Expr → Expr → Option Expr → Stmt
@@ -81,10 +81,10 @@ a_label = Some (codes "a")
 abbrev pub labelled : Stmt
 labelled = block (var (Some (n 0)) ∷ []) (
     stmt.Loop a_label kind.Plain (
-      stmt.Loop None kind.Plain (
-        add_to 0 (n 1)
-        ∷ stmt.Exit a_label (Some (expr.Compare cmp.Gt (slot 0) (n 3)))
-        ∷ stmt.Continue a_label (Some (expr.Compare cmp.Gt (slot 0) (n 1))) ∷ []) None ∷ []) None
+    stmt.Loop None kind.Plain (
+    add_to 0 (n 1)
+    ∷ stmt.Exit a_label (Some (expr.Compare cmp.Gt (slot 0) (n 3)))
+    ∷ stmt.Continue a_label (Some (expr.Compare cmp.Gt (slot 0) (n 1))) ∷ []) None ∷ []) None
     ∷ stmt.Return (slot 0) ∷ [])
 
 -- <<a>> BEGIN EXIT a; RETURN 1; END; inside a block, and then RETURN 2
@@ -110,7 +110,9 @@ raising = block [] (stmt.Raise (raised.State (codes "AB123")) ∷ [])
 
 -- SELECT t.c0 INTO STRICT? b FROM t
 abbrev pub selecting : Bool → Stmt
-selecting strict = block (var None ∷ []) (stmt.Into strict (([], Some 1) ∷ []) (select (col 0 0 0 ∷ []) (table_by (48 ∷ []) ∷ []) None) ∷ stmt.Return (slot 1) ∷ [])
+selecting strict = block (var None ∷ []) (
+    stmt.Into strict (([], Some 1) ∷ []) (select (col 0 0 0 ∷ []) (table_by (48 ∷ []) ∷ []) None)
+    ∷ stmt.Return (slot 1) ∷ [])
 
 -- ---- what follows has no more than one variable, which is c := 0
 

@@ -1,5 +1,5 @@
 -- What a function answers.
-use Rattle.std.specs.Prelude.{ℕ, ◌+◌, Bool, true, false, ◌&&◌, if◌then◌else◌, List, ◌++◌, length, replicate}
+use Rattle.std.specs.Prelude.{ℕ, Bool, ◌&&◌, if◌then◌else◌, List, ◌++◌, length, replicate}
 use Rattle.std.specs.List.{list_any}
 use Rattle.away_values.specs.declared.values.Value.{Value}
 use Rattle.away_values.specs.declared.values.Value.TheVariants as val

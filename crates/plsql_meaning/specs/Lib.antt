@@ -7,3 +7,4 @@ pub mod Equivalent
 pub mod Counters
 pub mod Sight
 pub mod Examples
+pub mod Laws

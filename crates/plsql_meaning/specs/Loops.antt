@@ -2,7 +2,6 @@
 use Rattle.std.specs.Prelude.{ℕ, zero, suc, Bool, true, false, if◌then◌else◌, pos, negsuc, ◌-◌, ◌^◌, Option, Some, None, Ok, Err, slice_set}
 use Rattle.away_values.specs.declared.values.Value.{Value}
 use Rattle.away_values.specs.declared.values.Value.TheVariants as val
-use Rattle.away_values.specs.declared.values.Class.{Class}
 use Rattle.away_values.specs.declared.operators.CmpOp.TheVariants as cmp
 use Rattle.away_values.specs.declared.operators.IntOp.TheVariants as int
 use Rattle.away_values.specs.Operators.{int_op, compare, is_true}

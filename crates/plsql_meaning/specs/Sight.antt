@@ -86,7 +86,10 @@ module _ (r : Readers) where
   statement_sight (st.Assign _ _ e) = record { vars = 0; sees = λ at sight. r.expr sight e }
   statement_sight (st.If arms other) = record { vars = row_slots arms + other_slots other; sees = arms_see arms (other_sees other) }
   statement_sight (st.Cases arms other) = record { vars = row_slots arms + other_slots other; sees = arms_see arms (other_sees other) }
-  statement_sight (st.Loop _ k body _) = record { vars = kind_vars k + row_slots body; sees = λ at sight. kind_sees k sight && row_sees body (body_at k at) (body_sight k at sight) }
+  statement_sight (st.Loop _ k body _) = record {
+    vars = kind_vars k + row_slots body;
+    sees = λ at sight. kind_sees k sight && row_sees body (body_at k at) (body_sight k at sight);
+  }
   statement_sight (st.Exit _ when) = record { vars = 0; sees = λ at sight. maybe_sees when sight }
   statement_sight (st.Continue _ when) = record { vars = 0; sees = λ at sight. maybe_sees when sight }
   statement_sight (st.Return e) = record { vars = 0; sees = λ at sight. r.expr sight e }

@@ -1,6 +1,5 @@
 -- How many slots a statement takes: one for each declaration and each FOR variable in it.
 use Rattle.std.specs.Prelude.{ℕ, ◌+◌, List, length, sum, sum_by, Option, Some, None}
-use Rattle.away_trees.specs.declared.statements.LoopKind.{LoopKind}
 use Rattle.away_trees.specs.declared.statements.Stmt.{Stmt}
 use Rattle.away_trees.specs.declared.statements.Arm.{Arm}
 use Rattle.away_trees.specs.declared.statements.Stmt.TheOpen.{Stmt-F, Arm-F}

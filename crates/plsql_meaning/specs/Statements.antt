@@ -1,5 +1,5 @@
 -- What a statement does, by what its parts do.
-use Rattle.std.specs.Prelude.{ℕ, zero, suc, ◌+◌, Bool, true, false, ◌&&◌, if◌then◌else◌, pos, List, [], ◌∷◌, length, map, get_or, slice_set, Option, Some, None, Ok, Err}
+use Rattle.std.specs.Prelude.{ℕ, suc, ◌+◌, Bool, true, false, ◌&&◌, if◌then◌else◌, pos, List, [], ◌∷◌, length, map, get_or, slice_set, Option, Some, None, Ok, Err}
 use Rattle.away_values.specs.declared.values.Value.{Value}
 use Rattle.away_values.specs.declared.values.Value.TheVariants as val
 use Rattle.away_values.specs.declared.values.Class.{Class}
@@ -11,16 +11,15 @@ use Rattle.away_trees.specs.declared.statements.LoopKind.{LoopKind}
 use Rattle.away_trees.specs.declared.statements.LoopKind.TheVariants as kind
 use Rattle.away_trees.specs.declared.statements.Raised.{Raised}
 use Rattle.away_trees.specs.declared.statements.Raised.TheVariants as raised
-use Rattle.away_trees.specs.declared.statements.Arm.{Arm}
 use Rattle.away_trees.specs.declared.statements.Stmt.{Stmt}
 use Rattle.away_trees.specs.declared.statements.Stmt.TheOpen.{Stmt-F, Arm-F}
 use Rattle.away_trees.specs.declared.statements.Stmt.TheOpen as st
-use Rattle.away_trees.specs.StatementAlgebra.{StatementAlgebra, stmt_of, branch_of}
+use Rattle.away_trees.specs.StatementAlgebra.{StatementAlgebra, stmt_of}
 use Rattle.away_values.specs.Operators.{compare, is_true, is_null}
 use Rattle.away_values.specs.Results.{Or, class}
 use Rattle.sql_meaning.specs.Context.{Rows}
 use Rattle.away_values.specs.Classes.{is_class}
-use Rattle.plsql_meaning.specs.Outcomes.{Env, Label, Outcome, normal, exits, continues, returns, faults, more, Done, done, Step, and_then, close, null_not_allowed, invalid_parameter, case_not_found, raised_message, no_data_found, too_many_rows}
+use Rattle.plsql_meaning.specs.Outcomes.{Env, Label, Outcome, normal, exits, continues, returns, faults, done, Step, and_then, close, null_not_allowed, invalid_parameter, case_not_found, raised_message, no_data_found, too_many_rows}
 use Rattle.plsql_meaning.specs.Loops.{turning, always, while, counts}
 
 -- What a statement stands in: the values of expressions, the rows of selects, and whether each slot is NOT NULL.
@@ -157,7 +156,8 @@ module _ (set : Setting) where
   loop kind.Plain own at body env n = turning always own body tt env n
   loop (kind.While e) own at body env n = turning (while (set.value e)) own body tt env n
   loop (kind.Count _ reverse first last by) own at body env n =
-      with_bound (set.value first env) (λ a. λ env n. with_bound (set.value last env) (λ b. with_step by (λ c. turning (counts reverse b c at) own body a)) env n) env n
+      with_bound (set.value first env)
+      (λ a env n. with_bound (set.value last env) (λ b. with_step by (λ c. turning (counts reverse b c at) own body a)) env n) env n
 
   -- ---- SELECT INTO
 

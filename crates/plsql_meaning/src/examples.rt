@@ -50,7 +50,8 @@ pub fn turns_are_counted_over_all_loops()
     ensures true_test { answer_at (while_only (expr.Bool true)) 3 ≡ answer.More }
 {}
 
-/// FOR counts by a counter of its own, which ends without a fault at either end of the range. Its bounds and its step are taken once, from left to right.
+/// FOR counts by a counter of its own, which ends without a fault at either end of the range. Its bounds and its step are taken once, from left to
+/// right.
 pub fn for_has_its_own_counter()
     ensures sum { answer_at (summing false (n 1) (n 4) None) 4 ≡ answer.Value (int 10) }
     ensures fewer { answer_at (summing false (n 1) (n 4) None) 3 ≡ answer.More }
@@ -83,7 +84,8 @@ pub fn a_condition_is_taken_where_it_is_true()
     ensures no_exit { answer_at (leaving_when expr.Null) 1 ≡ answer.Value (int 1) }
 {}
 
-/// A variable starts as its default, which is evaluated each time that the block is entered, or as NULL. A slot that is NOT NULL takes no NULL: the value is looked at first.
+/// A variable starts as its default, which is evaluated each time that the block is entered, or as NULL. A slot that is NOT NULL takes no NULL; the
+/// value's own fault comes first.
 pub fn blocks_have_their_variables()
     ensures leaves { answer_at leaving 0 ≡ answer.Value (int 2) }
     ensures leaves_the_loop { answer_at leaving_the_loop 1 ≡ answer.Value (int 2) }
@@ -96,7 +98,8 @@ pub fn blocks_have_their_variables()
     ensures default { called (starting_as (n 5)) (false ∷ true ∷ []) [] (int 1) 0 ≡ answer.Value (int 1) }
 {}
 
-/// A function that falls off its end raises 2F005, RAISE raises P0001 or the class that is written, and a STRICT function doesn't run where an argument is NULL.
+/// A function that falls off its end raises 2F005, RAISE raises P0001 or the class that is written, and a STRICT function doesn't run where an
+/// argument is NULL.
 pub fn a_function_ends_as_its_body_does()
     ensures ending { answer_at ending 0 ≡ answer.Fault (class (codes "2F005")) }
     ensures message { answer_at message 0 ≡ answer.Fault (class (codes "P0001")) }
@@ -105,7 +108,7 @@ pub fn a_function_ends_as_its_body_does()
     ensures runs { called raising [] [] (int 1) 0 ≡ answer.Fault (class (codes "AB123")) }
 {}
 
-/// SELECT INTO sets its targets from the first row, from left to right, or to NULL where there is none. With STRICT there is one row.
+/// SELECT INTO sets its targets from the first row, from left to right, or to NULL where there is none. With STRICT there is exactly one row.
 pub fn select_into_sets_its_targets()
     ensures selected { called (selecting true) [] ((int 7 ∷ []) ∷ []) (int 1) 0 ≡ answer.Value (int 7) }
     ensures no_row { called (selecting false) [] [] (int 1) 0 ≡ answer.Value val.Null }

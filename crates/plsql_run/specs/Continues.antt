@@ -1,16 +1,18 @@
 -- What the rest of a run answers, by the stack.
-use Rattle.std.specs.Prelude.{◌≡◌, ◌+◌, ◌*◌, sum_by, ℕ, zero, suc, Bool, true, false, pos, List, [], ◌∷◌, map, Option, Some, None, Result, Ok, Err}
+use Rattle.std.specs.Prelude.{◌≡◌, ◌+◌, ◌*◌, sum_by, ℕ, zero, suc, Bool, true, false, pos, List, [], ◌∷◌, map, Option, Some, None, option_map, Result, Ok, Err}
 use Rattle.away_values.specs.declared.values.Value.{Value}
 use Rattle.away_values.specs.declared.values.Value.TheVariants as val
 use Rattle.away_values.specs.declared.errors.OpError.{OpError}
 use Rattle.away_values.specs.declared.errors.OpError.TheVariants as error
 use Rattle.away_values.specs.declared.values.Answer.{Answer}
 use Rattle.away_values.specs.declared.values.Class.{Class}
+use Rattle.away_trees.specs.declared.statements.Arm.{Arm}
 use Rattle.away_trees.specs.declared.statements.Stmt.{Stmt}
+use Rattle.away_trees.specs.StatementAlgebra.{branch_of}
 use Rattle.away_trees.specs.Count.{nodes_of}
 use Rattle.plsql_meaning.specs.Outcomes.{Env, Label, Outcome, normal, exits, continues, returns, faults, more, Done, done, Step, and_then, close}
 use Rattle.plsql_meaning.specs.Loops.{Turning, taken, verdict, Verdict, again, leave, finished, turning, always, while, counts}
-use Rattle.plsql_meaning.specs.Statements.{Setting, in_row, meanings}
+use Rattle.plsql_meaning.specs.Statements.{Setting, in_arms, in_else, in_row, meanings, running}
 use Rattle.plsql_meaning.specs.Functions.{answer_of}
 use Rattle.plsql_run.specs.Places.{Place}
 use Rattle.plsql_run.specs.declared.frames.Counting.{Counting}
@@ -35,10 +37,19 @@ Fails whole error.NoMemory = Unit {0}
 abbrev pub count_of : Counting → Turning Value
 count_of c = counts c.reverse c.last c.step c.var
 
+-- what is made of an ELSE that isn't there
+abbrev pub lacking : Option Class → Outcome
+lacking None = normal
+lacking (Some c) = faults c
+
 module _ (set : Setting) where
   -- the statements of a place
   abbrev pub body_of : Place → Step
   body_of p = in_row (meanings set p.list) p.at
+
+  -- a FOR from a counter on
+  abbrev pub count_run : Counting → Value → Step
+  count_run c counter = turning (count_of c) c.label.now (body_of c.body) counter
 
   -- what a frame makes of how the statement above it ended
   abbrev pub resumed : Frame → Done → Done
@@ -46,7 +57,7 @@ module _ (set : Setting) where
   resumed (frame.Block l) d = close l.now d
   resumed (frame.Plain l p) d = finished l.now (Ok (Some tt)) (turning always l.now (body_of p)) d
   resumed (frame.While l e p) d = finished l.now (Ok (Some tt)) (turning (while (set.value e.now)) l.now (body_of p)) d
-  resumed (frame.Count counter c) d = finished c.label.now ((count_of c).next counter) (turning (count_of c) c.label.now (body_of c.body)) d
+  resumed (frame.Count counter c) d = finished c.label.now ((count_of c).next counter) (count_run c) d
 
   -- what all frames make of it, the last of which is on top
   abbrev pub unwound : List Frame → Done → Done
@@ -59,6 +70,17 @@ module _ (set : Setting) where
   Goes whole stack env (Ok (signal.Returns v)) = (n : ℕ) → (whole n).outcome ≡ returns v
   Goes whole stack env (Ok signal.Turn) = (n : ℕ) → unwound stack (taken env n (done normal)) ≡ whole n
   Goes whole stack env (Err e) = Fails whole e
+
+  -- The same of a part that runs a step behind which this stack goes on.
+  abbrev pub GoesOn : List Frame → (ℕ → Done) → List Frame → Env → Result Signal OpError → Type 0
+  GoesOn behind step stack env r = Goes (λ n. unwound behind (step n)) stack env r
+
+  -- what stands behind the arms: the statements of ELSE, or the end, or a fault
+  abbrev pub else_run : Option (List Stmt) → Option Class → ℕ → Step
+  else_run other missing = in_else set (option_map (λ body. meanings set body) other) (lacking missing)
+
+  abbrev pub arms_run : List Arm → Option (List Stmt) → Option Class → ℕ → Step
+  arms_run arms other missing = in_arms set (map (λ x. branch_of (running set) x) arms) (else_run other missing)
 
 -- How much is left to do between two turns.
 abbrev pub cost : Frame → ℕ
@@ -76,11 +98,6 @@ IfEnds (Ok (signal.Ends w)) P = P
 IfEnds (Ok (signal.Returns v)) P = Unit {0}
 IfEnds (Ok signal.Turn) P = Unit {0}
 IfEnds (Err e) P = Unit {0}
-
--- what is made of an ELSE that isn't there
-abbrev pub lacking : Option Class → Outcome
-lacking None = normal
-lacking (Some c) = faults c
 
 -- how a loop's verdict is told: nothing where it goes on
 abbrev pub told : Option Way → Verdict

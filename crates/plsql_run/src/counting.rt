@@ -7,7 +7,7 @@ ghost use Rattle.away_values.specs.declared.operators.CmpOp.TheVariants as cmp;
 ghost use Rattle.away_values.specs.Operators.{compare, is_true};
 ghost use Rattle.away_trees.specs.declared.statements.LoopKind.TheVariants as kind;
 ghost use Rattle.plsql_meaning.specs.Statements as meaning;
-ghost use Rattle.plsql_run.specs.Continues.{Goes, IfEnds, Passes, body_of, unwound};
+ghost use Rattle.plsql_run.specs.Continues.{GoesOn, IfEnds, Passes, body_of};
 ghost use Rattle.plsql_run.specs.Settings.{meant};
 
 use crate::frames::{Counting, Frame, Signal, Stretch};
@@ -81,7 +81,7 @@ pub(crate) fn enter_count<'a>(
     var: usize,
     body: Stretch<'a>,
 ) -> Result<Signal<'a>, OpError>
-    ensures runs { (name : List ℕ) → let set = meant setting.now in Goes set (λ n. unwound set stack.old (meaning.loop set (kind.Count name reverse first.now last.now by.now) label.now var (body_of set body.entry) env.old n)) stack.new env.new result }
+    ensures runs { (name : List ℕ) → let set = meant setting.now in GoesOn set stack.old (λ n. meaning.loop set (kind.Count name reverse first.now last.now by.now) label.now var (body_of set body.entry) env.old n) stack.new env.new result }
     ensures ends { IfEnds result (stack.new ≡ stack.old) }
 {
     let from = bound(alloc, setting, env, first)?;

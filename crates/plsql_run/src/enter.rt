@@ -1,13 +1,12 @@
 //! A statement begins.
 
-ghost use Rattle.std.specs.Prelude.{◌≡◌, ◌+◌, ◌*◌, ◌≤◌, ◌<◌, ◌^◌, length, sum_by, map, option_map};
+ghost use Rattle.std.specs.Prelude.{◌≡◌, ◌+◌, ◌*◌, ◌≤◌, ◌<◌, ◌^◌, length, sum_by};
 ghost use Rattle.away_trees.specs.Count.{nodes_of, nodes_of_arm, nodes_of_else};
-ghost use Rattle.away_trees.specs.StatementAlgebra.{branch_of};
 ghost use Rattle.plsql_meaning.specs.Outcomes.{Env, and_then, case_not_found, close};
 ghost use Rattle.plsql_meaning.specs.Slots.{slots_of, slots_of_arm, slots_of_else};
 ghost use Rattle.plsql_meaning.specs.Statements.{Setting as Meant};
 ghost use Rattle.plsql_meaning.specs.Statements as meaning;
-ghost use Rattle.plsql_run.specs.Continues.{Goes, IfEnds, body_of, lacking, load, unwound};
+ghost use Rattle.plsql_run.specs.Continues.{GoesOn, IfEnds, arms_run, body_of, else_run, load};
 ghost use Rattle.plsql_run.specs.Layouts.{arm_layouts, layout_of, layouts_of, layouts_of_else};
 ghost use Rattle.plsql_run.specs.declared.layout.Layout.TheViews.{out-Layout};
 ghost use Rattle.plsql_run.specs.Settings.{meant};
@@ -41,7 +40,7 @@ fn enter_block<'a>(
     body: Stretch<'a>,
 ) -> Result<Signal<'a>, OpError>
     requires { at + length decls.now < 2 ^ 64 }
-    ensures runs { let set = meant setting.now in Goes set (λ n. unwound set stack.old (close label.now (and_then (meaning.declare set decls.now at env.old n) (body_of set body.entry)))) stack.new env.new result }
+    ensures runs { let set = meant setting.now in GoesOn set stack.old (λ n. close label.now (and_then (meaning.declare set decls.now at env.old n) (body_of set body.entry))) stack.new env.new result }
     ensures ends { IfEnds result (load stack.new ≡ load stack.old + (2 + 3 * sum_by nodes_of body.entry.list)) }
 {
     declare(alloc, setting, env, decls, at)?;
@@ -52,7 +51,7 @@ fn enter_block<'a>(
 
 /// Statements begin.
 fn enter_list<'a>(stack: &mut Items<Frame<'a>>, list: Stretch<'a>) -> Result<Signal<'a>, OpError>
-    ensures runs { (set : Meant) (env : Env) → Goes set (λ n. unwound set stack.old (body_of set list.entry env n)) stack.new env result }
+    ensures runs { (set : Meant) (env : Env) → GoesOn set stack.old (λ n. body_of set list.entry env n) stack.new env result }
     ensures ends { IfEnds result (load stack.new ≡ load stack.old + (1 + 3 * sum_by nodes_of list.entry.list)) }
 {
     stack.push(Frame::Rest(list))?;
@@ -69,7 +68,7 @@ fn enter_else<'a>(
 ) -> Result<Signal<'a>, OpError>
     requires few { at + slots_of_else other.now < 2 ^ 64 }
     requires laid { layouts.now ≡ layouts_of_else other.now }
-    ensures runs { (set : Meant) (env : Env) → Goes set (λ n. unwound set stack.old (meaning.in_else set (option_map (λ body. meaning.meanings set body) other.now) (lacking missing) at env n)) stack.new env result }
+    ensures runs { (set : Meant) (env : Env) → GoesOn set stack.old (λ n. else_run set other.now missing at env n) stack.new env result }
     ensures ends { IfEnds result (load stack.new ≤ load stack.old + (1 + 3 * nodes_of_else other.now)) }
 {
     match other {
@@ -103,7 +102,7 @@ fn enter_arms<'a>(
     requires few { at + (sum_by slots_of_arm arms.now + slots_of_else other.now) < 2 ^ 64 }
     requires arms_laid { (out-Layout layout.now).inside ≡ arm_layouts arms.now }
     requires else_laid { (out-Layout layout.now).other ≡ layouts_of_else other.now }
-    ensures runs { let set = meant setting.now in Goes set (λ n. unwound set stack.old (meaning.in_arms set (map (λ x. branch_of (meaning.running set) x) arms.now) (meaning.in_else set (option_map (λ body. meaning.meanings set body) other.now) (lacking missing)) at env.now n)) stack.new env.now result }
+    ensures runs { let set = meant setting.now in GoesOn set stack.old (λ n. arms_run set arms.now other.now missing at env.now n) stack.new env.now result }
     ensures ends { IfEnds result (load stack.new ≤ load stack.old + (1 + 3 * (sum_by nodes_of_arm arms.now + nodes_of_else other.now))) }
 {
     let layouts = layout.inside.as_slice();
@@ -141,7 +140,7 @@ fn enter_loop<'a>(
 ) -> Result<Signal<'a>, OpError>
     requires few { at + (meaning.kind_vars kind.now + sum_by slots_of list.now) < 2 ^ 64 }
     requires laid { layouts.now ≡ layouts_of list.now }
-    ensures runs { let set = meant setting.now in Goes set (λ n. unwound set stack.old (meaning.loop set kind.now label.now at (meaning.in_row (meaning.meanings set list.now) (meaning.body_at kind.now at)) env.old n)) stack.new env.new result }
+    ensures runs { let set = meant setting.now in GoesOn set stack.old (λ n. meaning.loop set kind.now label.now at (meaning.in_row (meaning.meanings set list.now) (meaning.body_at kind.now at)) env.old n) stack.new env.new result }
     ensures ends { IfEnds result (stack.new ≡ stack.old) }
 {
     match kind {
@@ -193,7 +192,7 @@ pub(crate) fn enter<'a>(
 ) -> Result<Signal<'a>, OpError>
     requires few { at + slots_of s.now < 2 ^ 64 }
     requires laid { layout.now ≡ layout_of s.now }
-    ensures runs { let set = meant setting.now in Goes set (λ n. unwound set stack.old ((meaning.meaning set s.now).run at env.old n)) stack.new env.new result }
+    ensures runs { let set = meant setting.now in GoesOn set stack.old (λ n. (meaning.meaning set s.now).run at env.old n) stack.new env.new result }
     ensures ends { IfEnds result (load stack.new < load stack.old + 3 * nodes_of s.now) }
 {
     match s {

@@ -8,7 +8,7 @@ ghost use Rattle.sql_meaning.specs.AtBound.{rows_of_tables};
 ghost use Rattle.plsql_meaning.specs.Functions.{function_answer, over};
 ghost use Rattle.plsql_meaning.specs.Slots.{slots_of};
 ghost use Rattle.plsql_meaning.specs.Statements.{meaning};
-ghost use Rattle.plsql_run.specs.Continues.{Answered, Goes, IfEnds, unwound};
+ghost use Rattle.plsql_run.specs.Continues.{Answered, GoesOn, IfEnds};
 ghost use Rattle.plsql_run.specs.Layouts.{layout_of};
 ghost use Rattle.plsql_run.specs.Settings.{meant, not_nulls};
 
@@ -39,7 +39,7 @@ fn start<'a>(
 ) -> Result<Signal<'a>, OpError>
     requires few { at + slots_of body.now < 2 ^ 64 }
     requires laid { layout.now ≡ layout_of body.now }
-    ensures runs { let set = meant setting.now in Goes set (λ n. unwound set stack.old ((meaning set body.now).run at env.old n)) stack.new env.new result }
+    ensures runs { let set = meant setting.now in GoesOn set stack.old (λ n. (meaning set body.now).run at env.old n) stack.new env.new result }
     ensures ends { IfEnds result (stack.new ≡ []) }
 {
     match enter(alloc, setting, stack, env, body, layout, at)? {

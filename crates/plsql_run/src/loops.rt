@@ -4,7 +4,7 @@ ghost use Rattle.std.specs.Prelude.{◌≡◌};
 ghost use Rattle.plsql_meaning.specs.Loops as spec;
 ghost use Rattle.plsql_meaning.specs.Outcomes.{Env};
 ghost use Rattle.plsql_meaning.specs.Statements.{Setting as Meant};
-ghost use Rattle.plsql_run.specs.Continues.{Goes, IfEnds, body_of, count_of, outcome, resumed, told, unwound};
+ghost use Rattle.plsql_run.specs.Continues.{GoesOn, IfEnds, body_of, count_of, count_run, outcome, resumed, told};
 ghost use Rattle.plsql_run.specs.Settings.{meant};
 
 use crate::frames::{Counting, Frame, Signal, Stretch, Way};
@@ -46,7 +46,7 @@ fn begin<'a>(
     behind: Frame<'a>,
     body: Stretch<'a>,
 ) -> Result<Signal<'a>, OpError>
-    ensures runs { (set : Meant) (env : Env) → Goes set (λ n. unwound set stack.old (spec.taken env n (λ e m. resumed set behind.entry (body_of set body.entry e m)))) stack.new env result }
+    ensures runs { (set : Meant) (env : Env) → GoesOn set stack.old (λ n. spec.taken env n (λ e m. resumed set behind.entry (body_of set body.entry e m))) stack.new env result }
     ensures turn { IfEnds result ⊥ }
 {
     stack.push(behind)?;
@@ -60,7 +60,7 @@ pub(crate) fn begin_plain<'a>(
     label: &'a Option<Name>,
     body: Stretch<'a>,
 ) -> Result<Signal<'a>, OpError>
-    ensures runs { (set : Meant) (env : Env) → Goes set (λ n. unwound set stack.old (spec.turning spec.always label.now (body_of set body.entry) tt env n)) stack.new env result }
+    ensures runs { (set : Meant) (env : Env) → GoesOn set stack.old (λ n. spec.turning spec.always label.now (body_of set body.entry) tt env n) stack.new env result }
     ensures ends { IfEnds result (stack.new ≡ stack.old) }
 {
     let first = body.again();
@@ -77,7 +77,7 @@ pub(crate) fn begin_while<'a>(
     test: &'a Expr,
     body: Stretch<'a>,
 ) -> Result<Signal<'a>, OpError>
-    ensures runs { let set = meant setting.now in Goes set (λ n. unwound set stack.old (spec.turning (spec.while (set.value test.now)) label.now (body_of set body.entry) tt env.now n)) stack.new env.now result }
+    ensures runs { let set = meant setting.now in GoesOn set stack.old (λ n. spec.turning (spec.while (set.value test.now)) label.now (body_of set body.entry) tt env.now n) stack.new env.now result }
     ensures ends { IfEnds result (stack.new ≡ stack.old) }
 {
     let v = setting.value(alloc, test, env)?;
@@ -106,7 +106,7 @@ pub(crate) fn begin_count<'a>(
     counter: Value,
     counting: Counting<'a>,
 ) -> Result<Signal<'a>, OpError>
-    ensures runs { (set : Meant) → Goes set (λ n. unwound set stack.old (spec.turning (count_of counting.entry) counting.entry.label.now (body_of set counting.entry.body) counter env.old n)) stack.new env.new result }
+    ensures runs { (set : Meant) → GoesOn set stack.old (λ n. count_run set counting.entry counter env.old n) stack.new env.new result }
     ensures ends { IfEnds result (stack.new ≡ stack.old) }
 {
     if !is_true(&reaches(counting.reverse, &counter, &counting.last)) {
@@ -159,7 +159,7 @@ pub(crate) fn resume_count<'a>(
     counter: Value,
     counting: Counting<'a>,
 ) -> Result<Signal<'a>, OpError>
-    ensures runs { (set : Meant) → Goes set (λ n. unwound set stack.old (spec.moved ((count_of counting.entry).next counter) (spec.turning (count_of counting.entry) counting.entry.label.now (body_of set counting.entry.body)) env.old n)) stack.new env.new result }
+    ensures runs { (set : Meant) → GoesOn set stack.old (λ n. spec.moved ((count_of counting.entry).next counter) (count_run set counting.entry) env.old n) stack.new env.new result }
     ensures ends { IfEnds result (stack.new ≡ stack.old) }
 {
     match next_count(counting.reverse, &counter, &counting.step) {

@@ -3,7 +3,7 @@
 ghost use Rattle.std.specs.Prelude.{◌≡◌, ◌+◌, ◌*◌, ◌<◌, sum_by, []};
 ghost use Rattle.away_trees.specs.Count.{nodes_of};
 ghost use Rattle.plsql_meaning.specs.Outcomes.{closed_as, done};
-ghost use Rattle.plsql_run.specs.Continues.{Goes, IfEnds, body_of, cost, load, outcome, resumed, unwound};
+ghost use Rattle.plsql_run.specs.Continues.{GoesOn, IfEnds, body_of, cost, load, outcome, resumed};
 ghost use Rattle.plsql_run.specs.Settings.{meant};
 
 use crate::enter::enter;
@@ -23,7 +23,7 @@ fn run_next<'a>(
     env: &mut Items<Value>,
     place: Stretch<'a>,
 ) -> Result<Signal<'a>, OpError>
-    ensures runs { let set = meant setting.now in Goes set (λ n. unwound set stack.old (body_of set place.entry env.old n)) stack.new env.new result }
+    ensures runs { let set = meant setting.now in GoesOn set stack.old (λ n. body_of set place.entry env.old n) stack.new env.new result }
     ensures ends { IfEnds result (load stack.new < load stack.old + (1 + 3 * sum_by nodes_of place.entry.list)) }
 {
     let at = place.at;
@@ -69,7 +69,7 @@ fn resume<'a>(
     frame: Frame<'a>,
     way: Way<'a>,
 ) -> Result<Signal<'a>, OpError>
-    ensures runs { let set = meant setting.now in Goes set (λ n. unwound set stack.old (resumed set frame.entry (done (outcome way.entry) env.old n))) stack.new env.new result }
+    ensures runs { let set = meant setting.now in GoesOn set stack.old (λ n. resumed set frame.entry (done (outcome way.entry) env.old n)) stack.new env.new result }
     ensures ends { IfEnds result (load stack.new < load stack.old + cost frame.entry) }
 {
     match frame {
@@ -102,7 +102,7 @@ pub(crate) fn run_until_turn<'a>(
     env: &mut Items<Value>,
     way: Way<'a>,
 ) -> Result<Signal<'a>, OpError>
-    ensures runs { let set = meant setting.now in Goes set (λ n. unwound set stack.old (done (outcome way.entry) env.old n)) stack.new env.new result }
+    ensures runs { let set = meant setting.now in GoesOn set stack.old (λ n. done (outcome way.entry) env.old n) stack.new env.new result }
     ensures ends { IfEnds result (stack.new ≡ []) }
 {
     let mut way = way;

@@ -1,4 +1,4 @@
-use Rattle.std.proofs.Common.{◌≡◌, sym, ap, length, nat_lt}
+use Rattle.std.proofs.Common.{sym, ap, length, nat_lt}
 use Rattle.plsql_meaning.specs.Functions.{answer_of, begun}
 use Rattle.plsql_meaning.proofs.InSight.{statement_alike}
 use Rattle.plsql_meaning.proofs.Readers.{expressions_are_readers}
