@@ -54,7 +54,15 @@ fn call_over_schema<F: Files>(
         (run_end result) }
 {
     let function = function_of(alloc, tables, func, files)?;
-    with_arguments(alloc, bound, &tables.schema, function.get(), dir, args, files)
+    with_arguments(
+        alloc,
+        bound,
+        &tables.schema,
+        function.get(),
+        dir,
+        args,
+        files,
+    )
 }
 
 /// Goes on behind the function.
@@ -72,7 +80,15 @@ fn with_arguments<F: Files>(
         files.new (run_end result) }
 {
     match values_for(alloc, function.function.params.as_slice(), args)? {
-        Some(values) => called(alloc, bound, schema, function, dir, values.as_slice(), files),
+        Some(values) => called(
+            alloc,
+            bound,
+            schema,
+            function,
+            dir,
+            values.as_slice(),
+            files,
+        ),
         None => Ok(usage(alloc)?),
     }
 }
