@@ -43,3 +43,5 @@ pub no_bound : (bs : List ℕ) → eqb (get_or bs 0 0) 43 ≡ true → bound_of 
 unfolding bound_of
 no_bound [] h = refl
 no_bound (c ∷ cs) h = subst (λ c. bound_of (c ∷ cs) ≡ None) (sym (eqb-true c 43 h)) refl
+
+pub ruleset bounds = (bound_read, no_bound)

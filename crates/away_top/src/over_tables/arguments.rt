@@ -13,6 +13,7 @@ use std::alloc::Global;
 const MOST_ARGUMENTS: usize = 64;
 
 /// The bound that a word of digits is, where it has 64 bits.
+#[tactic(auto, using(crate::proofs::Bounds::bounds))]
 pub fn bound_of(word: &str) -> Option<u64>
     ensures { result ≡ bound_by word.now }
 {
