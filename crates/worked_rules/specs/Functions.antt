@@ -1,6 +1,6 @@
 -- Worked functions of type bigint without parameters, over the table t, and the least rule that each breaks: each rule broken once by a small text and
 -- kept by its nearest neighbour, and the lesser of two that are broken at once.
-use Rattle.std.specs.Prelude.{ℕ, true, false, List, [], ◌∷◌, map, Some, None, codes}
+use Rattle.std.specs.Prelude.{ℕ, true, false, List, [], ◌∷◌, Some, None, codes}
 use Rattle.away_values.specs.declared.types.Ty.TheVariants as ty
 use Rattle.away_trees.specs.declared.queries.Expr.{Expr}
 use Rattle.away_trees.specs.declared.queries.Expr.TheVariants as expr
@@ -9,7 +9,7 @@ use Rattle.away_trees.specs.declared.statements.Raised.TheVariants as raised
 use Rattle.away_trees.specs.declared.statements.Stmt.{Stmt}
 use Rattle.away_trees.specs.declared.statements.Stmt.TheVariants as stmt
 use Rattle.away_types.specs.FunctionChecks.{function_note}
-use Rattle.worked_rules.specs.Pieces.{Row, none, schema, n, named, k, t_k, called, count, sum_of, max_of, as_bigint, plus, concat}
+use Rattle.worked_rules.specs.Pieces.{Row, none, schema, n, named, k, t_k, called, count, sum_of, max_of, as_bigint, plus}
 use Rattle.worked_rules.specs.Pieces.{one, scalar, from, from_t, var, declared, block, loop, counting}
 
 abbrev pub of_body : Stmt → Function
