@@ -1,34 +1,22 @@
 -- The slots that stand in a tree whose names are resolved are those of the scope's variables.
-use Rattle.std.proofs.Common.{◌≡◌, refl, sym, ap, subst, ◌∙◌, ℕ, suc, ◌≤◌, arith, Bool, true, false, ◌&&◌, ◌||◌, if◌then◌else◌, nat_lt, List, [], ◌∷◌, ◌++◌, map, fold, inl, inr, Option, Some, None, option_map}
+use Rattle.std.proofs.Common.{◌≡◌, refl, ap, subst, ◌∙◌, ℕ, Bool, true, false, ◌||◌, if◌then◌else◌, nat_lt, List, [], ◌∷◌, map, fold, inl, inr, Option, Some, None}
 use Rattle.std.specs.Prelude.{bytes_eq, ◌==◌, ◌⊎◌}
 use Rattle.std.specs.List.{flat_map}
 use Rattle.std.proofs.lemmas.Bool.{eq-eqb}
-use Rattle.away_values.specs.declared.operators.ChainOp.{ChainOp}
 use Rattle.away_trees.specs.declared.queries.Col.{Col}
 use Rattle.away_trees.specs.declared.queries.Expr.{Expr}
 use Rattle.away_trees.specs.declared.queries.Expr.TheVariants as expr
 use Rattle.away_trees.specs.declared.queries.Source.{Source}
-use Rattle.away_trees.specs.declared.queries.Item.{Item}
-use Rattle.away_trees.specs.declared.queries.FromItem.{FromItem}
-use Rattle.away_trees.specs.declared.queries.Key.{Key}
-use Rattle.away_trees.specs.declared.queries.Select.{Select}
-use Rattle.away_trees.specs.declared.queries.Query.{Query}
-use Rattle.away_trees.specs.Algebra.{expr_of, source_of, from_of, item_of, key_of, select_of, query_of}
-use Rattle.away_trees.proofs.Equations as eq
-use Rattle.away_names.specs.declared.note.Note.{Note}
+use Rattle.away_trees.specs.Algebra.{expr_of, source_of}
 use Rattle.away_names.specs.declared.note.Named.{Named}
-use Rattle.away_names.specs.declared.note.Shown.{Shown}
-use Rattle.away_names.specs.declared.note.Framed.{Framed}
 use Rattle.away_names.specs.declared.scope.Hit.{Hit}
-use Rattle.away_names.specs.declared.scope.Listed.{Listed}
 use Rattle.away_names.specs.declared.scope.Variable.{Variable}
-use Rattle.away_names.specs.Notes as notes
-use Rattle.away_names.specs.Notes.{clean, joined, breaks, added}
-use Rattle.away_names.specs.Lookups.{Name, Level, Scope, inside, column_named, column_dotted, variable_after, variable_named}
+use Rattle.away_names.specs.Notes.{added}
+use Rattle.away_names.specs.Lookups.{Name, Scope, column_named, column_dotted, variable_after, variable_named}
 use Rattle.away_names.specs.Naming as n
-use Rattle.sql_meaning.specs.Reads.{Read, Slot, Param, Table, Outer, reading, Reads}
+use Rattle.sql_meaning.specs.Reads.{Read, Outer, reading, Reads}
 use Rattle.typed_values.specs.Sorts.{Every}
-use Rattle.typed_values.proofs.CleanNotes.{Clean, clean_parts, not_broken}
+use Rattle.typed_values.proofs.CleanNotes.{Clean, clean_parts}
 use Rattle.typed_values.proofs.Lists.{every_append}
 use Rattle.slots_in_sight.specs.InSight.{is_among, IsSeen}
 

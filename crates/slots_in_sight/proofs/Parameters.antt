@@ -1,5 +1,5 @@
 -- A function's parameters have the first slots.
-use Rattle.std.proofs.Common.{◌≡◌, refl, sym, ap, subst, ◌∙◌, ℕ, zero, suc, ◌+◌, arith, false, List, [], ◌∷◌, ◌++◌, map, fold, length}
+use Rattle.std.proofs.Common.{◌≡◌, refl, sym, ap, subst, ◌∙◌, ℕ, zero, suc, ◌+◌, arith, false, List, [], ◌∷◌, ◌++◌, fold, length}
 use Rattle.std.specs.List.{range_with_len}
 use Rattle.away_values.specs.declared.types.Ty.{Ty}
 use Rattle.away_trees.specs.declared.schemas.Schema.{Schema}
@@ -18,7 +18,7 @@ use Rattle.slots_in_sight.specs.Sight.{walking}
 use Rattle.slots_in_sight.specs.InSight.{ReadsInSight, AllInSight}
 use Rattle.slots_in_sight.proofs.Names.{slots_of}
 use Rattle.slots_in_sight.proofs.Statements.{stmt_good}
-use Rattle.slots_in_sight.proofs.Walks.{Good, shown_push, slots_push}
+use Rattle.slots_in_sight.proofs.Walks.{shown_push, slots_push}
 
 range_push : (a k : ℕ) → range_with_len a (suc k) ≡ range_with_len a k ++ (a + k) ∷ []
 range_push a zero = ap (λ x. x ∷ []) (omega arith)

@@ -1,14 +1,9 @@
 -- In a function whose names are resolved and break no rule, each expression reads slots in sight alone.
-use Rattle.std.proofs.Common.{◌≡◌, refl, sym, ap, subst, ◌∙◌, ℕ, zero, suc, ◌+◌, arith, Bool, true, false, List, [], ◌∷◌, ◌++◌, map, fold, length, Option, Some, None, option_map}
-use Rattle.std.specs.Prelude.{not}
-use Rattle.std.specs.List.{range_with_len}
-use Rattle.away_values.specs.declared.types.Ty.{Ty}
+use Rattle.std.proofs.Common.{◌≡◌, refl, sym, ap, subst, ◌∙◌, ℕ, ◌+◌, arith, true, false, List, [], ◌∷◌, ◌++◌, map, fold, length, Option, Some, None, option_map}
 use Rattle.away_values.specs.declared.types.Ty.TheVariants.{Bigint}
 use Rattle.away_trees.specs.declared.queries.Expr.{Expr}
-use Rattle.away_trees.specs.declared.schemas.Schema.{Schema}
 use Rattle.away_trees.specs.declared.statements.Arm.{Arm}
 use Rattle.away_trees.specs.declared.statements.Decl.{Decl}
-use Rattle.away_trees.specs.declared.statements.Function.{Function}
 use Rattle.away_trees.specs.declared.statements.LoopKind.{LoopKind}
 use Rattle.away_trees.specs.declared.statements.LoopKind.TheVariants as kind
 use Rattle.away_trees.specs.declared.statements.Stmt.{Stmt}
@@ -17,29 +12,22 @@ use Rattle.away_trees.specs.declared.statements.Stmt.TheOpen as st
 use Rattle.away_trees.specs.declared.statements.Stmt.TheBlock as b
 use Rattle.away_trees.specs.StatementAlgebra.{stmt_of, stmts_of, branches_of, else_of, branch_of}
 use Rattle.away_trees.proofs.StatementEquations as eq
-use Rattle.away_names.specs.declared.note.Note.{Note}
 use Rattle.away_names.specs.declared.scope.Variable.{Variable}
 use Rattle.away_names.specs.Lookups.{Name, Scope, variable_named}
-use Rattle.away_names.specs.Notes.{clean, joined, breaks, held}
+use Rattle.away_names.specs.Notes.{joined, breaks, held}
 use Rattle.away_names.specs.Trees.{named_expr}
-use Rattle.away_types.specs.declared.parameters.Start.{Start}
-use Rattle.away_types.specs.declared.resolved.Declared.{Declared}
-use Rattle.away_types.specs.declared.resolved.Headed.{Headed}
 use Rattle.away_types.specs.declared.resolved.Resolved.{Resolved}
 use Rattle.away_types.specs.declared.slots.Slots.{Slots}
-use Rattle.away_types.specs.FunctionChecks.{start, with_param, entry, body_of, resolved_function, function_note, head_note, types_note}
-use Rattle.away_types.specs.CheckedFunctions.{IsChecked, IsCheckedOfSome}
-use Rattle.away_types.specs.ResolvedBodies.{resolved_stmt}
 use Rattle.away_types.specs.Statements as n
 use Rattle.away_types.specs.Statements.{Spot, By, resolving, with_variable, with_slot, with_hidden, assigned}
 use Rattle.typed_values.specs.Sorts.{Every}
-use Rattle.typed_values.proofs.CleanNotes.{Clean, clean_parts, not_broken, unbroken_clean}
+use Rattle.typed_values.proofs.CleanNotes.{Clean, clean_parts, not_broken}
 use Rattle.typed_values.proofs.Lists.{every_append}
 use Rattle.slots_in_sight.specs.Sight as sight
 use Rattle.slots_in_sight.specs.Sight.{Sighted, Walked, Walk, walking, sighted}
-use Rattle.slots_in_sight.specs.InSight.{ReadsInSight, AllInSight}
+use Rattle.slots_in_sight.specs.InSight.{ReadsInSight}
 use Rattle.slots_in_sight.proofs.Names.{slots_of}
-use Rattle.slots_in_sight.proofs.Walks.{Good, GoodDeclared, good_none, good_behind, expr_read, maybe_read, maybe_next, declared_good, map_push, fold_push, shown_push, slots_push}
+use Rattle.slots_in_sight.proofs.Walks.{Good, good_none, good_behind, expr_read, maybe_read, maybe_next, declared_good, map_push, fold_push, shown_push, slots_push}
 
 -- ---- pieces one behind the other
 

@@ -1,32 +1,26 @@
 -- In every tree whose names are resolved and break no rule, the slots are those of the scope's variables.
-use Rattle.std.proofs.Common.{◌≡◌, refl, sym, ap, subst, ◌∙◌, ℕ, suc, ◌≤◌, arith, Bool, true, false, List, [], ◌∷◌, ◌++◌, map, fold, Option, Some, None, option_map}
-use Rattle.std.specs.Prelude.{is_some, not}
+use Rattle.std.proofs.Common.{◌≡◌, sym, ap, subst, ℕ, suc, arith, Bool, List, [], ◌∷◌, ◌++◌, map, fold, Option, Some, None, option_map}
+use Rattle.std.specs.Prelude.{is_some}
 use Rattle.std.specs.List.{flat_map}
-use Rattle.away_values.specs.declared.types.Ty.{Ty}
 use Rattle.away_values.specs.declared.operators.ChainOp.{ChainOp}
 use Rattle.away_trees.specs.declared.queries.Expr.{Expr}
 use Rattle.away_trees.specs.declared.queries.Expr.TheVariants as expr
-use Rattle.away_trees.specs.declared.queries.Expr.TheOpen as ex
-use Rattle.away_trees.specs.declared.queries.Expr.TheOpen.{Select-F}
-use Rattle.away_trees.specs.declared.queries.Source.TheVariants as source
 use Rattle.away_trees.specs.declared.queries.Item.{Item}
 use Rattle.away_trees.specs.declared.queries.FromItem.{FromItem}
 use Rattle.away_trees.specs.declared.queries.Key.{Key}
 use Rattle.away_trees.specs.declared.queries.Select.{Select}
-use Rattle.away_trees.specs.declared.queries.Query.{Query}
-use Rattle.away_trees.specs.Algebra.{expr_of, source_of, from_of, item_of, key_of, select_of, query_of}
+use Rattle.away_trees.specs.Algebra.{expr_of, from_of, item_of, key_of, select_of, query_of}
 use Rattle.away_trees.proofs.Equations as eq
 use Rattle.away_names.specs.declared.note.Named.{Named}
 use Rattle.away_names.specs.declared.note.Shown.{Shown}
 use Rattle.away_names.specs.declared.note.Framed.{Framed}
 use Rattle.away_names.specs.declared.scope.Listed.{Listed}
 use Rattle.away_names.specs.declared.scope.Variable.{Variable}
-use Rattle.away_names.specs.Notes as notes
-use Rattle.away_names.specs.Notes.{pure, joined, breaks, added, each, held}
-use Rattle.away_names.specs.Lookups.{Name, Level, Scope, inside, has_double}
+use Rattle.away_names.specs.Notes.{pure, joined, breaks, each, held}
+use Rattle.away_names.specs.Lookups.{Name, Level, Scope, inside}
 use Rattle.away_names.specs.Naming as n
 use Rattle.away_names.specs.Naming.{naming}
-use Rattle.sql_meaning.specs.Reads.{Read, reading, Reads, of_list, of_option}
+use Rattle.sql_meaning.specs.Reads.{reading, Reads, of_list, of_option}
 use Rattle.sql_meaning.proofs.Related.{Alike, AlikeOption, AlikeLink, AlikeArm, Relation, IsKept, expr_related}
 use Rattle.typed_values.specs.Sorts.{Every}
 use Rattle.typed_values.proofs.CleanNotes.{Clean, clean_parts, not_broken}

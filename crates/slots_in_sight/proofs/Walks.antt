@@ -1,31 +1,13 @@
 -- Along a function's statements the slots in sight are those of the variables that names see.
-use Rattle.std.proofs.Common.{◌≡◌, refl, sym, ap, subst, ◌∙◌, ℕ, suc, ◌+◌, arith, Bool, true, false, List, [], ◌∷◌, ◌++◌, map, fold, length, Option, Some, None, option_map}
-use Rattle.std.specs.Prelude.{not}
-use Rattle.std.specs.List.{range_with_len}
+use Rattle.std.proofs.Common.{◌≡◌, refl, sym, ap, subst, ◌∙◌, ℕ, ◌+◌, arith, Bool, List, [], ◌∷◌, ◌++◌, map, fold, length, Option, Some, None}
 use Rattle.away_values.specs.declared.types.Ty.{Ty}
-use Rattle.away_values.specs.declared.types.Ty.TheVariants.{Bigint}
 use Rattle.away_trees.specs.declared.queries.Expr.{Expr}
-use Rattle.away_trees.specs.declared.schemas.Schema.{Schema}
-use Rattle.away_trees.specs.declared.statements.Arm.{Arm}
 use Rattle.away_trees.specs.declared.statements.Decl.{Decl}
-use Rattle.away_trees.specs.declared.statements.Function.{Function}
-use Rattle.away_trees.specs.declared.statements.LoopKind.{LoopKind}
-use Rattle.away_trees.specs.declared.statements.LoopKind.TheVariants as kind
-use Rattle.away_trees.specs.declared.statements.Stmt.{Stmt}
-use Rattle.away_trees.specs.declared.statements.Stmt.TheVariants as stmt
-use Rattle.away_trees.specs.declared.statements.Stmt.TheBlock as b
-use Rattle.away_trees.specs.StatementAlgebra.{stmt_of, stmts_of, branches_of, else_of, branch_of}
-use Rattle.away_trees.proofs.StatementEquations as eq
-use Rattle.away_names.specs.declared.note.Note.{Note}
-use Rattle.away_names.specs.declared.note.Named.{Named}
 use Rattle.away_names.specs.declared.scope.Variable.{Variable}
-use Rattle.away_names.specs.Lookups.{Name, Scope, variable_named}
-use Rattle.away_names.specs.Notes.{clean, joined, breaks, held}
-use Rattle.away_names.specs.Naming.{written, maybe_written}
+use Rattle.away_names.specs.Lookups.{Name, Scope}
+use Rattle.away_names.specs.Notes.{held}
 use Rattle.away_names.specs.Trees.{named_expr}
 use Rattle.away_types.specs.declared.resolved.Declared.{Declared}
-use Rattle.away_types.specs.declared.resolved.Headed.{Headed}
-use Rattle.away_types.specs.declared.resolved.Resolved.{Resolved}
 use Rattle.away_types.specs.declared.slots.Slots.{Slots}
 use Rattle.away_types.specs.Statements as n
 use Rattle.away_types.specs.Statements.{Spot, By, resolving, with_variable, with_slot, with_hidden}

@@ -1,11 +1,10 @@
 -- What a checked query answers is of the types that its check found.
-use Rattle.std.proofs.Common.{◌≡◌, refl, sym, ap, subst, ◌∙◌, ℕ, ◌≤◌, arith, Bool, true, false, not, ◌&&◌, List, [], ◌∷◌, ◌++◌, map, length, Option, Some, None, Ok, Err, option_map}
+use Rattle.std.proofs.Common.{◌≡◌, refl, sym, ap, subst, ◌∙◌, ℕ, arith, Bool, true, false, not, List, [], ◌∷◌, ◌++◌, map, Option, Some, None, Ok, Err, option_map}
 use Rattle.std.specs.Prelude.{if◌then◌else◌, is_some}
 use Rattle.away_values.specs.declared.types.Ty.{Ty}
 use Rattle.away_values.specs.declared.types.Ty.TheVariants as ty
 use Rattle.away_values.specs.declared.values.Value.{Value}
 use Rattle.away_values.specs.declared.values.Value.TheVariants as val
-use Rattle.away_values.specs.declared.values.Answer.{Answer}
 use Rattle.away_values.specs.declared.values.Answer.TheVariants as answer
 use Rattle.away_values.specs.Classes.{is_class}
 use Rattle.away_values.specs.Results.{Or, class}
@@ -13,34 +12,30 @@ use Rattle.away_trees.specs.Fits.{FitsSchema}
 use Rattle.away_trees.specs.declared.schemas.Schema.{Schema}
 use Rattle.away_trees.specs.declared.queries.Query.{Query}
 use Rattle.away_trees.specs.declared.queries.Recursive.{Recursive}
-use Rattle.away_trees.specs.declared.queries.Select.{Select}
 use Rattle.away_trees.specs.declared.queries.Expr.TheViews.{out-Query}
 use Rattle.away_trees.specs.Algebra.{query_of, recursive_of, select_of}
 use Rattle.away_trees.proofs.Equations as eq
 use Rattle.away_names.specs.declared.note.File.{File}
-use Rattle.away_names.specs.declared.note.Note.{Note}
 use Rattle.away_names.specs.declared.note.Times.{Times}
 use Rattle.away_names.specs.Files.{file}
 use Rattle.away_names.specs.Notes.{joined, breaks}
-use Rattle.away_typing.specs.Kinds.{same}
 use Rattle.away_typing.specs.ParameterLists.{params_of, with_query}
 use Rattle.away_typing.specs.Parameters.{no_params}
 use Rattle.away_typing.specs.Typing.{Shape, shape_of}
 use Rattle.away_typing.specs.TypingLists.{union_in}
-use Rattle.away_typing.specs.Wholes.{judged, judged_by, recursion, recursion_by, first_shape, final_shape, first_type, is_answer, answer_note, uses_note, over_tables, with_table, column_types}
+use Rattle.away_typing.specs.Wholes.{judged, recursion, recursion_by, first_shape, final_shape, first_type, is_answer, answer_note, uses_note, over_tables, with_table, column_types}
 use Rattle.sql_meaning.specs.Context.{Rows, outermost}
 use Rattle.sql_meaning.specs.Equations.{recursive_part}
-use Rattle.sql_meaning.specs.Meaning.{rows_of_query, rows_of_select}
-use Rattle.sql_meaning.specs.Working.{Bounded, rows, sql, answered, answer_of_rows, over_table, recursive_table}
+use Rattle.sql_meaning.specs.Meaning.{rows_of_query}
+use Rattle.sql_meaning.specs.Working.{Bounded, rows, answered, answer_of_rows, over_table, recursive_table}
 use Rattle.sql_meaning.proofs.Nodes.{rows_plain, rows_recursive, rows_union}
-use Rattle.away_types.specs.CheckedQueries.{IsCheckedQuery, judged_query, query_note}
-use Rattle.typed_values.specs.Arguments.{Params, Supplied, standing, all, maybe}
-use Rattle.typed_values.specs.Sorts.{IsOf, Every}
-use Rattle.typed_values.specs.Surroundings.{IsRow, AreRows, Fit}
+use Rattle.away_types.specs.CheckedQueries.{IsCheckedQuery, query_note}
+use Rattle.typed_values.specs.Arguments.{Supplied, standing, all, maybe}
+use Rattle.typed_values.specs.Sorts.{IsOf}
+use Rattle.typed_values.specs.Surroundings.{AreRows}
 use Rattle.typed_values.proofs.CleanNotes.{Clean, clean_parts, test_fails, unbroken_clean}
 use Rattle.typed_values.proofs.Found.{query_supplied}
 use Rattle.typed_values.proofs.KindRules.{same_is}
-use Rattle.typed_values.proofs.Selects.{some_is}
 use Rattle.typed_values.proofs.Trees.{left, right}
 use Rattle.typed_answers.specs.TypedAnswers.{IsTyped}
 use Rattle.typed_answers.proofs.Recursions.{not_false, union_typed, Found, found_of, table_typed}

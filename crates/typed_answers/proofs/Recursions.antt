@@ -1,11 +1,10 @@
 -- The recursive table has the types that its terms were checked for.
 use Rattle.std.proofs.Common.{◌≡◌, refl, sym, ap, subst, ◌∙◌, ℕ, zero, suc, arith, Bool, true, false, not, ◌&&◌, List, [], ◌∷◌, ◌++◌, map, length, Option, Some, None, Ok, Err}
-use Rattle.std.specs.Prelude.{if◌then◌else◌, is_some, ◌==◌, fold}
-use Rattle.std.specs.List.{AllZip}
+use Rattle.std.specs.Prelude.{if◌then◌else◌, is_some, ◌==◌}
 use Rattle.std.proofs.lemmas.Bool.{eqb-true}
 use Rattle.away_values.specs.declared.types.Ty.{Ty}
 use Rattle.away_values.specs.declared.values.Value.{Value}
-use Rattle.away_values.specs.Results.{Or, and_then, mapped, each_joined}
+use Rattle.away_values.specs.Results.{Or, each_joined}
 use Rattle.away_trees.specs.Fits.{FitsSchema}
 use Rattle.away_trees.specs.declared.schemas.Schema.{Schema}
 use Rattle.away_trees.specs.declared.queries.Select.{Select}
@@ -23,22 +22,20 @@ use Rattle.away_typing.specs.Trees.{kinds_of_select}
 use Rattle.away_typing.specs.Typing as typing
 use Rattle.away_typing.specs.Typing.{Places, Shape, shape_of}
 use Rattle.away_typing.specs.TypingLists.{union_in}
-use Rattle.away_typing.specs.Wholes.{over_tables, with_table, padded, types_or_none, first_shape, recursive_types, is_never, is_once, in_own_from, is_plain, is_recursion, all_fit, fits_shape, recursion_by, column_types}
+use Rattle.away_typing.specs.Wholes.{over_tables, with_table, padded, types_or_none, first_shape, recursive_types, is_never, is_once, in_own_from, is_plain, is_recursion, all_fit, fits_shape, recursion_by}
 use Rattle.sql_meaning.specs.Context.{Rows, Context, outermost}
 use Rattle.sql_meaning.specs.Equations.{recursive_part}
 use Rattle.sql_meaning.specs.Meaning.{meaning, rows_of_select}
-use Rattle.sql_meaning.specs.Selects as meant
 use Rattle.sql_meaning.specs.Working.{Bounded, next_rows, worked, recursive_table}
 use Rattle.sql_meaning.proofs.Lists.{Zipped, joined_map}
 use Rattle.sql_meaning.proofs.Nodes.{first_rows, second_rows}
-use Rattle.typed_values.specs.Arguments.{Params, Supplied, standing, all}
-use Rattle.typed_values.specs.Sorts.{IsOf, Every}
+use Rattle.typed_values.specs.Arguments.{Supplied, standing, all}
+use Rattle.typed_values.specs.Sorts.{Every}
 use Rattle.typed_values.specs.Surroundings.{IsRow, AreRows, Fit}
 use Rattle.typed_values.proofs.CleanNotes.{Clean, clean_parts, test_fails}
 use Rattle.typed_values.proofs.KindRules.{fits_typed}
 use Rattle.typed_values.proofs.Lists.{every_append}
-use Rattle.typed_values.proofs.Results.{ok_is}
-use Rattle.typed_values.proofs.Selects.{IsColumn, IsListed}
+use Rattle.typed_values.proofs.Selects.{IsListed}
 use Rattle.typed_values.proofs.Trees.{left, right, select_holds}
 use Rattle.typed_values.proofs.Unions.{ListingAt, union_at, shape_at}
 use Rattle.typed_answers.proofs.Tables.{fit_before, fit_with}
@@ -56,9 +53,10 @@ not_false false h = cc
 module _ (p : Places) (cx : Context) (fit : Fit p cx) where
   listings : (xs : List Select) → Supplied cx.args (all (map (λ x. select_of standing x) xs)) → Zipped (ListingAt p cx) (map (λ x. select_of typing.typing x) xs) (map (λ x. select_of meaning x) xs)
   listings [] h = tt
-  listings (x ∷ xs) h =
-      (select_holds x p cx fit (left cx.args (select_of standing x) (all (map (λ x. select_of standing x) xs)) h),
-       listings xs (right cx.args (select_of standing x) (all (map (λ x. select_of standing x) xs)) h))
+  listings (x ∷ xs) h = (
+    select_holds x p cx fit (left cx.args (select_of standing x) (all (map (λ x. select_of standing x) xs)) h),
+    listings xs (right cx.args (select_of standing x) (all (map (λ x. select_of standing x) xs)) h),
+  )
 
   union_is : (xs : List Select) → typing.union (map (λ x. select_of typing.typing x) xs) p ≡ union_in p xs
   unfolding kinds_of_select

@@ -1,10 +1,8 @@
 -- Each expression of a checked function gives a value of the type that is asked of it.
-use Rattle.std.proofs.Common.{◌≡◌, refl, sym, ap, subst, ◌∙◌, ℕ, zero, suc, ◌≤◌, arith, Bool, true, false, not, ◌||◌, List, [], ◌∷◌, ◌++◌, fold, Option, Some, None, Ok}
+use Rattle.std.proofs.Common.{◌≡◌, refl, sym, subst, ℕ, zero, suc, arith, Bool, true, false, not, ◌||◌, List, [], ◌∷◌, ◌++◌, fold, Option, Some, None}
 use Rattle.std.specs.Prelude.{slice_get}
-use Rattle.std.specs.List.{flat_map}
 use Rattle.away_values.specs.declared.types.Ty.{Ty}
 use Rattle.away_values.specs.declared.types.Ty.TheVariants.{Bigint, Boolean}
-use Rattle.away_values.specs.declared.values.Value.{Value}
 use Rattle.away_trees.specs.declared.queries.Expr.{Expr}
 use Rattle.away_trees.specs.declared.schemas.Schema.{Schema}
 use Rattle.away_trees.specs.declared.statements.Decl.{Decl}
@@ -15,12 +13,11 @@ use Rattle.away_trees.specs.declared.statements.Stmt.{Stmt}
 use Rattle.away_trees.specs.declared.statements.Stmt.TheBlock as b
 use Rattle.away_trees.specs.StatementAlgebra.{stmt_of, stmts_of, branches_of, else_of}
 use Rattle.away_names.specs.declared.note.Note.{Note}
-use Rattle.away_names.specs.Notes.{clean, joined, breaks, all_notes}
+use Rattle.away_names.specs.Notes.{clean, joined, breaks}
 use Rattle.away_typing.specs.Aggregates.{outside}
 use Rattle.away_typing.specs.Kinds.{fits}
 use Rattle.away_typing.specs.Trees.{kind_of, uses_of}
-use Rattle.sql_meaning.specs.Context.{Context, argument}
-use Rattle.sql_meaning.specs.Meaning.{value}
+use Rattle.sql_meaning.specs.Context.{argument}
 use Rattle.away_types.specs.declared.slots.Slot.{Slot}
 use Rattle.away_types.specs.CheckedFunctions.{IsChecked}
 use Rattle.away_types.specs.FunctionChecks.{asked_in, slot_types, function_note, head_note, types_note, body_of, slots_of}
@@ -28,7 +25,6 @@ use Rattle.away_types.specs.StatementTypes as checks
 use Rattle.away_types.specs.StatementTypes.{Asked, asked, maybe_asked, asked_of_slot, head_asked, asked_stmt}
 use Rattle.typed_values.specs.Arguments.{Params, Supplied, params_in}
 use Rattle.typed_values.specs.Sorts.{IsOf, Every}
-use Rattle.typed_values.specs.Surroundings.{Fit}
 use Rattle.typed_values.proofs.CleanNotes.{Clean, clean_parts, not_broken, test_fails, unbroken_clean}
 use Rattle.typed_values.proofs.KindRules.{fits_typed}
 use Rattle.typed_values.proofs.Lists.{every_append}
@@ -69,7 +65,7 @@ module _ (s : Schema) (slots : List Slot) (result : Ty) where
       let both = clean_parts (breaks 13 (not (fits t (kind_of e a.places)) || (uses_of e).limited)) (breaks 15 (outside (uses_of e)).misused) c in
       let fails = neither (not (fits t (kind_of e a.places))) (uses_of e).limited (test_fails 13 (not (fits t (kind_of e a.places)) || (uses_of e).limited) (omega arith) both.0) in
       λ cx v fit none d. fits_typed t (kind_of e a.places) v (not_false (fits t (kind_of e a.places)) fails.0)
-          (expr_holds e a.places cx fit (subst (λ args. Supplied args (params_in e)) (sym none) (none_supplied (params_in e))) v d)
+      (expr_holds e a.places cx fit (subst (λ args. Supplied args (params_in e)) (sym none) (none_supplied (params_in e))) v d)
 
   maybe_typed : (t : Ty) (o : Option Expr) → Clean (maybe_asked a t o) → AllGive (here.maybe t o)
   maybe_typed t None c = tt
@@ -137,10 +133,11 @@ module _ (s : Schema) (slots : List Slot) (result : Ty) where
         let note = joined (asked a Boolean test) (checks.all_by (stmts_of checks.asking body) a) in
         let more = branches_typed rest (joined acc note) c in
         let both = clean_parts acc note more.0 in
-        let arm = clean_parts (asked a Boolean test) (checks.all_by (stmts_of checks.asking body) a) both.1 in
-        (both.0,
-         every_append Gives (here.one Boolean test ++ values (here.all (stmts_of here.asking body))) (values (here.all (branches_of here.asking rest)))
-         (one_typed Boolean test arm.0, (stmts_typed body clean arm.1).1) more.1)
+        let arm = clean_parts (asked a Boolean test) (checks.all_by (stmts_of checks.asking body) a) both.1 in (
+          both.0,
+          every_append Gives (here.one Boolean test ++ values (here.all (stmts_of here.asking body))) (values (here.all (branches_of here.asking rest)))
+              (one_typed Boolean test arm.0, (stmts_typed body clean arm.1).1) more.1,
+        )
 
     else_typed : (o : b.Held-Stmt-If-1) → Clean (checks.maybe_by (else_of checks.asking o) a) → AllGive (values (here.other (else_of here.asking o)))
     else_typed b.None' c = tt

@@ -1,16 +1,14 @@
 -- Tables that fit a schema have the types of its columns, with a recursive table behind them and without.
-use Rattle.std.proofs.Common.{◌≡◌, refl, ℕ, suc, ◌<◌, arith, List, [], ◌∷◌, ◌++◌, map, length}
-use Rattle.std.specs.List.{All, AllZip}
+use Rattle.std.proofs.Common.{suc, arith, List, [], ◌∷◌, ◌++◌, map}
+use Rattle.std.specs.List.{AllZip}
 use Rattle.away_values.specs.declared.types.Ty.{Ty}
 use Rattle.away_values.specs.declared.values.Value.{Value}
 use Rattle.away_trees.specs.Fits.{FitsColumn, FitsTable, FitsSchema}
 use Rattle.away_trees.specs.declared.schemas.ColumnSchema.{ColumnSchema}
 use Rattle.away_trees.specs.declared.schemas.TableSchema.{TableSchema}
 use Rattle.away_trees.specs.declared.schemas.Schema.{Schema}
-use Rattle.away_typing.specs.Typing.{Places}
 use Rattle.away_typing.specs.Wholes.{types_in, column_types, over_tables}
 use Rattle.sql_meaning.specs.Context.{Rows, outermost}
-use Rattle.typed_values.specs.Sorts.{IsOf, Every}
 use Rattle.typed_values.specs.Surroundings.{IsRow, AreRows, AreTables, Fit}
 use Rattle.typed_values.proofs.KindRules.{sort_of}
 

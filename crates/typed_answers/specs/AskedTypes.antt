@@ -14,7 +14,7 @@ use Rattle.away_trees.specs.declared.statements.Stmt.TheOpen.{Stmt-F}
 use Rattle.away_trees.specs.declared.statements.Stmt.TheOpen as st
 use Rattle.away_trees.specs.StatementAlgebra.{StatementAlgebra, stmt_of}
 use Rattle.away_trees.specs.StatementEquations.{statement_algebra}
-use Rattle.sql_meaning.specs.Context.{Rows, Context}
+use Rattle.sql_meaning.specs.Context.{Context}
 use Rattle.sql_meaning.specs.Meaning.{value}
 use Rattle.away_types.specs.declared.slots.Slot.{Slot}
 use Rattle.away_types.specs.CheckedFunctions.{IsChecked}

@@ -1,2 +1,3 @@
 pub mod TypedAnswers
+pub mod Worked
 pub mod AskedTypes

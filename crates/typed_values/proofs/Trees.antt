@@ -28,7 +28,7 @@ use Rattle.typed_values.specs.Surroundings.{AreRows, IsFrame, IsOfGroup, Fit}
 use Rattle.typed_values.specs.TypedValues.{Holds}
 use Rattle.typed_values.proofs.Calls.{At, AllAt, OverRows, call_holds}
 use Rattle.typed_values.proofs.KindRules.{of_type_holds}
-use Rattle.typed_values.proofs.Lists.{every_left, every_right, zip_at, zipped}
+use Rattle.typed_values.proofs.Lists.{every_left, every_right, zipped}
 use Rattle.typed_values.proofs.Nodes as nodes
 use Rattle.typed_values.proofs.Operators.{typed_ok}
 use Rattle.typed_values.proofs.Places.{at_holds, rows_at, column_holds, fit_inside, fit_at_row, before_seen}

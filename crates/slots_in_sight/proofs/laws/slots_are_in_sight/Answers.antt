@@ -1,10 +1,10 @@
-use Rattle.std.proofs.Common.{◌≡◌, refl, ℕ, Bool, true, List, [], ◌∷◌}
+use Rattle.std.proofs.Common.{refl, ℕ, true, List, [], ◌∷◌}
 use Rattle.std.proofs.Math.Bool.{Bool-set}
 use Rattle.std.proofs.Math.Logic.{∥∥₁_elim}
 use Rattle.sql_meaning.specs.Reads.{Read, Slot, Param, Table, Outer, reads}
 use Rattle.typed_values.specs.Sorts.{Every}
 use Rattle.slots_in_sight.specs.Sight.{Sighted, sighted}
-use Rattle.slots_in_sight.specs.InSight.{is_among, IsSeen, ReadsInSight, AllInSight}
+use Rattle.slots_in_sight.specs.InSight.{is_among, IsSeen, ReadsInSight}
 use Rattle.slots_in_sight.proofs.Parameters.{of_some}
 use Rattle.slots_in_sight.proofs.laws.slots_are_in_sight.Goals as goal
 
