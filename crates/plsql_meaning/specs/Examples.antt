@@ -12,6 +12,7 @@ use Rattle.away_trees.specs.declared.queries.Expr.{Expr}
 use Rattle.away_trees.specs.declared.queries.Expr.TheVariants as expr
 use Rattle.away_trees.specs.declared.statements.Arm.{Arm}
 use Rattle.away_trees.specs.declared.statements.Decl.{Decl}
+use Rattle.away_trees.specs.declared.statements.Function.{Function}
 use Rattle.away_trees.specs.declared.statements.LoopKind.TheVariants as kind
 use Rattle.away_trees.specs.declared.statements.Raised.TheVariants as raised
 use Rattle.away_trees.specs.declared.statements.Stmt.{Stmt}
@@ -57,7 +58,7 @@ answer_at body turns =
 
 abbrev pub called : Stmt → List Bool → Rows → Value → ℕ → Answer
 called body not_null rows a turns =
-    let f = record { name = []; strict = true; params = ([], ty.Bigint) ∷ []; result = ty.Bigint; body = body } in
+    let f : Function = record { name = []; strict = true; params = ([], ty.Bigint) ∷ []; result = ty.Bigint; body = body } in
     function_answer (over (rows ∷ []) not_null) f (a ∷ []) turns
 
 -- DECLARE c bigint := 0; BEGIN FOR i IN first..last BY by LOOP c := c + i; END LOOP; RETURN c; END

@@ -262,14 +262,7 @@ pub(crate) fn enter<'a>(
             strict,
             targets,
             query,
-        } => select_into(
-            alloc,
-            setting,
-            env,
-            *strict,
-            targets.as_slice(),
-            query,
-        ),
+        } => select_into(alloc, setting, env, *strict, targets.as_slice(), query),
         Stmt::Nothing => Ok(Signal::Ends(Way::Normal)),
     }
 }

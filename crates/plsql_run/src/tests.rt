@@ -59,7 +59,12 @@ fn only(rt: &(impl Abort + AllocGlobal), s: Stmt) -> Function {
 }
 
 /// FOR i IN first..last, with an optional step.
-fn counted(rt: &(impl Abort + AllocGlobal), first: Expr, last: Expr, step: Option<Expr>) -> LoopKind {
+fn counted(
+    rt: &(impl Abort + AllocGlobal),
+    first: Expr,
+    last: Expr,
+    step: Option<Expr>,
+) -> LoopKind {
     LoopKind::Count {
         var: named(rt, "i"),
         reverse: false,
@@ -71,7 +76,11 @@ fn counted(rt: &(impl Abort + AllocGlobal), first: Expr, last: Expr, step: Optio
 
 /// DECLARE c := 0; BEGIN FOR i IN 1..last LOOP IF c >= 0 THEN c := c + i; END IF; END LOOP; RETURN c; END
 fn summing(rt: &(impl Abort + AllocGlobal), last: i64) -> Function {
-    let add = assign(rt, 0, arithmetic(rt, IntOp::Add, Expr::Slot(0), Expr::Slot(1)));
+    let add = assign(
+        rt,
+        0,
+        arithmetic(rt, IntOp::Add, Expr::Slot(0), Expr::Slot(1)),
+    );
     let test = comparison(rt, CmpOp::Ge, Expr::Slot(0), Expr::Int(0));
     let choice = Stmt::If(one(rt, arm(test, one(rt, add))), None);
     let each = repeated(
@@ -80,7 +89,11 @@ fn summing(rt: &(impl Abort + AllocGlobal), last: i64) -> Function {
         one(rt, choice),
     );
     let decls = one(rt, declared(rt, Some(Expr::Int(0))));
-    function(rt, 0, block(decls, with(rt, one(rt, each), Stmt::Return(Expr::Slot(0)))))
+    function(
+        rt,
+        0,
+        block(decls, with(rt, one(rt, each), Stmt::Return(Expr::Slot(0)))),
+    )
 }
 
 #[test]
@@ -99,7 +112,11 @@ fn a_test_is_evaluated_before_its_turn(rt: HostRuntime) {
         arithmetic(&rt, IntOp::Div, Expr::Int(1), Expr::Slot(0)),
         Expr::Int(1),
     );
-    let each = repeated(None, LoopKind::While(test), one(&rt, Stmt::Exit(None, None)));
+    let each = repeated(
+        None,
+        LoopKind::While(test),
+        one(&rt, Stmt::Exit(None, None)),
+    );
     let body = with(&rt, one(&rt, each), Stmt::Return(Expr::Slot(0)));
     let f = function(&rt, 1, block(none(&rt), body));
     assert!(rt; answers(&rt, &f, &[], &[Value::Int(0)], 0, "22012"));

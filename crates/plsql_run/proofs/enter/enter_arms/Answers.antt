@@ -66,11 +66,10 @@ loop-i-preserved c =
     let i = c.loop-i.i in
     let arm = c.index-arms-i.result in
     let here = arm_layout_at c.as_slice-layouts.result.now arms i c.index-layouts-i.result arm (c.as_slice-layouts.ensures ∙ c.requires.arms_laid) c.index-layouts-i.is c.index-arms-i.is c.loop-i-test.true in
-    let told = arm_slots_are c.index-layouts-i.result arm here in
-    (
+    let told = arm_slots_are c.index-layouts-i.result arm here in (
       omega (arith, c.loop-i.invariant.0, told, slots_within arms i arm c.index-arms-i.is c.loop-i-test.true),
       λ n. arm_passed set other arms i arm c.index-arms-i.is c.loop-i-test.true c.loop-i.next c.args.env.now c.in_ok-v.v (c.loop-i.next + slots c.index-layouts-i.result) c.in_ok-v.ensures (sym c.is_true.ensures ∙ c.if-is_true.false) (ap (λ k. c.loop-i.next + k) told) n
-      ∙ c.loop-i.invariant.1 n,
+          ∙ c.loop-i.invariant.1 n,
       c.loop-i.invariant.2,
     )
 

@@ -14,7 +14,7 @@ returns-in_err-v-clause-runs c =
     let set = meant c.args.setting.now in rw (p.1, p.2) (fails_as (λ n. unwound set c.args.stack.now (turning (while test) c.args.label.now (body_of set c.args.body) tt c.args.env.now n)) (test c.args.env.now) c.in_err-v.field-0.0 c.in_err-v.ensures (while_fails set c.args.stack.now c.args.label.now test c.args.body c.args.env.now))
 
 pub returns-clause-runs : goal.returns-clause-runs
-returns-clause-runs c = 
+returns-clause-runs c =
     let set = meant c.args.setting.now in
     let test = (meant c.args.setting.now).value c.args.test.now in
     let env = c.args.env.now in
