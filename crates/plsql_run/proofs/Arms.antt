@@ -1,18 +1,17 @@
 -- IF and CASE, arm by arm.
-use Rattle.std.proofs.Common.{◌≡◌, refl, sym, ap, ◌∙◌, subst, ℕ, suc, ◌+◌, ◌*◌, ◌<◌, ◌≤◌, ◌^◌, Bool, true, false, List, [], ◌∷◌, map, length, drop, sum_by, slice_index_or, Option, Some, None, option_map, Result, Ok, Err, arith}
+use Rattle.std.proofs.Common.{◌≡◌, sym, ap, ◌∙◌, ℕ, suc, ◌+◌, ◌<◌, ◌≤◌, true, false, List, ◌∷◌, map, length, drop, sum_by, slice_index_or, Result, Ok, Err, arith}
 use Rattle.std.proofs.Math.Seq.{drop-cons}
 use Rattle.std.proofs.lemmas.List.{drop_all}
 use Rattle.std.proofs.lemmas.List.Sums.{sum_by-cons, sum_by-take-drop}
 use Rattle.away_values.specs.declared.values.Value.{Value}
 use Rattle.away_values.specs.declared.values.Class.{Class}
 use Rattle.away_values.specs.declared.errors.OpError.{OpError}
-use Rattle.away_trees.specs.declared.statements.Stmt.{Stmt}
 use Rattle.away_trees.specs.declared.statements.Arm.{Arm}
 use Rattle.away_trees.specs.StatementAlgebra.{branch_of}
 use Rattle.away_values.specs.Operators.{is_true}
 use Rattle.away_trees.specs.Count.{nodes_of, nodes_of_arm}
 use Rattle.away_trees.proofs.CountLemmas.{arm_nodes}
-use Rattle.plsql_meaning.specs.Outcomes.{Env, Outcome, faults, Done, Step}
+use Rattle.plsql_meaning.specs.Outcomes.{Env, faults, Step}
 use Rattle.plsql_meaning.specs.Statements.{Setting, in_arms, in_row, meanings, running, choose, pick, row_vars}
 use Rattle.plsql_meaning.specs.Slots.{slots_of, slots_of_arm}
 use Rattle.plsql_meaning.proofs.Slots.{all_take, arm_slots}

@@ -1,5 +1,5 @@
 -- The layout of a statement, by its parts, tells the slots that it takes.
-use Rattle.std.proofs.Common.{◌≡◌, refl, sym, ap, ◌∙◌, ℕ, ◌+◌, ◌<◌, zero, suc, Bool, List, [], ◌∷◌, length, map, sum, sum_by, slice_index_or, take, drop, ◌-◌, Option, Some, None, arith}
+use Rattle.std.proofs.Common.{◌≡◌, refl, sym, ap, ◌∙◌, ℕ, ◌+◌, ◌<◌, zero, suc, Bool, List, [], ◌∷◌, length, sum, sum_by, slice_index_or, take, drop, ◌-◌, Option, Some, None, arith}
 use Rattle.std.proofs.lemmas.List.{take_all}
 use Rattle.std.proofs.lemmas.List.Sums.{sum_by-cons}
 use Rattle.away_trees.specs.declared.queries.Expr.{Expr}
@@ -11,9 +11,9 @@ use Rattle.away_trees.specs.declared.statements.Raised.{Raised}
 use Rattle.away_trees.specs.declared.statements.Stmt.{Stmt}
 use Rattle.away_trees.specs.declared.statements.Stmt.TheBlock as b
 use Rattle.away_trees.specs.declared.statements.Stmt.TheVariants as stmt
-use Rattle.away_trees.specs.StatementAlgebra.{stmt_of, stmts_of, branches_of, branch_of, else_of}
+use Rattle.away_trees.specs.StatementAlgebra.{stmt_of, stmts_of, branches_of, else_of}
 use Rattle.away_trees.proofs.StatementEquations.{of_block, of_loop, of_if, of_cases}
-use Rattle.plsql_meaning.specs.Slots.{else_slots, slot_counting, slots_of, slots_of_arm}
+use Rattle.plsql_meaning.specs.Slots.{else_slots, slot_counting, slots_of}
 use Rattle.plsql_meaning.specs.Statements.{kind_vars}
 use Rattle.plsql_run.specs.declared.layout.Layout.{Layout}
 use Rattle.plsql_run.specs.declared.layout.Layout.TheViews.{out-Layout, out-roll-Layout}

@@ -1,5 +1,5 @@
 -- The class that RAISE raises, by what the text is.
-use Rattle.std.proofs.Common.{◌≡◌, refl, ℕ, Bool, true, false, if◌then◌else◌, List, Option, Some, None, codes}
+use Rattle.std.proofs.Common.{◌≡◌, refl, ℕ, Bool, true, false, if◌then◌else◌, List, Option, Some, None}
 use Rattle.away_values.specs.declared.values.Class.{Class}
 use Rattle.away_values.specs.Classes.{is_class}
 use Rattle.away_values.specs.Results.{class}

@@ -1,9 +1,9 @@
 -- Where a whole run stands between two turns.
-use Rattle.std.proofs.Common.{◌≡◌, refl, sym, ap, ◌∙◌, subst, ℕ, zero, suc, List, [], ◌∷◌, Result, Ok, Err}
+use Rattle.std.proofs.Common.{◌≡◌, refl, sym, ap, ◌∙◌, subst, ℕ, suc, List, [], Ok}
 use Rattle.away_values.specs.declared.errors.OpError.{OpError}
 use Rattle.away_values.specs.declared.errors.OpError.TheVariants as error
 use Rattle.away_values.specs.declared.values.Answer.TheVariants as answer
-use Rattle.plsql_meaning.specs.Outcomes.{Env, Outcome, more, normal, returns, faults, Done, done}
+use Rattle.plsql_meaning.specs.Outcomes.{Env, more, normal, returns, faults, Done, done}
 use Rattle.plsql_meaning.specs.Loops.{taken}
 use Rattle.plsql_meaning.specs.Functions.{answer_of}
 use Rattle.plsql_meaning.specs.Statements.{Setting}

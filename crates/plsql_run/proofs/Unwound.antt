@@ -1,15 +1,13 @@
 -- What a stack makes of an end.
-use Rattle.std.proofs.Common.{◌≡◌, slice_set, refl, sym, ap, ◌∙◌, subst, ℕ, zero, suc, ◌+◌, Bool, true, false, List, [], ◌∷◌, ◌++◌, map, Option, Some, None, Result, Ok, Err}
+use Rattle.std.proofs.Common.{◌≡◌, slice_set, refl, sym, ap, ◌∙◌, subst, ℕ, zero, suc, true, List, [], ◌∷◌, ◌++◌, Some, Result, Ok, Err}
 use Rattle.away_values.specs.declared.values.Value.{Value}
 use Rattle.away_values.specs.declared.values.Class.{Class}
-use Rattle.away_trees.specs.declared.queries.Expr.{Expr}
-use Rattle.away_trees.specs.declared.statements.Stmt.{Stmt}
 use Rattle.away_values.specs.Operators.{is_true}
 use Rattle.away_values.specs.Results.{Or, Answers, mapped}
-use Rattle.plsql_meaning.specs.Outcomes.{Env, Label, Outcome, normal, exits, continues, returns, faults, more, Done, done, Step, and_then, close}
-use Rattle.plsql_meaning.specs.Loops.{Turning, taken, started, finished, turning, always, while, going, reaches}
-use Rattle.plsql_meaning.specs.Statements.{Setting, in_row, meanings}
-use Rattle.plsql_meaning.proofs.Spends.{Spends, list_spends, a_turn}
+use Rattle.plsql_meaning.specs.Outcomes.{Env, Label, Outcome, normal, exits, continues, returns, faults, more, Done, done, Step, and_then}
+use Rattle.plsql_meaning.specs.Loops.{Turning, taken, started, finished, turning, while, going, reaches}
+use Rattle.plsql_meaning.specs.Statements.{Setting}
+use Rattle.plsql_meaning.proofs.Spends.{list_spends, a_turn}
 use Rattle.plsql_run.specs.Places.{Place}
 use Rattle.plsql_run.specs.declared.frames.Counting.{Counting}
 use Rattle.plsql_run.specs.declared.frames.Frame.{Frame}

@@ -1,7 +1,6 @@
 -- What the rest of a run answers, by the stack.
-use Rattle.std.specs.Prelude.{◌≡◌, ◌+◌, ◌*◌, sum_by, ℕ, zero, suc, Bool, true, false, pos, List, [], ◌∷◌, map, Option, Some, None, option_map, Result, Ok, Err}
+use Rattle.std.specs.Prelude.{◌≡◌, ◌+◌, ◌*◌, sum_by, ℕ, List, [], ◌∷◌, map, Option, Some, None, option_map, Result, Ok, Err}
 use Rattle.away_values.specs.declared.values.Value.{Value}
-use Rattle.away_values.specs.declared.values.Value.TheVariants as val
 use Rattle.away_values.specs.declared.errors.OpError.{OpError}
 use Rattle.away_values.specs.declared.errors.OpError.TheVariants as error
 use Rattle.away_values.specs.declared.values.Answer.{Answer}
@@ -10,8 +9,8 @@ use Rattle.away_trees.specs.declared.statements.Arm.{Arm}
 use Rattle.away_trees.specs.declared.statements.Stmt.{Stmt}
 use Rattle.away_trees.specs.StatementAlgebra.{branch_of}
 use Rattle.away_trees.specs.Count.{nodes_of}
-use Rattle.plsql_meaning.specs.Outcomes.{Env, Label, Outcome, normal, exits, continues, returns, faults, more, Done, done, Step, and_then, close}
-use Rattle.plsql_meaning.specs.Loops.{Turning, taken, verdict, Verdict, again, leave, finished, turning, always, while, counts}
+use Rattle.plsql_meaning.specs.Outcomes.{Env, Outcome, normal, exits, continues, returns, faults, Done, done, Step, and_then, close}
+use Rattle.plsql_meaning.specs.Loops.{Turning, taken, Verdict, again, leave, finished, turning, always, while, counts}
 use Rattle.plsql_meaning.specs.Statements.{Setting, in_arms, in_else, in_row, meanings, running}
 use Rattle.plsql_meaning.specs.Functions.{answer_of}
 use Rattle.plsql_run.specs.Places.{Place}

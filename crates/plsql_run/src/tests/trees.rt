@@ -1,7 +1,7 @@
 //! Small resolved functions for tests. A test that finds no memory stops.
 
 use away_trees::{Arm, Col, Decl, Expr, FromItem, Function, Item, LoopKind, Select, Source, Stmt};
-use away_values::{ChainOp, CmpOp, IntOp, Name, Table, Tables, Ty, Value, name, word};
+use away_values::{ChainOp, CmpOp, IntOp, Name, Table, Tables, Ty, Value, Word, name, word};
 use sqlite_items::{Boxed, Items};
 use std::process::Abort;
 
@@ -10,9 +10,9 @@ pub(crate) fn named(rt: &(impl Abort + AllocGlobal), text: &str) -> Name {
     made.expect(rt, "a name")
 }
 
-pub(crate) fn text(rt: &(impl Abort + AllocGlobal), text: &str) -> Value {
+pub(crate) fn text(rt: &(impl Abort + AllocGlobal), text: &str) -> Word {
     let made = word(rt.alloc(), text).expect(rt, "memory");
-    Value::Text(made.expect(rt, "a text"))
+    made.expect(rt, "a text")
 }
 
 pub(crate) fn none<T>(rt: &(impl Abort + AllocGlobal)) -> Items<T> {

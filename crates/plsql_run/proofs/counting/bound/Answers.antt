@@ -1,4 +1,4 @@
-use Rattle.std.proofs.Common.{◌≡◌, sym, subst}
+use Rattle.std.proofs.Common.{sym, subst}
 use Rattle.plsql_meaning.specs.Statements.{with_bound}
 use Rattle.plsql_run.specs.Continues.{Passes}
 use Rattle.plsql_run.proofs.counting.bound.Goals as goal

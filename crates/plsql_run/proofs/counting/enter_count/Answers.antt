@@ -1,11 +1,11 @@
-use Rattle.std.proofs.Common.{◌≡◌, sym, ap, subst, ◌∙◌, ◌+◌, Bool, List, Some, ℕ}
+use Rattle.std.proofs.Common.{sym, ap, ◌∙◌}
 use Rattle.std.proofs.lemmas.Result.{err_from_is_err_and}
 use Rattle.away_values.specs.declared.values.Value.{Value}
 use Rattle.plsql_meaning.specs.Outcomes.{Step}
 use Rattle.plsql_meaning.specs.Loops.{turning, counts}
 use Rattle.plsql_meaning.specs.Statements.{with_bound, with_step}
 use Rattle.plsql_run.specs.Settings.{meant}
-use Rattle.plsql_run.specs.Continues.{body_of, unwound, Fails}
+use Rattle.plsql_run.specs.Continues.{body_of, unwound}
 use Rattle.plsql_run.proofs.Unwound.{fails_under, goes_as}
 use Rattle.plsql_run.proofs.Passing.{fails_like}
 use Rattle.plsql_run.proofs.counting.enter_count.Goals as goal

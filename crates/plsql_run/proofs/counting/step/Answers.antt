@@ -1,11 +1,10 @@
-use Rattle.std.proofs.Common.{◌≡◌, sym, subst, Bool, List, Some, pos}
+use Rattle.std.proofs.Common.{pos}
 use Rattle.std.proofs.lemmas.Result.{err_from_is_err_and}
 use Rattle.away_values.specs.declared.values.Value.TheVariants as val
 use Rattle.away_values.specs.declared.operators.CmpOp.TheVariants as cmp
 use Rattle.away_values.specs.Operators.{compare, is_true}
-use Rattle.plsql_meaning.specs.Statements.{with_bound, with_step, judged}
+use Rattle.plsql_meaning.specs.Statements.{with_bound, judged}
 use Rattle.plsql_run.specs.Settings.{meant}
-use Rattle.plsql_run.specs.Continues.{Fails, Passes}
 use Rattle.plsql_run.proofs.Passing.{passes_then}
 use Rattle.plsql_run.proofs.counting.step.Goals as goal
 

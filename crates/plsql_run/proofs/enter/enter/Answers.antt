@@ -1,18 +1,17 @@
-use Rattle.std.proofs.Common.{arith, ◌≡◌, refl, sym, ap, ◌∙◌, subst, ℕ, ◌+◌, ◌*◌, ◌<◌, List, length, map, option_map, sum_by, [], None, Some}
-use Rattle.away_trees.specs.declared.statements.Stmt.TheOpen as st
-use Rattle.away_trees.specs.StatementAlgebra.{stmt_of, branch_of}
-use Rattle.away_trees.specs.Count.{nodes_of, nodes_of_arm, nodes_of_else}
+use Rattle.std.proofs.Common.{arith, sym, ap, ◌∙◌, subst, ◌+◌, length, map, option_map, sum_by, [], None}
+use Rattle.away_trees.specs.StatementAlgebra.{branch_of}
+use Rattle.away_trees.specs.Count.{nodes_of, nodes_of_arm}
 use Rattle.away_trees.proofs.StatementEquations.{of_block, of_if, of_cases, of_loop}
 use Rattle.away_trees.proofs.CountLemmas.{block_nodes, if_nodes, cases_nodes, loop_nodes, assign_nodes, exit_nodes, continue_nodes, return_nodes, raise_nodes, into_nodes, nothing_nodes}
 use Rattle.plsql_meaning.specs.Outcomes.{close, and_then, done, faults, case_not_found, exits, continues}
 use Rattle.plsql_meaning.specs.Statements.{meaning, meanings, running, declare, in_row, in_arms, in_else, loop, body_at, kind_vars, assign, jump, give, into, class_of}
-use Rattle.plsql_meaning.specs.Slots.{slots_of, slots_of_arm, slots_of_else}
+use Rattle.plsql_meaning.specs.Slots.{slots_of, slots_of_arm}
 use Rattle.plsql_meaning.proofs.Slots.{block_slots, if_slots, cases_slots, loop_slots}
-use Rattle.plsql_run.specs.Continues.{Goes, Ended, load, lacking, unwound}
+use Rattle.plsql_run.specs.Continues.{Ended, load, lacking, unwound}
 use Rattle.plsql_run.specs.Settings.{meant}
 use Rattle.plsql_run.specs.Layouts.{arm_layouts, layout_of, layouts_of, layouts_of_else}
 use Rattle.plsql_run.proofs.Layouts.{block_layout, cases_layout, if_layout, inside_of, loop_layout, other_of}
-use Rattle.plsql_run.proofs.Unwound.{goes_as, ended_goes, passes}
+use Rattle.plsql_run.proofs.Unwound.{goes_as, ended_goes}
 use Rattle.plsql_run.proofs.Arms.{if_ends, ends_anyway}
 use Rattle.plsql_run.proofs.enter.enter.Goals as goal
 

@@ -1,10 +1,9 @@
-use Rattle.std.proofs.Common.{◌≡◌, sym, ap, ◌∙◌, ◌+◌, length}
+use Rattle.std.proofs.Common.{sym, ap, ◌∙◌}
 use Rattle.std.proofs.lemmas.Result.{err_from_is_err_and}
 use Rattle.plsql_meaning.specs.Outcomes.{close, and_then, done, normal}
 use Rattle.plsql_meaning.specs.Statements.{declare}
 use Rattle.plsql_run.specs.declared.frames.Frame.TheVariants as frame
 use Rattle.plsql_run.specs.Continues.{body_of, resumed, unwound}
-use Rattle.plsql_run.specs.Places.{Place}
 use Rattle.plsql_run.specs.Settings.{meant}
 use Rattle.plsql_run.proofs.Unwound.{unwound_on, fails_under, fails_resumed}
 use Rattle.plsql_run.proofs.enter.enter_block.Goals as goal

@@ -1,4 +1,4 @@
-use Rattle.std.proofs.Common.{arith, ◌≡◌, sym, ap, ◌∙◌, ◌+◌, option_map, sum_by, Some}
+use Rattle.std.proofs.Common.{arith, sym, ap, ◌∙◌, option_map, sum_by}
 use Rattle.away_trees.specs.Count.{nodes_of, nodes_of_else}
 use Rattle.away_trees.proofs.CountLemmas.{else_nodes}
 use Rattle.plsql_meaning.specs.Outcomes.{faults}

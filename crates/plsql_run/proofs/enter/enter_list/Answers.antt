@@ -1,4 +1,3 @@
-use Rattle.std.proofs.Common.{◌≡◌}
 use Rattle.plsql_meaning.specs.Outcomes.{done, normal}
 use Rattle.plsql_run.specs.declared.frames.Frame.TheVariants as frame
 use Rattle.plsql_run.proofs.Unwound.{unwound_on}

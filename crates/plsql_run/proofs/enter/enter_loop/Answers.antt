@@ -1,7 +1,7 @@
-use Rattle.std.proofs.Common.{◌≡◌, sym, ap, ◌+◌}
+use Rattle.std.proofs.Common.{sym, ap}
 use Rattle.plsql_meaning.specs.Statements.{loop, in_row, meanings, body_at}
 use Rattle.plsql_run.specs.Settings.{meant}
-use Rattle.plsql_run.specs.Continues.{Goes, unwound}
+use Rattle.plsql_run.specs.Continues.{unwound}
 use Rattle.plsql_run.proofs.Unwound.{goes_as}
 use Rattle.plsql_run.proofs.enter.enter_loop.Goals as goal
 

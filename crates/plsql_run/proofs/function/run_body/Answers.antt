@@ -1,6 +1,5 @@
-use Rattle.std.proofs.Common.{◌≡◌, ap, subst, ℕ, Ok}
+use Rattle.std.proofs.Common.{ap}
 use Rattle.std.proofs.lemmas.Result.{err_from_is_err_and}
-use Rattle.plsql_meaning.specs.Outcomes.{Done}
 use Rattle.plsql_meaning.specs.Statements.{meaning}
 use Rattle.plsql_run.specs.Settings.{meant}
 use Rattle.plsql_run.specs.Continues.{unwound}

@@ -1,4 +1,3 @@
-use Rattle.std.proofs.Common.{◌≡◌, ℕ}
 use Rattle.plsql_meaning.specs.Statements.{meaning}
 use Rattle.plsql_run.specs.Continues.{Stands}
 use Rattle.plsql_run.specs.Settings.{meant}

@@ -1,11 +1,8 @@
-use Rattle.std.proofs.Common.{arith, ◌≡◌, subst, sym, ap, ◌∙◌, ℕ, ◌++◌, replicate, length, if◌then◌else◌, ◌&&◌, false, List}
-use Rattle.away_values.specs.declared.values.Value.{Value}
+use Rattle.std.proofs.Common.{arith, ◌≡◌, subst, sym, ap, ◌∙◌, ◌++◌, replicate, length, if◌then◌else◌}
 use Rattle.away_values.specs.declared.values.Value.TheVariants as val
 use Rattle.away_values.specs.declared.values.Answer.TheVariants as answer
 use Rattle.plsql_meaning.specs.Functions.{answer_of}
-use Rattle.plsql_meaning.specs.Outcomes.{faults}
 use Rattle.plsql_meaning.specs.Statements.{meaning}
-use Rattle.plsql_meaning.specs.Slots.{slots_of}
 use Rattle.plsql_meaning.proofs.Slots.{takes}
 use Rattle.plsql_run.specs.Continues.{Fails}
 use Rattle.plsql_run.specs.Layouts.{slots}

@@ -1,4 +1,4 @@
-use Rattle.std.proofs.Common.{◌≡◌, subst, ℕ, Ok}
+use Rattle.std.proofs.Common.{subst, ℕ, Ok}
 use Rattle.plsql_meaning.specs.Outcomes.{Done}
 use Rattle.plsql_meaning.specs.Statements.{meaning}
 use Rattle.plsql_run.specs.Settings.{meant}

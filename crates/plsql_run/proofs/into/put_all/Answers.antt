@@ -1,4 +1,4 @@
-use Rattle.std.proofs.Common.{◌≡◌, ◌∙◌, ap, slice_index_or}
+use Rattle.std.proofs.Common.{◌∙◌, ap, slice_index_or}
 use Rattle.plsql_run.specs.Settings.{meant}
 use Rattle.plsql_run.proofs.Targets.{target_put}
 use Rattle.plsql_run.proofs.into.put_all.Goals as goal

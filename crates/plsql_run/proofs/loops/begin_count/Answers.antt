@@ -1,4 +1,4 @@
-use Rattle.std.proofs.Common.{slice_set, ◌≡◌, sym, ap, ◌∙◌, rules}
+use Rattle.std.proofs.Common.{slice_set, sym, ap, ◌∙◌}
 use Rattle.away_values.specs.Operators.{is_true}
 use Rattle.plsql_meaning.specs.Loops.{taken}
 use Rattle.plsql_run.specs.declared.frames.Frame.TheVariants as frame

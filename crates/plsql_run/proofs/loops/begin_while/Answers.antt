@@ -1,4 +1,4 @@
-use Rattle.std.proofs.Common.{◌≡◌, sym, ap, ◌∙◌, rules}
+use Rattle.std.proofs.Common.{sym, ap, ◌∙◌}
 use Rattle.std.proofs.lemmas.Result.{err_from_is_err_and}
 use Rattle.plsql_meaning.specs.Loops.{taken, turning, while}
 use Rattle.plsql_run.specs.declared.frames.Frame.TheVariants as frame

@@ -1,4 +1,4 @@
-use Rattle.std.proofs.Common.{◌≡◌, sym, ap, ◌∙◌, Ok}
+use Rattle.std.proofs.Common.{sym, ap, ◌∙◌, Ok}
 use Rattle.plsql_meaning.specs.Outcomes.{faults}
 use Rattle.plsql_meaning.specs.Loops.{moved, turning}
 use Rattle.plsql_run.specs.Continues.{body_of, count_of, unwound}

@@ -1,4 +1,4 @@
-use Rattle.std.proofs.Common.{◌≡◌, sym, ap, ◌∙◌, Some, Ok}
+use Rattle.std.proofs.Common.{sym, ap, ◌∙◌, Some, Ok}
 use Rattle.plsql_meaning.specs.Loops.{always, ended, turning}
 use Rattle.plsql_meaning.specs.Outcomes.{done}
 use Rattle.plsql_run.specs.Continues.{body_of, count_of, outcome, resumed, told, unwound}

@@ -1,4 +1,4 @@
-use Rattle.std.proofs.Common.{arith, ◌≡◌, sym, ap, ◌∙◌, ◌+◌, sum_by, List, [], ◌∷◌, ◌++◌}
+use Rattle.std.proofs.Common.{arith, sym, ap, ◌∙◌, ◌+◌, sum_by}
 use Rattle.std.proofs.lemmas.List.Sums.{sum_by-cons}
 use Rattle.plsql_meaning.specs.Outcomes.{and_then}
 use Rattle.plsql_meaning.specs.Slots.{slots_of}

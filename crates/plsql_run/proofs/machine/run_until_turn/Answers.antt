@@ -1,4 +1,4 @@
-use Rattle.std.proofs.Common.{◌≡◌, sym, ap, ◌∙◌, subst, ℕ, Ok, Err}
+use Rattle.std.proofs.Common.{◌≡◌, sym, ◌∙◌, subst, ℕ, Ok, Err}
 use Rattle.std.proofs.lemmas.Result.{err_from_is_err_and}
 use Rattle.plsql_meaning.specs.Outcomes.{Done, done}
 use Rattle.plsql_run.specs.declared.frames.Signal.TheVariants as signal
