@@ -1,11 +1,11 @@
 -- How the values of arguments grow by one word.
 use Rattle.std.proofs.Common.{◌≡◌, refl, sym, ◌∙◌, ap, ℕ, zero, suc, ◌+◌, ◌<◌, ◌≤◌, arith, get_or, drop, List, [], ◌∷◌, ◌++◌, length, map, append_assoc}
-use Rattle.std.specs.Prelude.{Option, Some, None, option_map}
+use Rattle.std.specs.Prelude.{Option, Some, None, option_map, if◌then◌else◌}
 use Rattle.std.specs.Option.{option_and_then}
-use Rattle.std.proofs.lemmas.List.{append-nil}
+use Rattle.std.proofs.lemmas.List.{append-nil, length-map}
 use Rattle.away_values.specs.declared.types.Ty.{Ty}
 use Rattle.away_values.specs.declared.values.Value.{Value}
-use Rattle.away_top.specs.Arguments.{argument_of, type_of, values_from}
+use Rattle.away_top.specs.Arguments.{are_enough, argument_of, type_of, values_from, values_of}
 
 suc-add-one : (i : ℕ) → suc i + 1 ≡ suc (i + 1)
 suc-add-one i = omega arith
@@ -75,3 +75,9 @@ pub values_end : {A : Type 0} (f : A → List ℕ) (params : List (ℕ × Ty)) (
 unfolding values_from
 values_end f params words i done past h =
     h.rest ∙ ap (λ ws. behind done (values_from params (i + 1) ws)) (drop_past_image f words i past) ∙ ap Some (append-nil done)
+
+-- a query's arguments are judged by their number first
+pub values_are : {A : Type 0} (f : A → List ℕ) (params : List (ℕ × Ty)) (words : List A)
+    → values_of params (map f words) ≡ (if are_enough params (length words) then values_from params 1 (map f words) else None)
+unfolding values_of
+values_are f params words = ap (λ n. if are_enough params n then values_from params 1 (map f words) else None) (length-map words f)

@@ -19,9 +19,9 @@ pub record MatchedTo (params : Params) (words : List (List ℕ)) (i : ℕ) (done
 pub match_begins : (params : Params) (words : List (List ℕ)) → MatchedTo params words 0 []
 match_begins params words = record { rest = none_yet (values_for params words) }
 
-none_behind : {A B : Type 0} (o : Option A) {g : A → B → B} {left : Option B} → left ≡ None → option_and_then (λ v. option_map (g v) left) o ≡ None
-none_behind None e = refl
-none_behind {g = g} (Some a) e = ap (option_map (g a)) e
+none_behind : {A B : Type 0} (o : Option A) (g : A → B → B) (left : Option B) → left ≡ None → option_and_then (λ v. option_map (g v) left) o ≡ None
+none_behind None g left e = refl
+none_behind (Some a) g left e = ap (option_map (g a)) e
 
 -- there is a word for each parameter, or none fits
 pub other_count : {A : Type 0} (f : A → List ℕ) (params : Params) (words : List A) → ¬ (length params ≡ length words) → values_for params (map f words) ≡ None
@@ -29,7 +29,7 @@ unfolding values_for
 other_count f [] [] other = absurd (other refl)
 other_count f [] (w ∷ ws) other = refl
 other_count f (p ∷ ps) [] other = refl
-other_count f (p ∷ ps) (w ∷ ws) other = none_behind (value_of p.1 (f w)) (other_count f ps ws (λ same. other (ap suc same)))
+other_count f (p ∷ ps) (w ∷ ws) other = none_behind (value_of p.1 (f w)) (λ v vs. v ∷ vs) (values_for ps (map f ws)) (other_count f ps ws (λ same. other (ap suc same)))
 
 module _ {A : Type 0} (f : A → List ℕ) (params : Params) (words : List A) (i : ℕ) (done : List Value) (p : List ℕ × Ty) (word : A)
     (param_inside : i < length params) (param_at : p ≡ get_or params i p) (inside : i < length words) (at : word ≡ get_or words i word) (h : MatchedTo params (map f words) i done) where

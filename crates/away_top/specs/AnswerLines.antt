@@ -1,7 +1,7 @@
 -- The status and the line that tell an answer.
 use Rattle.std.specs.Prelude.{ℕ, ◌++◌, true, false, List, codes}
 use Rattle.std.specs.Fmt.{decimal, signed_decimal}
-use Rattle.std.specs.Char.{encode_utf8_all}
+use Rattle.std.specs.Str.{encode_utf8_all}
 use Rattle.away_values.specs.declared.values.Value.{Value}
 use Rattle.away_values.specs.declared.values.Value.TheVariants as val
 use Rattle.away_values.specs.declared.values.Answer.{Answer}
