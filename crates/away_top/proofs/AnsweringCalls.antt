@@ -51,10 +51,10 @@ module _ {D : Type 0} (F : Files D) where
       → Follows F now (with_arguments most s f dir args) after (ended status output) → CallTold (F.held now) dir s f args most status output
   call_told now after dir s f args most status output late h =
       let g = gone F now after (spelled (values_for f.function.params args)) (called_course most s f dir) (ended status output) late (silent_spelled (values_for f.function.params args)) h in
-      let spelt = was_spelled now g.middle (values_for f.function.params args) g.given g.first in
+      let spelt = was_spelled F now g.middle (values_for f.function.params args) g.given g.first in
       let rest = subst (λ d. Follows F d (called_course most s f dir g.given) after (ended status output)) spelt.same g.rest in
       let t = gone F now after (tables_course dir s.tables) (λ tables. ends (Tells (answers f.function (not_nulls f.slots) tables g.given most))) (ended status output) late (silent_tables dir [] s.tables) rest in
-      let were = tables_read now t.middle dir [] s.tables t.given t.first in
+      let were = tables_read F now t.middle dir [] s.tables t.given t.first in
       record {
         values = g.given;
         arguments_are = spelt.is;
@@ -67,10 +67,10 @@ module _ {D : Type 0} (F : Files D) where
       → Follows F old (fn_course bound schema func dir args) new (ended status output) → IsCalled (F.held old) bound schema func dir args status output
   answered old new bound schema func dir args status output late h =
       let b = gone F old new (spelled (bound_of bound)) (call_at_bound schema func dir args) (ended status output) late (silent_spelled (bound_of bound)) h in
-      let spelt = was_spelled old b.middle (bound_of bound) b.given b.first in
+      let spelt = was_spelled F old b.middle (bound_of bound) b.given b.first in
       let from_bound = subst (λ d. Follows F d (call_at_bound schema func dir args b.given) new (ended status output)) spelt.same b.rest in
       let s = gone F old new (schema_course schema) (λ s. call_over_schema b.given s func dir args) (ended status output) late (λ bytes. (silent_refusal schema (RefusesSchema bytes), λ w. tt)) from_bound in
-      let read = schema_read old s.middle schema s.given s.first in
+      let read = schema_read F old s.middle schema s.given s.first in
       let kept = keeps F old s.middle (schema_course schema) (goes_on s.given) s.first in
       let from_schema = subst (λ s'. Follows F s.middle (call_over_schema b.given s' func dir args) new (ended status output)) read.is s.rest in
       let f = gone F s.middle new (function_course read.tables.schema func) (λ f. with_arguments b.given read.tables.schema f dir args) (ended status output) late
