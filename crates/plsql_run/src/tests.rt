@@ -107,7 +107,11 @@ fn summing(rt: &(impl Abort + AllocGlobal), last: i64) -> Function {
     let kind = counted(rt, Expr::Int(1), Expr::Int(last), None);
     let each = repeated(None, kind, one(rt, adding(rt)));
     let body = with(rt, one(rt, each), Stmt::Return(Expr::Slot(0)));
-    function(rt, 0, block(one(rt, declared(rt, Some(Expr::Int(0)))), body))
+    function(
+        rt,
+        0,
+        block(one(rt, declared(rt, Some(Expr::Int(0)))), body),
+    )
 }
 
 #[test]
@@ -170,12 +174,25 @@ fn a_text_is_returned(rt: HostRuntime) {
 fn set_from_its_parameter(rt: &(impl Abort + AllocGlobal)) -> Function {
     let set = assign(rt, 1, Expr::Slot(0));
     let body = with(rt, one(rt, set), Stmt::Return(Expr::Slot(1)));
-    function(rt, 1, block(one(rt, declared(rt, Some(Expr::Int(1)))), body))
+    function(
+        rt,
+        1,
+        block(one(rt, declared(rt, Some(Expr::Int(1)))), body),
+    )
 }
 
 #[test]
 fn a_slot_may_take_no_null(rt: HostRuntime) {
-    assert!(rt; answers_at(&rt, set_from_its_parameter(&rt), &[], Value::Null, 0, "22004"));
+    assert!(rt;
+        answers_at(
+            &rt,
+            set_from_its_parameter(&rt),
+            &[],
+            Value::Null,
+            0,
+            "22004"
+        )
+    );
     assert!(rt; answers_at(&rt, set_from_its_parameter(&rt), &[], Value::Int(4), 0, "4"));
 }
 
