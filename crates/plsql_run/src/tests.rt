@@ -11,6 +11,7 @@ use crate::tests::trees::{
 use away_trees::{Expr, Function, LoopKind, Raised, Stmt};
 use away_types::Slot;
 use away_values::{Answer, CmpOp, IntOp, Ty, Value};
+use sqlite_items::Boxed;
 use std::alloc::{AllocError, Global};
 use std::process::Abort;
 
@@ -53,25 +54,25 @@ fn slot(not_null: bool) -> Slot {
 }
 
 /// The same of a function without parameters.
-fn answers(rt: &(impl Abort + AllocGlobal), f: Function, bound: u64, line: &str) -> bool {
-    answers_of(rt, &f, &[], &[], bound, line)
+fn answers(rt: &(impl Abort + AllocGlobal), f: Boxed<Function>, bound: u64, line: &str) -> bool {
+    answers_of(rt, f.get(), &[], &[], bound, line)
 }
 
 /// The same of a function of one parameter.
 fn answers_at(
     rt: &(impl Abort + AllocGlobal),
-    f: Function,
+    f: Boxed<Function>,
     numbers: &[i64],
     arg: Value,
     bound: u64,
     line: &str,
 ) -> bool {
     let args = [arg];
-    answers_of(rt, &f, numbers, &args, bound, line)
+    answers_of(rt, f.get(), numbers, &args, bound, line)
 }
 
 /// BEGIN s END, without variables.
-fn only(rt: &(impl Abort + AllocGlobal), s: Stmt) -> Function {
+fn only(rt: &(impl Abort + AllocGlobal), s: Stmt) -> Boxed<Function> {
     function(rt, 0, block(none(rt), one(rt, s)))
 }
 
@@ -103,7 +104,7 @@ fn adding(rt: &(impl Abort + AllocGlobal)) -> Stmt {
 }
 
 /// DECLARE c := 0; BEGIN FOR i IN 1..last LOOP IF c >= 0 THEN c := c + i; END IF; END LOOP; RETURN c; END
-fn summing(rt: &(impl Abort + AllocGlobal), last: i64) -> Function {
+fn summing(rt: &(impl Abort + AllocGlobal), last: i64) -> Boxed<Function> {
     let kind = counted(rt, Expr::Int(1), Expr::Int(last), None);
     let each = repeated(None, kind, one(rt, adding(rt)));
     let body = with(rt, one(rt, each), Stmt::Return(Expr::Slot(0)));
@@ -121,7 +122,7 @@ fn turns_are_counted(rt: HostRuntime) {
 }
 
 /// WHILE 1 / p = 1 LOOP EXIT; END LOOP; RETURN p
-fn leaving(rt: &(impl Abort + AllocGlobal)) -> Function {
+fn leaving(rt: &(impl Abort + AllocGlobal)) -> Boxed<Function> {
     let inverse = arithmetic(rt, IntOp::Div, Expr::Int(1), Expr::Slot(0));
     let test = comparison(rt, CmpOp::Eq, inverse, Expr::Int(1));
     let each = repeated(None, LoopKind::While(test), one(rt, Stmt::Exit(None, None)));
@@ -139,7 +140,7 @@ fn a_test_is_evaluated_before_its_turn(rt: HostRuntime) {
 }
 
 /// FOR i IN p..3 BY 0 LOOP NULL; END LOOP
-fn standing(rt: &(impl Abort + AllocGlobal)) -> Function {
+fn standing(rt: &(impl Abort + AllocGlobal)) -> Boxed<Function> {
     let kind = counted(rt, Expr::Slot(0), Expr::Int(3), Some(Expr::Int(0)));
     let each = repeated(None, kind, one(rt, Stmt::Nothing));
     function(rt, 1, block(none(rt), one(rt, each)))
@@ -171,7 +172,7 @@ fn a_text_is_returned(rt: HostRuntime) {
 }
 
 /// DECLARE b NOT NULL := 1; BEGIN b := p; RETURN b; END, b being the second slot
-fn set_from_its_parameter(rt: &(impl Abort + AllocGlobal)) -> Function {
+fn set_from_its_parameter(rt: &(impl Abort + AllocGlobal)) -> Boxed<Function> {
     let set = assign(rt, 1, Expr::Slot(0));
     let body = with(rt, one(rt, set), Stmt::Return(Expr::Slot(1)));
     function(
@@ -197,7 +198,7 @@ fn a_slot_may_take_no_null(rt: HostRuntime) {
 }
 
 /// SELECT t.a INTO STRICT p FROM t; RETURN p
-fn selecting(rt: &(impl Abort + AllocGlobal)) -> Function {
+fn selecting(rt: &(impl Abort + AllocGlobal)) -> Boxed<Function> {
     let into = Stmt::Into {
         strict: true,
         targets: one(rt, (named(rt, "p"), Some(0))),

@@ -24,7 +24,12 @@ fn function(alloc: Global, head: &str, body: &str) -> Result<Vec<u8>, AllocError
 }
 
 /// Runs a function's file over the tables t, u and w.
-fn run(alloc: Global, func: &[u8], bound: &str, args: &[&str]) -> Result<Run, AllocError> {
+fn run<'x>(
+    alloc: Global,
+    func: &'x [u8],
+    bound: &'x str,
+    args: &[&'x str],
+) -> Result<Run, AllocError> {
     let files: [(&str, &[u8]); 5] = [("s.sql", SCHEMA), ("f.sql", func), T, U, W];
     let mut words = Vec::new(alloc);
     words.extend_from_slice(&["fn", bound, "s.sql", "f.sql", "d"])?;

@@ -12,12 +12,12 @@ const SCHEMA: &str = "CREATE TABLE t (k bigint, v text);";
 const TABLE: &str = "k,v\n1,one\n2,two\n2,zwei\n";
 
 /// Runs a query over the table t.
-fn run(
+fn run<'x>(
     alloc: Global,
-    query: &str,
-    bound: &str,
-    table: &str,
-    args: &[&str],
+    query: &'x str,
+    bound: &'x str,
+    table: &'x str,
+    args: &[&'x str],
 ) -> Result<Run, AllocError> {
     let files: [(&str, &[u8]); 3] = [
         ("s.sql", SCHEMA.as_bytes()),

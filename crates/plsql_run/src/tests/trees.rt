@@ -89,7 +89,16 @@ pub(crate) fn arm(test: Expr, body: Items<Stmt>) -> Arm {
 }
 
 /// A function of so many bigint parameters, whose body is the block.
-pub(crate) fn function(rt: &(impl Abort + AllocGlobal), params: usize, body: Stmt) -> Function {
+/// A function of so many parameters with this body, in a box.
+pub(crate) fn function(
+    rt: &(impl Abort + AllocGlobal),
+    params: usize,
+    body: Stmt,
+) -> Boxed<Function> {
+    boxed(rt, unboxed(rt, params, body))
+}
+
+fn unboxed(rt: &(impl Abort + AllocGlobal), params: usize, body: Stmt) -> Function {
     let mut list = Items::new(rt.alloc());
     for _ in 0..params {
         list.push((named(rt, "p"), Ty::Bigint)).expect(rt, "memory");
