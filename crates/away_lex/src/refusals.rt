@@ -1,19 +1,23 @@
 //! Why a text has no tokens, and why a reader gives no tree.
 
 use away_values::Name;
+use thiserror::Error;
 
 /// No token, white space or comment begins at this offset in bytes.
-#[derive(Clone, Copy, Debug)]
+#[derive(Clone, Copy, Debug, Error)]
+#[error("no token begins at byte {offset}")]
 pub struct BadToken {
     pub offset: u64,
 }
 
 /// Why there is no token list.
-#[derive(Clone, Copy, Debug)]
+#[derive(Clone, Copy, Debug, Error)]
 pub enum TokensRefusal {
     /// The first bad token begins at this offset in bytes.
+    #[error("no token begins at byte {offset}")]
     Bad { offset: u64 },
     /// No memory was left.
+    #[error("no memory was left")]
     NoMemory,
 }
 
@@ -31,19 +35,25 @@ pub enum LimitKind {
 }
 
 /// Why a reader gives no tree.
-#[derive(Drop)]
+#[derive(Debug, Drop, Error)]
 pub enum ReadRefusal {
     /// The bytes aren't UTF-8, or contain U+0000.
+    #[error("the bytes are no text")]
     NotText,
     /// No token begins at this offset in bytes.
+    #[error("no token begins at byte {offset}")]
     Token { offset: u64 },
     /// No tree reads the tokens.
+    #[error("no tree reads the tokens")]
     NoTree,
     /// A word of a form that isn't read stands there.
+    #[error("a word of a form that is not read stands there")]
     Outside { word: Name },
     /// More was found than a limit allows.
+    #[error("{found} were found, which is more than a limit allows")]
     Limit { which: LimitKind, found: u64 },
     /// No memory was left.
+    #[error("no memory was left")]
     NoMemory,
 }
 

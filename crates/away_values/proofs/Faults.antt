@@ -1,5 +1,5 @@
 -- The faults of the operators are classes.
-use Rattle.std.proofs.Common.{◌≡◌, refl, ℕ, ℤ, Bool, true, false, List, [], ◌∷◌, pos, ◌++◌, ◌+ℤ◌, ◌-ℤ◌, neg_ℤ}
+use Rattle.std.proofs.Common.{refl, ℕ, ℤ, Bool, true, false, List, [], ◌∷◌, pos, ◌++◌, ◌+ℤ◌, ◌-ℤ◌, neg_ℤ}
 use Rattle.std.specs.Prelude.{if◌then◌else◌, int_lt, int_div, int_rem, ◌*ℤ◌, nat_le, codes, Ok, Err}
 use Rattle.std.specs.List.{sum_by}
 use Rattle.std.specs.Ordering.{int_eq}

@@ -2,9 +2,11 @@
 
 use crate::values::Class;
 use std::alloc::AllocError;
+use thiserror::Error;
 
 /// No memory was left.
-#[derive(Clone, Copy, Debug, PartialEq, Eq)]
+#[derive(Clone, Copy, Debug, PartialEq, Eq, Error)]
+#[error("no memory was left")]
 pub struct NoMemory;
 
 impl From<AllocError> for NoMemory {
@@ -14,9 +16,11 @@ impl From<AllocError> for NoMemory {
 }
 
 /// The fault of an operator, or want of memory.
-#[derive(Clone, Copy, Debug, PartialEq, Eq)]
+#[derive(Clone, Copy, Debug, PartialEq, Eq, Error)]
 pub enum OpError {
+    #[error("an operator fails with a class")]
     Class(Class),
+    #[error("no memory was left")]
     NoMemory,
 }
 

@@ -14,7 +14,7 @@ pub const LONGEST_TEXT: usize = 1_048_576;
 pub const LONGEST_NAME: usize = 63;
 
 /// A text of at most 1,048,576 bytes of UTF-8 without U+0000. Contracts see it as its list of code points.
-#[derive(Drop)]
+#[derive(Debug, Drop)]
 pub struct Word {
     text: String,
 }
@@ -59,7 +59,7 @@ impl Word {
 }
 
 /// A name of one to 63 characters, each a lower-case ASCII letter, a digit or `_`. Contracts see it as its list of bytes.
-#[derive(Drop)]
+#[derive(Debug, Drop)]
 pub struct Name {
     text: String,
 }

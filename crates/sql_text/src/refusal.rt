@@ -2,13 +2,16 @@
 
 use away_values::NoMemory;
 use std::alloc::AllocError;
+use thiserror::Error;
 
 /// Why no tree was read from tokens.
-#[derive(Clone, Copy, Debug)]
+#[derive(Clone, Copy, Debug, Error)]
 pub enum Refusal {
     /// No tree reads the tokens.
+    #[error("no tree reads the tokens")]
     NoTree,
     /// No memory was left.
+    #[error("no memory was left")]
     NoMemory,
 }
 

@@ -1,0 +1,7 @@
+pub mod Verdicts
+pub mod Pairs
+pub mod Keys
+pub mod AlikeMachines
+pub mod SourceEquations
+pub mod WorkedForms
+pub mod SlotCounts

@@ -1,0 +1,9 @@
+use Rattle.std.proofs.Common.{◌≡◌, ◌++◌, take, flat_map}
+use Rattle.block_forms.specs.Expressions.{sources, sources_of_arm}
+use Rattle.block_forms.proofs.expressions.+sources.Given as goal
+
+abbrev pub invariant-push_statements-loop-i : goal.invariant-push_statements-loop-i
+invariant-push_statements-loop-i l = l.list ≡ l.fn.list ++ flat_map sources (take l.i l.body)
+
+abbrev pub invariant-push_arms-loop-i : goal.invariant-push_arms-loop-i
+invariant-push_arms-loop-i l = l.list ≡ l.fn.list ++ flat_map sources_of_arm (take l.i l.arms)

@@ -1,0 +1,147 @@
+-- The expression table: a function's source expressions in the order of its text, whole expressions alone, and behind them a fixed list.
+use Rattle.std.specs.Prelude.{ℕ, zero, suc, pos, negsuc, ◌-◌, ◌^◌, false, List, [], ◌∷◌, ◌++◌, slice_get, Option, Some, None, Ok}
+use Rattle.away_values.specs.declared.types.Ty.{Ty}
+use Rattle.away_values.specs.declared.types.Ty.TheVariants as ty
+use Rattle.away_values.specs.declared.operators.ChainOp.TheVariants as chain
+use Rattle.away_values.specs.declared.operators.CmpOp.{CmpOp}
+use Rattle.away_values.specs.declared.operators.CmpOp.TheVariants as cmp
+use Rattle.away_values.specs.declared.operators.IntOp.{IntOp}
+use Rattle.away_values.specs.declared.operators.IntOp.TheVariants as int
+use Rattle.away_values.specs.declared.operators.IsTest.TheVariants as is
+use Rattle.away_values.specs.declared.values.Value.{Value}
+use Rattle.away_values.specs.declared.values.Value.TheVariants as val
+use Rattle.away_values.specs.Results.{Or}
+use Rattle.away_trees.specs.declared.queries.Expr.{Expr}
+use Rattle.away_trees.specs.declared.queries.Expr.TheVariants as expr
+use Rattle.away_trees.specs.declared.statements.Arm.{Arm}
+use Rattle.away_trees.specs.declared.statements.Decl.{Decl}
+use Rattle.away_trees.specs.declared.statements.Function.{Function}
+use Rattle.away_trees.specs.declared.statements.LoopKind.{LoopKind}
+use Rattle.away_trees.specs.declared.statements.LoopKind.TheVariants as kind
+use Rattle.away_trees.specs.declared.statements.Stmt.{Stmt}
+use Rattle.away_trees.specs.declared.statements.Stmt.TheOpen.{Stmt-F, Arm-F}
+use Rattle.away_trees.specs.declared.statements.Stmt.TheOpen as st
+use Rattle.away_trees.specs.StatementAlgebra.{StatementAlgebra, stmt_of, branch_of}
+use Rattle.sql_meaning.specs.Context.{Rows}
+use Rattle.sql_meaning.specs.Meaning.{value}
+use Rattle.sql_meaning.specs.OneReturn.{body}
+use Rattle.sql_meaning.specs.Reads.{slots_of}
+
+-- ---- source expressions
+
+abbrev pub Sources : Type 0
+Sources = List Expr
+
+abbrev pub in_turn : List Sources → Sources
+in_turn [] = []
+in_turn (x ∷ xs) = x ++ in_turn xs
+
+abbrev pub if_there : Option Expr → Sources
+if_there None = []
+if_there (Some e) = e ∷ []
+
+abbrev pub default_of : Decl → Sources
+default_of d = if_there d.default
+
+abbrev pub defaults : List Decl → Sources
+defaults [] = []
+defaults (d ∷ ds) = if_there d.default ++ defaults ds
+
+abbrev pub of_kind : LoopKind → Sources
+of_kind kind.Plain = []
+of_kind (kind.While e) = e ∷ []
+of_kind (kind.Count _ _ first last step) = first ∷ last ∷ if_there step
+
+abbrev pub of_else : Option (List Sources) → Sources
+of_else None = []
+of_else (Some body) = in_turn body
+
+-- INTO isn't read yet, and has no expression of its own
+abbrev of_statement : Stmt-F Sources Sources → Sources
+of_statement (st.Block _ decls body _) = defaults decls ++ in_turn body
+of_statement (st.Assign _ _ e) = e ∷ []
+of_statement (st.If arms other) = in_turn arms ++ of_else other
+of_statement (st.Cases arms other) = in_turn arms ++ of_else other
+of_statement (st.Loop _ k body _) = of_kind k ++ in_turn body
+of_statement (st.Exit _ when) = if_there when
+of_statement (st.Continue _ when) = if_there when
+of_statement (st.Return e) = e ∷ []
+of_statement (st.Raise _) = []
+of_statement (st.Into _ _ _) = []
+of_statement st.Nothing = []
+
+abbrev pub sourcing : StatementAlgebra
+sourcing = record { AStmt = Sources; AnArm = Sources; stmt = of_statement; arm = λ a. a.test ∷ in_turn a.body }
+
+unfoldable pub sources : Stmt → Sources
+sources s = stmt_of sourcing s
+
+unfoldable pub sources_of_arm : Arm → Sources
+sources_of_arm x = branch_of sourcing x
+
+-- ---- the fixed list, over the slots a and b
+
+abbrev pub a : Expr
+a = expr.Slot 0
+
+abbrev pub b : Expr
+b = expr.Slot 1
+
+abbrev pub null_as : Ty → Expr
+null_as t = expr.Cast expr.Null t
+
+abbrev pub a_is_null : Expr
+a_is_null = expr.Is a is.Null false
+
+abbrev pub of_two : IntOp → Expr → Expr → Expr
+of_two op x y = expr.Chain x ((chain.Int op, y) ∷ [])
+
+abbrev pub compared : CmpOp → Expr → Expr → Expr
+compared op x y = expr.Compare op x y
+
+-- from S on: NULL of each type, and whether a is NULL
+abbrev pub nulls : Sources
+nulls = null_as ty.Bigint ∷ null_as ty.Boolean ∷ null_as ty.Text ∷ a_is_null ∷ a_is_null ∷ a_is_null ∷ []
+
+-- from S + 6 on: what FOR tests
+abbrev pub tests : Sources
+tests =
+    compared cmp.Le a (expr.Int (pos 0))
+    ∷ compared cmp.Le a b
+    ∷ compared cmp.Ge a b
+    ∷ compared cmp.Lt (of_two int.Sub (expr.Int (pos (2 ^ 63 - 1))) a) b
+    ∷ compared cmp.Gt (of_two int.Add (expr.Int (negsuc (2 ^ 63 - 1))) a) b
+    ∷ []
+
+-- from S + 11 on: a counter's next value, the step 1, a value as it is, and NULL and its test of the type integer
+abbrev pub steps : Sources
+steps = of_two int.Add a b ∷ of_two int.Sub a b ∷ expr.Cast (expr.Int (pos 1)) ty.Bigint ∷ a ∷ null_as ty.Integer ∷ a_is_null ∷ []
+
+abbrev pub fixed_list : Sources
+fixed_list = nulls ++ (tests ++ steps)
+
+abbrev pub expressions : Function → Sources
+expressions f = sources f.body ++ fixed_list
+
+-- ---- the value of an entry
+
+-- the value at a place, and NULL at each place before it where the list is shorter
+abbrev pub put_at : ℕ → Value → List Value → List Value
+put_at zero v [] = v ∷ []
+put_at zero v (x ∷ xs) = v ∷ xs
+put_at (suc i) v [] = val.Null ∷ put_at i v []
+put_at (suc i) v (x ∷ xs) = x ∷ put_at i v xs
+
+-- the variables of an entry: each of its slots holds the value beside it
+abbrev pub holding : List ℕ → List Value → List Value
+holding [] vs = []
+holding (s ∷ ss) [] = []
+holding (s ∷ ss) (v ∷ vs) = put_at s v (holding ss vs)
+
+-- the entry's value where its slots, in the order of their first occurrence, hold these values; what is no entry is NULL
+abbrev pub entry_value : List Rows → Option Expr → List Value → Or Value
+entry_value tables None vs = Ok val.Null
+entry_value tables (Some e) vs = value e (body tables (holding (slots_of e) vs))
+
+abbrev pub applied : List Rows → Sources → ℕ → List Value → Or Value
+applied tables list k vs = entry_value tables (slice_get list k) vs

@@ -1,0 +1,19 @@
+//! What is proved of all runs.
+
+ghost use Rattle.block_forms.specs.Worked.{WorkedForms, WorkedTable, WorkedRuns};
+ghost use Rattle.block_forms.specs.Laws.{GotoRunsStay, SsaRunsStay, GotoHeads, SsaHeads};
+
+/// A run that is over stays as it is, and visits at most one head a visit.
+pub fn runs_that_end_stay()
+    ensures goto { GotoRunsStay }
+    ensures ssa { SsaRunsStay }
+    ensures goto_heads { GotoHeads }
+    ensures ssa_heads { SsaHeads }
+{}
+
+/// Three functions and their forms, the expression table of one, and its runs.
+pub fn worked_forms_are_lowered()
+    ensures forms { WorkedForms }
+    ensures table { WorkedTable }
+    ensures runs { WorkedRuns }
+{}

@@ -1,0 +1,19 @@
+//! The goto form and the SSA form of a function: what they are, how they run, and when one is that of the other.
+#![tactic(auto)]
+
+mod expressions;
+mod fixed_list;
+mod form;
+mod forms;
+mod laws;
+mod places;
+mod stage;
+#[cfg(test)]
+mod tests;
+
+pub use expressions::{ExprTable, expr_table};
+pub use form::{Form, GotoForm, SsaForm};
+pub use forms::{Block, End, Goto, Phi, Ssa, SsaBlock, Term};
+pub use laws::{runs_that_end_stay, worked_forms_are_lowered};
+pub use places::{Numbers, Place};
+pub use stage::{Stage, Then};

@@ -1,0 +1,15 @@
+pub mod Forms
+pub mod Scopes
+pub mod NormalRuns
+pub mod Bodies
+pub mod TailRuns
+pub mod RunLaws
+pub mod Called
+pub mod Merged
+pub mod Columned
+pub mod Useful
+pub mod Tight
+pub mod Template
+pub mod Templated
+pub mod Laws
+pub mod Worked

@@ -1,0 +1,12 @@
+//! The normal form and the tail form of a function: what they are, how they run, and when one is that of the other.
+#![tactic(auto)]
+
+mod form;
+mod forms;
+mod laws;
+#[cfg(test)]
+mod tests;
+
+pub use form::{AnfForm, TailForm};
+pub use forms::{Anf, AnfBlock, Call, CallEnd, Tail};
+pub use laws::{calls_that_end_stay, worked_calls_are_related};

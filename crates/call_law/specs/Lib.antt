@@ -1,0 +1,3 @@
+pub mod Lockstep
+pub mod Merging
+pub mod StageBounds

@@ -1,0 +1,15 @@
+pub mod Ways
+pub mod InSight
+pub mod Parts
+pub mod Rows
+pub mod Leaves
+pub mod Blocks
+pub mod Loops
+pub mod Statements
+pub mod Entry
+pub mod FirstSlots
+pub mod Leading
+pub mod LeadingStatements
+pub mod LeadingLoops
+pub mod Targets
+pub mod WorkedEntries

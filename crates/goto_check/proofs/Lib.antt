@@ -1,0 +1,12 @@
+pub mod Rooms
+pub mod Equations
+pub mod Blocks
+pub mod Counting
+pub mod Questions
+pub mod Lists
+pub mod Occurrences
+pub mod Passes
+pub mod NodeCounts
+pub mod ClassTexts
+pub mod Walk
+pub mod Deciding

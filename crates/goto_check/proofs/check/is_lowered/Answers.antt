@@ -1,0 +1,25 @@
+use Rattle.std.proofs.Common.{◌≡◌, ◌+◌, true, ◌↔◌, IsTrue, length, refl, sym, ◌∙◌, subst}
+use Rattle.block_forms.specs.Laid.{laid}
+use Rattle.block_forms.specs.Lowered.{AllStand, numbers_of, parts_in}
+use Rattle.goto_check.specs.declared.asking.Asking.{Asking}
+use Rattle.goto_check.specs.declared.asking.Question.TheVariants as question
+use Rattle.goto_check.specs.Asking.{numbers_in, setting_in}
+use Rattle.goto_check.proofs.Deciding.{decided}
+use Rattle.goto_check.proofs.Questions.{none_fails}
+use Rattle.goto_check.proofs.check.is_lowered.Goals as goal
+
+pub returns : goal.returns
+returns c =
+    let f = c.args.f.now in
+    let g = c.args.g.now in
+    let size = c.size_of-size.result in
+    let a : Asking = record { goto = c.args.g; slots = c.args.slots; fixed = size.expr; counters = c.len.result + size.slot; question = question.Fails } in
+    let ps = parts_in (setting_in a) f in
+    let at : numbers_in a ≡ numbers_of f = λ i. record { fixed = (c.size_of-size.ensures i).expr; counters = c.len.ensures i + (c.size_of-size.ensures i).slot } in
+    let has : IsTrue c.has_nodes.result = subst (λ b. IsTrue b) (sym c.if-not-has_nodes.false) (let t : IsTrue true = search in t) in
+    let as_many : length g.nodes ≡ length f.params + (laid f.body).size.node = sym c.nodes_given.ensures.value ∙ c.has_nodes.ensures.0 has in
+    let stand : (c.ask_function-fails.result ≡ 0) ↔ AllStand g.blocks ps = subst (λ n. (n ≡ 0) ↔ AllStand g.blocks ps) (sym c.ask_function-fails.ensures) (none_fails a ps refl) in
+    decided f c.args.slots.now g (numbers_in a) c.ask_function-fails.result c.each_once.result c.no_way_to.result c.slots_below.result at as_many stand
+    c.each_once.ensures
+    (rw c.as_slice.ensures at c.no_way_to.ensures)
+    (rw c.as_slice-2.ensures at c.slots_below.ensures)

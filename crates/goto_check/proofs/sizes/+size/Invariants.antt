@@ -1,0 +1,10 @@
+use Rattle.std.proofs.Common.{◌≡◌, drop}
+use Rattle.block_forms.specs.Laid.{after, row_size, arms_size, laid_row, laid_arms}
+use Rattle.goto_check.specs.Room.{here}
+use Rattle.goto_check.proofs.sizes.+size.Given as goal
+
+abbrev pub invariant-size_of_row-loop-i : goal.invariant-size_of_row-loop-i
+invariant-size_of_row-loop-i l = after (here l.total) (row_size (laid_row (drop l.i l.list))) ≡ row_size (laid_row l.list)
+
+abbrev pub invariant-size_of_arms-loop-i : goal.invariant-size_of_arms-loop-i
+invariant-size_of_arms-loop-i l = after (here l.total) (arms_size (laid_arms (drop l.i l.list))) ≡ arms_size (laid_arms l.list)

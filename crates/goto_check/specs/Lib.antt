@@ -1,0 +1,7 @@
+pub mod Asking
+pub mod Enclosing
+pub mod Wanted
+pub mod Counted
+pub mod Room
+pub mod Passing
+pub mod Below

@@ -1,0 +1,23 @@
+//! Whether a goto form is that of a function.
+#![tactic(auto)]
+
+mod asking;
+mod below;
+mod check;
+mod classes;
+mod enclosing;
+mod loops;
+mod once;
+mod parameters;
+mod patterns;
+mod read;
+mod reads;
+mod shapes;
+mod sizes;
+mod spots;
+mod stand;
+
+pub use check::check_lowered;
+
+#[cfg(test)]
+mod tests;

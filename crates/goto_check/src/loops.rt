@@ -1,0 +1,232 @@
+//! The patterns of loops, without what their bodies ask.
+
+ghost use Rattle.std.specs.Prelude.{◌≡◌, ◌+◌, ◌*◌, ◌<◌, ◌^◌};
+ghost use Rattle.block_forms.specs.Laid.{after, kind_size, again_of, kind_parts};
+ghost use Rattle.block_forms.specs.Patterns.{by_way, bound_parts, step_parts, turn_parts, for_parts, head_after, for_test};
+ghost use Rattle.goto_check.specs.Asking.{numbers_in, setting_in};
+ghost use Rattle.goto_check.specs.Counted.{counted};
+ghost use Rattle.goto_check.specs.Room.{here, Room};
+ghost use Rattle.goto_check.specs.Wanted.{wanted};
+
+use crate::asking::{Asking, ask_own, ask_shared, plus};
+use crate::patterns::{NULL_NOT_ALLOWED, is_null, source_term};
+use crate::read::{after_bound, first_test, jump_of, no_of, node, yes_of};
+use crate::shapes::{Reads, Shape, Wanted};
+use crate::spots::Spot;
+use away_trees::{Expr, LoopKind};
+use away_values::{Class, Ty};
+use block_forms::Goto;
+
+/// invalid_parameter_value
+const INVALID_PARAMETER: Class = Class { code: *b"22023" };
+
+/// An entry for counting down, and another for counting up.
+fn by_way(reverse: bool, down: usize, up: usize) -> usize
+    ensures { result ≡ by_way reverse down up }
+{
+    if reverse { down } else { up }
+}
+
+/// A bound is set, and is not NULL.
+#[tactic(auto, using(crate::proofs::Counting::count_rules))]
+fn ask_bound(a: &Asking<'_>, b: usize, slot: usize, want: &Wanted<'_>, next: usize) -> u8
+    requires { a.now.fixed + 16 < 2 ^ 64 }
+    ensures { result ≡ counted a.now (bound_parts a.now.goto.now (numbers_in a.now) b slot (wanted want.now) next) }
+{
+    let test = jump_of(a.goto, b);
+    let fault = yes_of(a.goto, test);
+    let null = is_null(a.fixed, Ty::Bigint, slot);
+    plus(
+        ask_own(a, b, &Shape::Sets(slot, want, test)),
+        plus(
+            ask_own(a, test, &Shape::Branch(false, &null, fault, next)),
+            ask_shared(a, fault, &Shape::Fail(NULL_NOT_ALLOWED)),
+        ),
+    )
+}
+
+fn head_after(g: &Goto, step: &Option<Expr>, b: usize) -> usize
+    ensures { result ≡ head_after g.now step.now b }
+{
+    match step {
+        None => jump_of(g, b),
+        Some(_) => no_of(g, no_of(g, jump_of(g, b))),
+    }
+}
+
+#[tactic(auto, using(crate::proofs::Counting::count_rules))]
+fn ask_step(
+    a: &Asking<'_>,
+    by: &Option<Expr>,
+    expr: usize,
+    b: usize,
+    step: usize,
+    head: usize,
+) -> u8
+    requires { a.now.fixed + 16 < 2 ^ 64 }
+    ensures { result ≡ counted a.now (step_parts a.now.goto.now (numbers_in a.now) by.now expr b step head) }
+{
+    match by {
+        None => {
+            let one = Wanted {
+                expr: a.fixed + 13,
+                reads: Reads::Nothing,
+            };
+            ask_own(a, b, &Shape::Sets(step, &one, head))
+        }
+        Some(e) => {
+            let test = no_of(a.goto, jump_of(a.goto, b));
+            let fault = yes_of(a.goto, test);
+            let not_positive = Wanted {
+                expr: a.fixed + 6,
+                reads: Reads::One(step),
+            };
+            plus(
+                ask_bound(a, b, step, &source_term(expr, e), test),
+                plus(
+                    ask_own(a, test, &Shape::Branch(false, &not_positive, fault, head)),
+                    ask_shared(a, fault, &Shape::Fail(INVALID_PARAMETER)),
+                ),
+            )
+        }
+    }
+}
+
+/// The slots of a FOR: its variable and its hidden ones.
+#[derive(Clone, Copy)]
+struct Counter {
+    var: usize,
+    cur: usize,
+    last: usize,
+    step: usize,
+}
+
+#[tactic(auto, using(crate::proofs::Counting::count_rules))]
+fn ask_turn(
+    a: &Asking<'_>,
+    reverse: bool,
+    c: Counter,
+    head: usize,
+    test: usize,
+    body: usize,
+    next: usize,
+) -> u8
+    requires { a.now.fixed + 16 < 2 ^ 64 }
+    ensures { result ≡ counted a.now (turn_parts a.now.goto.now (numbers_in a.now) reverse c.var c.cur c.last c.step head test body next) }
+{
+    let in_range = Wanted {
+        expr: a.fixed + by_way(reverse, 8, 7),
+        reads: Reads::Two(c.cur, c.last),
+    };
+    let copy = Wanted {
+        expr: a.fixed + 14,
+        reads: Reads::One(c.cur),
+    };
+    let leaves_range = Wanted {
+        expr: a.fixed + by_way(reverse, 10, 9),
+        reads: Reads::Two(c.step, c.cur),
+    };
+    let moved = Wanted {
+        expr: a.fixed + by_way(reverse, 12, 11),
+        reads: Reads::Two(c.cur, c.step),
+    };
+    let turn = yes_of(a.goto, head);
+    let back = no_of(a.goto, test);
+    plus(
+        ask_own(a, head, &Shape::Branch(true, &in_range, turn, next)),
+        plus(
+            ask_own(a, turn, &Shape::Sets(c.var, &copy, body)),
+            plus(
+                ask_own(a, test, &Shape::Branch(false, &leaves_range, next, back)),
+                ask_own(a, back, &Shape::Sets(c.cur, &moved, head)),
+            ),
+        ),
+    )
+}
+
+fn for_test(a: &Asking<'_>, reverse: bool, p: Spot) -> usize
+    requires { Room (numbers_in a.now) (here p) }
+    ensures { result ≡ for_test a.now.goto.now (numbers_in a.now) reverse p.fors }
+{
+    let cur = a.counters + 3 * p.fors;
+    let leaves_range = a.fixed + by_way(reverse, 10, 9);
+    first_test(leaves_range, cur + 2, cur, a.goto.blocks.as_slice())
+}
+
+#[tactic(auto, using(crate::proofs::Counting::count_rules))]
+fn ask_for(
+    a: &Asking<'_>,
+    reverse: bool,
+    first: &Expr,
+    last: &Expr,
+    by: &Option<Expr>,
+    p: Spot,
+    body: usize,
+    next: usize,
+) -> u8
+    requires room { Room (numbers_in a.now) (here p) }
+    requires more { p.expr + 2 < 2 ^ 64 }
+    ensures { result ≡ counted a.now (for_parts a.now.goto.now (numbers_in a.now) reverse first.now last.now by.now (here p) body next) }
+{
+    let cur = a.counters + 3 * p.fors;
+    let counter = Counter {
+        var: p.slot,
+        cur,
+        last: cur + 1,
+        step: cur + 2,
+    };
+    let set_first = node(a.goto, p.node);
+    let set_last = after_bound(a.goto, set_first);
+    let set_step = after_bound(a.goto, set_last);
+    let head = head_after(a.goto, by, set_step);
+    let test = for_test(a, reverse, p);
+    let from = source_term(p.expr, first);
+    let to = source_term(p.expr + 1, last);
+    plus(
+        ask_bound(a, set_first, counter.cur, &from, set_last),
+        plus(
+            ask_bound(a, set_last, counter.last, &to, set_step),
+            plus(
+                ask_step(a, by, p.expr + 2, set_step, counter.step, head),
+                ask_turn(a, reverse, counter, head, test, body, next),
+            ),
+        ),
+    )
+}
+
+/// The block to which the body of a loop leads.
+pub(crate) fn again_of(a: &Asking<'_>, kind: &LoopKind, p: Spot) -> usize
+    requires { Room (numbers_in a.now) (here p) }
+    ensures { result ≡ again_of (setting_in a.now) kind.now (here p) }
+{
+    match kind {
+        LoopKind::Plain => node(a.goto, p.node),
+        LoopKind::While(_) => node(a.goto, p.node),
+        LoopKind::Count { reverse, .. } => for_test(a, *reverse, p),
+    }
+}
+
+/// The blocks of a loop, but its body's.
+pub(crate) fn ask_kind(a: &Asking<'_>, kind: &LoopKind, p: Spot, body: usize, next: usize) -> u8
+    requires { Room (numbers_in a.now) (after (here p) (kind_size kind.now)) }
+    ensures { result ≡ counted a.now (kind_parts (setting_in a.now) kind.now (here p) body next) }
+{
+    match kind {
+        LoopKind::Plain => ask_own(a, node(a.goto, p.node), &Shape::Jump(true, body)),
+        LoopKind::While(e) => {
+            let test = source_term(p.expr, e);
+            ask_own(
+                a,
+                node(a.goto, p.node),
+                &Shape::Branch(true, &test, body, next),
+            )
+        }
+        LoopKind::Count {
+            reverse,
+            first,
+            last,
+            step,
+            ..
+        } => ask_for(a, *reverse, first, last, step, p, body, next),
+    }
+}

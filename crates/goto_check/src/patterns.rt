@@ -1,0 +1,133 @@
+//! The patterns of an assignment, of EXIT and of CONTINUE.
+
+ghost use Rattle.std.specs.Prelude.{◌≡◌, ◌+◌, ◌<◌, ◌^◌};
+ghost use Rattle.block_forms.specs.Patterns.{null_entry, is_null_entry, null_of, is_null, source_term, set_parts, slot_parts, leave_parts};
+ghost use Rattle.goto_check.specs.Asking.{numbers_in};
+ghost use Rattle.goto_check.specs.Counted.{counted};
+ghost use Rattle.goto_check.specs.Wanted.{wanted};
+
+use crate::asking::{Asking, ask_own, ask_shared, plus};
+use crate::read::{jump_of, yes_of};
+use crate::shapes::{Reads, Shape, Wanted};
+use away_trees::Expr;
+use away_types::Slot;
+use away_values::{Class, Ty};
+
+/// null_value_not_allowed
+pub(crate) const NULL_NOT_ALLOWED: Class = Class { code: *b"22004" };
+
+/// The entry of the fixed list that is NULL of a type.
+fn null_entry(ty: Ty) -> usize
+    ensures { result ≡ null_entry ty }
+{
+    match ty {
+        Ty::Bigint => 0,
+        Ty::Boolean => 1,
+        Ty::Text => 2,
+        Ty::Integer => 15,
+    }
+}
+
+fn is_null_entry(ty: Ty) -> usize
+    ensures { result ≡ is_null_entry ty }
+{
+    match ty {
+        Ty::Bigint => 3,
+        Ty::Boolean => 4,
+        Ty::Text => 5,
+        Ty::Integer => 16,
+    }
+}
+
+pub(crate) fn null_of<'a>(fixed: usize, ty: Ty) -> Wanted<'a>
+    requires { fixed + 16 < 2 ^ 64 }
+    ensures { wanted result ≡ null_of fixed ty }
+{
+    Wanted {
+        expr: fixed + null_entry(ty),
+        reads: Reads::Nothing,
+    }
+}
+
+pub(crate) fn is_null<'a>(fixed: usize, ty: Ty, slot: usize) -> Wanted<'a>
+    requires { fixed + 16 < 2 ^ 64 }
+    ensures { wanted result ≡ is_null fixed ty slot }
+{
+    Wanted {
+        expr: fixed + is_null_entry(ty),
+        reads: Reads::One(slot),
+    }
+}
+
+pub(crate) fn source_term<'a>(expr: usize, e: &'a Expr) -> Wanted<'a>
+    ensures { wanted result ≡ source_term expr e.now }
+{
+    Wanted {
+        expr,
+        reads: Reads::Expr(e),
+    }
+}
+
+#[tactic(auto, using(crate::proofs::Counting::count_rules))]
+fn ask_set(
+    a: &Asking<'_>,
+    not_null: bool,
+    ty: Ty,
+    b: usize,
+    slot: usize,
+    want: &Wanted<'_>,
+    next: usize,
+) -> u8
+    requires { a.now.fixed + 16 < 2 ^ 64 }
+    ensures { result ≡ counted a.now (set_parts a.now.goto.now (numbers_in a.now) not_null ty b slot (wanted want.now) next) }
+{
+    if not_null {
+        let test = jump_of(a.goto, b);
+        let fault = yes_of(a.goto, test);
+        let null = is_null(a.fixed, ty, slot);
+        plus(
+            ask_own(a, b, &Shape::Sets(slot, want, test)),
+            plus(
+                ask_own(a, test, &Shape::Branch(false, &null, fault, next)),
+                ask_shared(a, fault, &Shape::Fail(NULL_NOT_ALLOWED)),
+            ),
+        )
+    } else {
+        ask_own(a, b, &Shape::Sets(slot, want, next))
+    }
+}
+
+/// A slot is set, and is tested where it is NOT NULL.
+pub(crate) fn ask_slot(
+    a: &Asking<'_>,
+    s: Option<Slot>,
+    b: usize,
+    slot: usize,
+    want: &Wanted<'_>,
+    next: usize,
+) -> u8
+    requires { a.now.fixed + 16 < 2 ^ 64 }
+    ensures { result ≡ counted a.now (slot_parts a.now.goto.now (numbers_in a.now) s b slot (wanted want.now) next) }
+{
+    match s {
+        None => ask_set(a, false, Ty::Bigint, b, slot, want, next),
+        Some(s) => ask_set(a, s.not_null, s.ty, b, slot, want, next),
+    }
+}
+
+/// A jump, or a branch on WHEN.
+pub(crate) fn ask_leave(
+    a: &Asking<'_>,
+    when: &Option<Expr>,
+    expr: usize,
+    b: usize,
+    to: usize,
+    next: usize,
+) -> u8
+    ensures { result ≡ counted a.now (leave_parts a.now.goto.now (numbers_in a.now) when.now expr b to next) }
+{
+    match when {
+        None => ask_own(a, b, &Shape::Jump(false, to)),
+        Some(e) => ask_own(a, b, &Shape::Branch(false, &source_term(expr, e), to, next)),
+    }
+}

@@ -1,0 +1,97 @@
+//! Forms of two functions: the written ones are theirs, and no form is that differs in one field.
+
+mod worked;
+
+use crate::check::is_lowered;
+use crate::tests::worked::{
+    COLLATZ, COLLATZ_HEADS, NO_RETURN, RENUMBERED, SIGN_OF, SIGN_OF_HEADS, collatz, collatz_form,
+    sign_of, sign_of_form, slots,
+};
+use std::process::Abort;
+
+fn is_form_of_sign_of(
+    rt: &(impl Abort + AllocGlobal),
+    v: &[u32; 15],
+    heads: &[bool; 5],
+    class: [u8; 5],
+) -> bool {
+    let f = sign_of(rt);
+    is_lowered(
+        f.get(),
+        &slots::<1>(),
+        sign_of_form(rt, v, heads, class).get(),
+    )
+}
+
+fn is_form_of_collatz(
+    rt: &(impl Abort + AllocGlobal),
+    v: &[u32; 39],
+    heads: &[bool; 9],
+    class: [u8; 5],
+) -> bool {
+    let f = collatz(rt);
+    is_lowered(
+        f.get(),
+        &slots::<2>(),
+        collatz_form(rt, v, heads, class).get(),
+    )
+}
+
+#[test]
+fn the_form_of_sign_of(rt: HostRuntime) {
+    assert!(rt; is_form_of_sign_of(&rt, &SIGN_OF, &SIGN_OF_HEADS, NO_RETURN));
+}
+
+#[test]
+fn other_numbers_of_blocks(rt: HostRuntime) {
+    assert!(rt; is_form_of_sign_of(&rt, &RENUMBERED, &SIGN_OF_HEADS, NO_RETURN));
+}
+
+#[test]
+fn a_head_that_is_none(rt: HostRuntime) {
+    let mut heads = SIGN_OF_HEADS;
+    heads[1] = true;
+    assert!(rt; !is_form_of_sign_of(&rt, &SIGN_OF, &heads, NO_RETURN));
+}
+
+#[test]
+fn a_finish_that_returns(rt: HostRuntime) {
+    let mut v = SIGN_OF;
+    v[1] = 3;
+    assert!(rt; !is_form_of_sign_of(&rt, &v, &SIGN_OF_HEADS, NO_RETURN));
+}
+
+#[test]
+fn the_form_of_collatz(rt: HostRuntime) {
+    assert!(rt; is_form_of_collatz(&rt, &COLLATZ, &COLLATZ_HEADS, NO_RETURN));
+}
+
+#[test]
+fn another_number(rt: HostRuntime) {
+    for i in 0..39 {
+        let mut v = COLLATZ;
+        v[i] = v[i].wrapping_add(1);
+        assert!(rt; !is_form_of_collatz(&rt, &v, &COLLATZ_HEADS, NO_RETURN));
+    }
+}
+
+#[test]
+fn another_head(rt: HostRuntime) {
+    for i in 0..9 {
+        let mut heads = COLLATZ_HEADS;
+        heads[i] = !heads[i];
+        assert!(rt; !is_form_of_collatz(&rt, &COLLATZ, &heads, NO_RETURN));
+    }
+}
+
+#[test]
+fn another_class(rt: HostRuntime) {
+    assert!(rt; !is_form_of_collatz(&rt, &COLLATZ, &COLLATZ_HEADS, *b"2F006"));
+}
+
+#[test]
+fn too_few_slots(rt: HostRuntime) {
+    let f = collatz(&rt);
+    let g = collatz_form(&rt, &COLLATZ, &COLLATZ_HEADS, NO_RETURN);
+    assert!(rt; !is_lowered(f.get(), &slots::<1>(), g.get()));
+}

@@ -1,0 +1,5 @@
+pub mod Building
+pub mod Whole
+pub mod Drafts
+pub mod Enclosings
+pub mod Occurrences

@@ -1,0 +1,25 @@
+//! The goto form of a checked function.
+#![tactic(auto)]
+
+mod assignments;
+mod classes;
+mod counted;
+mod counts;
+mod draft;
+mod enclosing;
+mod function;
+mod laws;
+mod leaves;
+mod occurrences;
+mod reads;
+mod setting;
+mod shapes;
+mod sizes;
+mod statements;
+mod sums;
+mod terms;
+#[cfg(test)]
+mod tests;
+
+pub use function::lower;
+pub use laws::built_forms_are_lowered;

@@ -1,0 +1,24 @@
+-- The joins of the full form as a list, block by block.
+use Rattle.std.specs.Prelude.{ℕ, zero, suc, if◌then◌else◌, List, [], ◌++◌, map, nat_eq}
+use Rattle.std.specs.List.{filter}
+use Rattle.ssa_build.specs.declared.full.FullForm.{FullForm}
+use Rattle.ssa_build.specs.declared.joins.Join.{Join}
+use Rattle.ssa_build.specs.Forms.{Block}
+use Rattle.ssa_build.specs.FullForms.{after, live_in, phi_name}
+use Rattle.ssa_build.specs.Lists.{count_from}
+use Rattle.ssa_build.specs.Sources.{sources_of}
+
+abbrev pub join : ℕ → ℕ → List ℕ → Join
+join n s os = record { name = n; spare = s; operands = os }
+
+-- the spare name of a slot is its first
+abbrev pub slot_join : FullForm → List Block → ℕ → ℕ → Join
+slot_join f g b s = join (phi_name f b s) s (map (λ p. after f g p s) (sources_of g b))
+
+abbrev pub block_joins : FullForm → List Block → ℕ → List Join
+block_joins f g b = if nat_eq b f.layout.entry then [] else map (slot_join f g b) (filter (live_in f b) (count_from 0 f.layout.slots))
+
+-- the joins of the first blocks
+abbrev pub joins_below : FullForm → List Block → ℕ → List Join
+joins_below f g zero = []
+joins_below f g (suc b) = joins_below f g b ++ block_joins f g b

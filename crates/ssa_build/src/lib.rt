@@ -1,0 +1,20 @@
+//! The SSA form of a goto form: names for slots, with φs where they join several names.
+#![tactic(auto)]
+
+mod build;
+mod full;
+mod joins;
+mod layout;
+mod liveness;
+mod names;
+mod numbers;
+mod output;
+mod phis;
+mod sources;
+mod tables;
+mod writing;
+
+pub use build::build_ssa;
+
+#[cfg(test)]
+mod tests;

@@ -1,0 +1,8 @@
+pub mod Phis
+pub mod Places
+pub mod SameLists
+pub mod OneDefinition
+pub mod InSight
+pub mod Predecessors
+pub mod DefinitionsFirst
+pub mod NamedLaws

@@ -1,0 +1,4 @@
+pub mod Naming
+pub mod Lockstep
+pub mod NamingBounds
+pub mod Definitions

@@ -1,0 +1,111 @@
+//! Whether two goto forms are one.
+
+ghost use Rattle.std.specs.Prelude.{◌≡◌, ℕ, ◌↔◌, IsTrue, List, length, map};
+
+use block_forms::{Block, End, Goto, Term};
+
+fn same_term(t: &Term, u: &Term) -> bool
+    ensures { IsTrue result ↔ (t.now ≡ u.now) }
+{
+    t.expr == u.expr && t.names.as_slice() == u.names.as_slice()
+}
+
+fn same_end(x: &End, y: &End) -> bool
+    ensures { IsTrue result ↔ (x.now ≡ y.now) }
+{
+    match x {
+        End::Jump(c) => match y {
+            End::Jump(d) => *c == *d,
+            _ => false,
+        },
+        End::Branch(t, a, b) => match y {
+            End::Branch(u, c, d) => {
+                if *a != *c {
+                    return false;
+                }
+                if *b != *d {
+                    return false;
+                }
+                same_term(t, u)
+            }
+            _ => false,
+        },
+        End::Return(t) => match y {
+            End::Return(u) => same_term(t, u),
+            _ => false,
+        },
+        End::Fail(c) => match y {
+            End::Fail(d) => *c == *d,
+            _ => false,
+        },
+    }
+}
+
+fn same_assignment(x: &Option<(u32, Term)>, y: &Option<(u32, Term)>) -> bool
+    ensures { IsTrue result ↔ (x.now ≡ y.now) }
+{
+    match x {
+        None => match y {
+            None => true,
+            Some(_) => false,
+        },
+        Some(a) => match y {
+            None => false,
+            Some(b) => {
+                if a.0 != b.0 {
+                    return false;
+                }
+                same_term(&a.1, &b.1)
+            }
+        },
+    }
+}
+
+fn same_block(x: &Block, y: &Block) -> bool
+    ensures { IsTrue result ↔ (x.now ≡ y.now) }
+{
+    if x.head != y.head {
+        return false;
+    }
+    if !same_assignment(&x.set, &y.set) {
+        return false;
+    }
+    same_end(&x.end, &y.end)
+}
+
+fn same_blocks(xs: &[Block], ys: &[Block]) -> bool
+    requires { length xs.now ≡ length ys.now }
+    ensures { IsTrue result ↔ (xs.now ≡ ys.now) }
+{
+    for b in 0..xs.len() {
+        if !same_block(&xs[b], &ys[b]) {
+            return false;
+        }
+    }
+    true
+}
+
+fn same_numbers(xs: &[u32], ys: &[u32]) -> bool
+    ensures { IsTrue result ↔ (xs.now ≡ ys.now) }
+{
+    xs == ys
+}
+
+/// Whether the two forms are one, block by block.
+pub(crate) fn same_goto(x: &Goto, y: &Goto) -> bool
+    ensures { IsTrue result ↔ (x.now ≡ y.now) }
+{
+    if x.entry != y.entry {
+        return false;
+    }
+    if x.finish != y.finish {
+        return false;
+    }
+    if !same_numbers(x.nodes.as_slice(), y.nodes.as_slice()) {
+        return false;
+    }
+    if x.blocks.len() != y.blocks.len() {
+        return false;
+    }
+    same_blocks(x.blocks.as_slice(), y.blocks.as_slice())
+}
