@@ -82,8 +82,14 @@ called_at zero y x d e =
 called_at (suc zero) y x d e =
     subst (λ y. BlockCalled sign_of_ssa sign_of_anf 1 y x) (same_Some _ _ d)
     (subst (BlockCalled sign_of_ssa sign_of_anf 1 _) (same_Some _ _ e)
-    (record { set = refl; end = (refl, record { target = refl; passes = passes_none 1 },
-    record { target = refl; passes = passes_none 1 }) }))
+    (record {
+      set = refl;
+      end = (
+        refl,
+        record { target = refl; passes = passes_none 1 },
+        record { target = refl; passes = passes_none 1 },
+      );
+    }))
 called_at (suc (suc zero)) y x d e =
     subst (λ y. BlockCalled sign_of_ssa sign_of_anf 2 y x) (same_Some _ _ d)
     (subst (BlockCalled sign_of_ssa sign_of_anf 2 _) (same_Some _ _ e)
@@ -251,11 +257,14 @@ sign_of_templated : Templated sign_of (bigint ∷ []) 0 sign_of_form sign_of_ssa
 unfolding sources b.hidden-the_row-Stmt-0 b.hidden-the_row-Arm-1 e.hidden-the_row-Expr-0 e.hidden-the_row-Expr-Chain-1-2-1 e.hidden-the_row-Expr-2 e.hidden-the_row-Expr-Cases-0-2-3 e.hidden-the_row-Query-4 e.hidden-the_row-Select-5 e.hidden-the_row-Item-6 e.hidden-the_row-FromItem-7 e.hidden-the_row-Key-8 view.roll-Select view.roll-Recursive view.roll-Query denote.Hole.Carrier.hidden denote.Hole.Carrier.roll
 sign_of_templated = record {
   entry = only_zero;
-  trees = of_zero _ (passes_known, (
-    record { known = among_zero; as_many = refl },
-    (passes_nothing, record { known = no_names; as_many = refl }),
-    (passes_nothing, record { known = no_names; as_many = refl })
-  ));
+  trees = of_zero _ (
+    passes_known,
+    (
+      record { known = among_zero; as_many = refl },
+      (passes_nothing, record { known = no_names; as_many = refl }),
+      (passes_nothing, record { known = no_names; as_many = refl }),
+    ),
+  );
   query = refl;
 }
 

@@ -5,8 +5,8 @@ ghost use Rattle.call_forms.specs.NormalRuns.{anf_runs};
 ghost use Rattle.call_forms.specs.TailRuns.{tail_runs};
 ghost use Rattle.call_forms.specs.RunLaws.{anf_stays, tail_stays};
 
-use block_forms::Form;
 use crate::forms::{Anf, Tail};
+use block_forms::Form;
 
 /// The normal form.
 #[derive(Clone, Copy)]

@@ -202,11 +202,11 @@ module _ (frame : Frame) (slots : List Slot) (z : Ssa) (a : Anf) (r : Tail) (mer
   covers : (j : ℕ) → Labels j × Others j
   covers zero = (
     λ k i b row h h' p q e.
-    no_answer h (two k (i, row) h')
-    (at_most_as h h' (two k (i, row) h').heads q (heads_from (tail_machine frame a r) k (i, row) h')),
+        no_answer h (two k (i, row) h')
+        (at_most_as h h' (two k (i, row) h').heads q (heads_from (tail_machine frame a r) k (i, row) h')),
     λ k d b s h h' p q inside missed finite.
-    no_answer h (then_goes (walked (tree a r d b) s) (two k) h')
-    (at_most_as h h' (then_goes (walked (tree a r d b) s) (two k) h').heads q (rises k (walked (tree a r d b) s) h'))
+        no_answer h (then_goes (walked (tree a r d b) s) (two k) h')
+        (at_most_as h h' (then_goes (walked (tree a r d b) s) (two k) h').heads q (rises k (walked (tree a r d b) s) h')),
   )
   covers (suc j) = let before = covers j in (labels_next j before.0 before.1, others_next j before.0 before.1)
 
@@ -217,8 +217,10 @@ module _ (frame : Frame) (slots : List Slot) (z : Ssa) (a : Anf) (r : Tail) (mer
     where
       by : (o : Option ℕ) → label_of r frame.goto.entry ≡ o
           → Covers (anf_runs frame a args k)
-          (two k (label_or (length r.labels) o,
-          row_from 0 (first_values frame args) (places_of frame a r (label_or (length r.labels) o)) (params_of (slice_get a.blocks frame.goto.entry)) r.columns) 0)
+          (two k (
+            label_or (length r.labels) o,
+            row_from 0 (first_values frame args) (places_of frame a r (label_or (length r.labels) o)) (params_of (slice_get a.blocks frame.goto.entry)) r.columns,
+          ) 0)
       by None missed = absurd (placed 0 r.labels frame.goto.entry merged.entry.place merged.entry.there missed)
       by (Some i) found =
           let entry : ℕ = frame.goto.entry in

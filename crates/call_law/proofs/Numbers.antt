@@ -28,7 +28,7 @@ pub differ_is : (xs : List ℕ) → Distinct itself xs → Differ xs
 differ_is [] distinct = tt
 differ_is (x ∷ xs) distinct = (
   misses_each x xs (λ i y e. (distinct (suc i) y e).others 0 x refl (omega arith)),
-  differ_is xs (λ i y e. record { others = λ j z at lt. (distinct (suc i) y e).others (suc j) z at (omega (arith, lt)) })
+  differ_is xs (λ i y e. record { others = λ j z at lt. (distinct (suc i) y e).others (suc j) z at (omega (arith, lt)) }),
 )
 
 pub below_each : (n : ℕ) (xs : List ℕ) → Each (λ x. x < n) xs → Below n xs

@@ -61,12 +61,14 @@ own_keys s (k ∷ ks) (n ∷ ns) h =
 in_row : (s : Scope Value) (ks ns : List ℕ) (columns : List Ty) (cs args : List ℕ) → Below (length columns) cs
     → AreRead (paired s val.Null ks ns) s cs args → AreRead (λ c. get_or (row_from 0 s ks ns columns) c val.Null) s cs args
 in_row s ks ns columns [] args h r = tt
-in_row s ks ns columns (c ∷ cs) [] h r =
-    (at_row_from s ks ns 0 columns c h.0 ∙ (ap (paired s val.Null ks ns) (let e : 0 + c ≡ c = omega arith in e) ∙ r.0),
-    in_row s ks ns columns cs [] h.1 r.1)
-in_row s ks ns columns (c ∷ cs) (a ∷ args) h r =
-    (at_row_from s ks ns 0 columns c h.0 ∙ (ap (paired s val.Null ks ns) (let e : 0 + c ≡ c = omega arith in e) ∙ r.0),
-    in_row s ks ns columns cs args h.1 r.1)
+in_row s ks ns columns (c ∷ cs) [] h r = (
+  at_row_from s ks ns 0 columns c h.0 ∙ (ap (paired s val.Null ks ns) (let e : 0 + c ≡ c = omega arith in e) ∙ r.0),
+  in_row s ks ns columns cs [] h.1 r.1,
+)
+in_row s ks ns columns (c ∷ cs) (a ∷ args) h r = (
+  at_row_from s ks ns 0 columns c h.0 ∙ (ap (paired s val.Null ks ns) (let e : 0 + c ≡ c = omega arith in e) ∙ r.0),
+  in_row s ks ns columns cs args h.1 r.1,
+)
 
 -- a parameter's value comes back from its place
 pub recoded : (s : Scope Value) (columns : List Ty) (params places args : List ℕ) → Differ places → Below (length columns) places

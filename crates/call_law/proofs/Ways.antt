@@ -97,9 +97,9 @@ module _ (g : Goto) (a : Anf) (r : Tail) (m : Merged g a r) where
   fresh b next c o x [] way misses = (λ p. way (subst IsOther p o), tt)
   fresh b next c o x (y ∷ ys) way misses = (
     λ p.
-    misses.0 (one_caller a.blocks next b y c (subst (λ x. 0 < calls_of (slice_get a.blocks y) x) (sym p) way.0)
-    (m.others next (called_there next b c) o).one_call),
-    fresh b next c o y ys way.1 misses.1
+        misses.0 (one_caller a.blocks next b y c (subst (λ x. 0 < calls_of (slice_get a.blocks y) x) (sym p) way.0)
+        (m.others next (called_there next b c) o).one_call),
+    fresh b next c o y ys way.1 misses.1,
   )
 
   -- ---- a block, where the trees of its calls are finite
@@ -118,7 +118,7 @@ module _ (g : Goto) (a : Anf) (r : Tail) (m : Merged g a r) where
   end_ends trees (Go c) h = call_ends trees c (h c.target (is_called c.target))
   end_ends trees (Pick t x y) h = (
     call_ends trees x (h x.target (first (one_of (nat_eq x.target x.target)) (one_of (nat_eq y.target x.target)) (is_called x.target))),
-    call_ends trees y (h y.target (second (one_of (nat_eq x.target y.target)) (one_of (nat_eq y.target y.target)) (is_called y.target)))
+    call_ends trees y (h y.target (second (one_of (nat_eq x.target y.target)) (one_of (nat_eq y.target y.target)) (is_called y.target))),
   )
     where
       first : (m n : ℕ) → 0 < m → 0 < m + n

@@ -69,7 +69,7 @@ module _ (s : Setting) where
       let front_parts = decl_parts s d p middle in
       let back_parts = decls_parts s ds (after p (decl_size d)) next in
       let seen : Sees (with_slot V p.slot) (a.sight ++ a.walked.next ∷ []) =
-          subst (λ j. Sees (with_slot V j) (a.sight ++ a.walked.next ∷ [])) is (sees_push V a.walked.next a.sight sees) in
+      subst (λ j. Sees (with_slot V j) (a.sight ++ a.walked.next ∷ [])) is (sees_push V a.walked.next a.sight sees) in
       slot_safe s (slice_get s.slots p.slot) k (node s.goto p.node) p.slot middle (default_term s d.default d.ty p.expr) V
       (left s.goto.blocks front_parts back_parts stand) (default_reads d.default d.ty p.expr a.walked.next a.sight V sees mine)
       (decls_safe ds (with_decl a d) (after p (decl_size d)) (omega (arith, is)) next (with_slot V p.slot) seen reads
@@ -128,8 +128,11 @@ module _ (s : Setting) where
         → (sight.statement (st.Block label ds w None) next see).next ≡ next + (0 + (decls_size ds).slot + (row_size x).slot)
     block_slots next see =
         let done = declared_on (record { walked = sight.no_expr next see; sight = see }) ds in
-        omega (arith, f.slots (sight.no_expr done.walked.next done.sight) done.sight,
-        decls_slots ds (record { walked = sight.no_expr next see; sight = see }))
+        omega (
+          arith,
+          f.slots (sight.no_expr done.walked.next done.sight) done.sight,
+          decls_slots ds (record { walked = sight.no_expr next see; sight = see }),
+        )
 
     pub block_safe : (closing : Label) → LayerSafe s (st.Block label ds x closing) (st.Block label ds w closing)
     block_safe closing = record { slots = block_slots; goes = block_goes }

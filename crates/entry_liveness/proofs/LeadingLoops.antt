@@ -20,7 +20,7 @@ module _ (s : Setting) where
   step_leads (Some e) k c step head stand h =
       let test = no_of s.goto (jump_of s.goto c) in
       let bound = set_leads s true ty.Bigint c step test (source_term k e) (stand.0, (stand.1.0, (stand.1.1.0, tt)))
-            (in_list s.goto.blocks test _ stand.1.1.1.0) in
+      (in_list s.goto.blocks test _ stand.1.1.1.0) in
       record {
         begins = bound.begins;
         parts =
@@ -125,9 +125,9 @@ module _ (s : Setting) where
       let front_stand = left s.goto.blocks front_parts back_parts stand in
       let turns = again_within k p body next front_stand in
       let back = f.goes inside inner again (right s.goto.blocks front_parts back_parts stand) (record {
-            follows = turns;
-            leaves = loop_within s.goto.blocks s.goto.finish around label next again on.follows turns on.leaves;
-          }) in
+        follows = turns;
+        leaves = loop_within s.goto.blocks s.goto.finish around label next again on.follows turns on.leaves;
+      }) in
       let begins : Within s body = body_within k back.begins in
       both s (node s.goto p.node) body front_parts back_parts (kind_leads k p body next front_stand begins on.follows)
       (record { begins = begins; parts = back.parts })

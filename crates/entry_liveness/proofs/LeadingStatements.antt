@@ -145,7 +145,7 @@ module _ (s : Setting) where
       let back_parts = decls_parts s ds (after p (decl_size d)) next in
       let back = decls_lead ds (after p (decl_size d)) next (right s.goto.blocks front_parts back_parts stand) h in
       let front = slot_leads (slice_get s.slots p.slot) (node s.goto p.node) p.slot middle (default_term s d.default d.ty p.expr)
-              (left s.goto.blocks front_parts back_parts stand) back.begins in
+      (left s.goto.blocks front_parts back_parts stand) back.begins in
       both (node s.goto p.node) middle front_parts back_parts front back
 
   pub block_leads : (label : Label) (ds : List Decl) (x : List Laid) → RowLeads x → (p : Place) (around : Around) (next : ℕ)
@@ -158,9 +158,9 @@ module _ (s : Setting) where
       let front_parts = decls_parts s ds (after p a_node) middle in
       let back_parts = row_parts s x inside inner next in
       let back = f.goes inside inner next (right s.goto.blocks front_parts back_parts stand.1) (record {
-            follows = on.follows;
-            leaves = block_within s.goto.blocks s.goto.finish around label next on.follows on.leaves;
-          }) in
+        follows = on.follows;
+        leaves = block_within s.goto.blocks s.goto.finish around label next on.follows on.leaves;
+      }) in
       let front = decls_lead ds (after p a_node) middle (left s.goto.blocks front_parts back_parts stand.1) back.begins in
       record {
         begins = subst Within (sym stand.0) front.begins;

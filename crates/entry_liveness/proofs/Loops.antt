@@ -118,7 +118,7 @@ module _ (s : Setting) where
         let ranges : Term = in_range s.numbers.fixed reverse cur (cur + 1) in
         let copies : Term = copy s.numbers.fixed cur in
         let tested : SafeAt k test (turning V cur var) =
-            safe_wider s.goto.blocks k test C (turning V cur var) (λ i v. inl v) (test_safe k (head_counts around h k on') on'.follows) in
+        safe_wider s.goto.blocks k test C (turning V cur var) (λ i v. inl v) (test_safe k (head_counts around h k on') on'.follows) in
         step_branch s.goto.blocks k head turn next true ranges C stand.0 (reads_two C ranges.expr cur (cur + 1) has_cur has_last)
         (safe_set s.goto.blocks k turn body var copies C stand.1.0 (reads_one C cur copies.expr has_cur) (h k tested on'))
         (safe_wider s.goto.blocks k next V C (counting_wider V cur) on'.follows)

@@ -78,7 +78,7 @@ module _ (s : Setting) where
     before = λ a sight h. every_left ReadsInSight a.exprs (w a.next sight).exprs (r.before (behind a (w a.next sight)) sight h);
     goes = λ a p is around next sight V stood k on.
         let mine : InSight (w a.next sight) =
-            every_right ReadsInSight a.exprs (w a.next sight).exprs (r.before (behind a (w a.next sight)) sight stood.reads) in
+        every_right ReadsInSight a.exprs (w a.next sight).exprs (r.before (behind a (w a.next sight)) sight stood.reads) in
         let middle = first_block s (length xs) (p.node + x.size.node) next in
         let front_parts = x.parts s p around middle in
         let back_parts = row_parts s xs (after p x.size) around next in

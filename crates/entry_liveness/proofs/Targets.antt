@@ -92,7 +92,7 @@ module _ (s : Setting) where
       let back_parts = params_parts s strict result (i + 1) ps in
       let same : i + length (p ∷ ps) ≡ i + 1 + length ps = omega arith in
       let back = params_lead strict result ps (i + 1) (right s.goto.blocks front_parts back_parts stand)
-            (subst (λ j. Within s (node s.goto j)) same h) in
+      (subst (λ j. Within s (node s.goto j)) same h) in
       let front = param_leads strict result i p.1 (left s.goto.blocks front_parts back_parts stand) back.begins in
       both s (node s.goto i) (node s.goto (i + 1)) front_parts back_parts front back
 
@@ -123,7 +123,7 @@ module _ (f : Function) (slots : List Slot) (g : Goto) (low : Lowered f slots g)
   all_lead =
       let start : node g (length f.params) ≡ node g (0 + length f.params) = ap (node g) (omega arith) in
       let front = params_lead s f.strict f.result f.params 0 (left g.blocks param_row body_row low.stand.1.1)
-            (subst (λ c. c < length g.blocks) start body_leads.begins) in
+      (subst (λ c. c < length g.blocks) start body_leads.begins) in
       (front.begins, (tt, lead_both g.blocks param_row body_row front.parts body_leads.parts))
 
   pub form_targets : Each (LeadsWithin (length g.blocks)) g.blocks

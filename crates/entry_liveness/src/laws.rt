@@ -15,9 +15,7 @@ use slots_in_sight::slots_are_in_sight;
 
 /// At the entry of a checked function's goto form no slot but a parameter is live.
 pub fn only_parameters_are_live_at_the_entry(f: &CheckedFunction)
-    ensures {
-        (g : Goto) → Lowered f.now.function f.now.slots g → OnlyParametersLive (length f.now.function.params) g
-    }
+    ensures { (g : Goto) → Lowered f.now.function f.now.slots g → OnlyParametersLive (length f.now.function.params) g }
 {
     slots_are_in_sight(f);
 }
@@ -30,9 +28,7 @@ pub fn parameters_have_slots(f: &CheckedFunction)
 /// A function's goto form begins at one of its blocks, and each block leads to blocks of the form.
 pub fn forms_lead_to_their_blocks()
     ensures entry { (f : Function) (slots : List Slot) (g : Goto) → Lowered f slots g → g.entry < length g.blocks }
-    ensures targets {
-        (f : Function) (slots : List Slot) (g : Goto) → Lowered f slots g → Each (LeadsWithin (length g.blocks)) g.blocks
-    }
+    ensures targets { (f : Function) (slots : List Slot) (g : Goto) → Lowered f slots g → Each (LeadsWithin (length g.blocks)) g.blocks }
 {}
 
 /// At the entry of one worked form its parameter is live, and nothing else; at that of the other a variable is that

@@ -4,5 +4,6 @@
 mod laws;
 
 pub use laws::{
-    forms_lead_to_their_blocks, only_parameters_are_live_at_the_entry, parameters_have_slots, worked_entries_are_judged,
+    forms_lead_to_their_blocks, only_parameters_are_live_at_the_entry, parameters_have_slots,
+    worked_entries_are_judged,
 };
