@@ -12,6 +12,9 @@ pub mod Patterns
 pub mod Laid
 pub mod Lowered
 pub mod Named
+pub mod Leading
+pub mod Live
+pub mod Trivial
 pub mod Slots
 pub mod Targets
 pub mod OwnSlots

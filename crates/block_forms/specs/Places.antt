@@ -1,5 +1,5 @@
 -- What holds of each element of a list, by the places of the elements.
-use Rattle.std.specs.Prelude.{◌≡◌, ◌≢◌, ℕ, ◌<◌, List, slice_get, Option, Some, None}
+use Rattle.std.specs.Prelude.{◌≡◌, ◌≢◌, ◌⊎◌, ℕ, ◌<◌, List, [], ◌∷◌, slice_get, Option, Some, None}
 
 -- each element
 abbrev pub Each : {X : Type 0} → (X → Type 0) → List X → Type 0
@@ -27,3 +27,8 @@ first_of p = p.0
 abbrev pub IsThere : {X : Type 0} → Option X → Type 0
 IsThere None = ⊥
 IsThere (Some x) = Unit {0}
+
+-- x is an element
+abbrev pub In : {X : Type 0} → List X → X → Type 0
+In [] x = ⊥
+In (y ∷ ys) x = (y ≡ x) ⊎ In ys x

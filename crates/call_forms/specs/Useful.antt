@@ -1,7 +1,9 @@
 -- Useful parameters: those whose values reach something that is read.
 use Rattle.std.specs.Prelude.{◌≡◌, ◌⊎◌, ℕ, zero, suc, slice_get, Option, Some, None}
 use Rattle.block_forms.specs.Forms.{Assignment}
+use Rattle.block_forms.specs.declared.forms.Ssa.{Ssa}
 use Rattle.block_forms.specs.Places.{Each, EachAt}
+use Rattle.block_forms.specs.Trivial.{HasNoTrivial}
 use Rattle.call_forms.specs.Called.{Among}
 use Rattle.call_forms.specs.Forms.{Call, CallEnd, Go, Pick, Return, Fail, AnfBlock, Anf, params_of}
 
@@ -51,3 +53,8 @@ pub record IsUseful (a : Anf) (b p : ℕ) : Type 0 where
 
 pub record UsefulParameters (a : Anf) : Type 0 where
   pub each : EachAt (λ b x. Each (IsUseful a b) x.params) a.blocks
+
+-- no φ joins one name alone, and every parameter is useful
+pub record Neat (z : Ssa) (a : Anf) : Type 0 where
+  pub no_trivial : HasNoTrivial z
+  pub useful : UsefulParameters a

@@ -9,11 +9,12 @@ use Rattle.ssa_build.specs.Forms.{Block, Phi, Ssa, SsaBlock}
 use Rattle.ssa_build.specs.FullForms.{IsFullForm, after, live_in, phi_name, set_name}
 use Rattle.ssa_build.specs.FullJoins.{block_joins, joins_below, slot_join}
 use Rattle.ssa_build.specs.Joins.{Merged, WellFormed}
-use Rattle.ssa_build.specs.Lists.{In, count_from}
+use Rattle.block_forms.specs.Places.{In}
+use Rattle.ssa_build.specs.Lists.{count_from}
 use Rattle.ssa_build.specs.Maximal.{full_block, full_phi, full_phis, numbered}
 use Rattle.ssa_build.specs.Numbers.{Numbers}
 use Rattle.ssa_build.specs.Sources.{sources_of}
-use Rattle.ssa_build.specs.Trivial.{HasNoTrivial}
+use Rattle.block_forms.specs.Trivial.{HasNoTrivial}
 use Rattle.ssa_build.proofs.BuiltForm.{built_form, full_form}
 use Rattle.ssa_build.proofs.Counting.{at_numbered, distinct_count, distinct_map, numbered_at}
 use Rattle.ssa_build.proofs.FullForm.{distinct_filter_plain, from_sets, full_named}

@@ -5,9 +5,9 @@ use Rattle.block_forms.specs.Forms.{AtTargets, Pairs, at_key, phi_named, source,
 use Rattle.block_forms.specs.Lowered.{end_leads}
 use Rattle.block_forms.specs.Named.{AssignmentRenamed, BlockRenamed, EdgesFed, EndRenamed, EntryHas, Feeds, MapOfParameters, MapOfSlots, Maps, Named, NamesOfSlots, PhisOfPredecessors, TermRenamed, exit_map, leads}
 use Rattle.block_forms.specs.Places.{Distinct, Each, IsThere, first_of}
-use Rattle.ssa_build.specs.Blocks.{LeadsWithin}
+use Rattle.block_forms.specs.Leading.{LeadsWithin}
 use Rattle.ssa_build.specs.Forms.{Block, Branch, End, Fail, Goto, Jump, Phi, Return, Ssa, SsaBlock, Term}
-use Rattle.ssa_build.specs.Lists.{In}
+use Rattle.block_forms.specs.Places.{In}
 use Rattle.ssa_build.proofs.Edges.{edge_from_leads, leads_from_edge}
 use Rattle.ssa_build.proofs.Lists.{in_lookup, in_place, none_some, other_number, same_number, same_place, some_at, some_same}
 use Rattle.ssa_build.proofs.Naming.{Differ, Edge, IsNamed, Leads, SameEnd, SameSet, SameTerm, Spelled, exit_name, is_slot}

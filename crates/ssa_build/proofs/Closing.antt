@@ -5,8 +5,8 @@ use Rattle.std.proofs.lemmas.List.{get_or_past}
 use Rattle.block_forms.specs.Lowered.{BlockBelow, EndBelow, SetBelow, TermBelow}
 use Rattle.block_forms.specs.Places.{Each}
 use Rattle.ssa_build.specs.Forms.{Block, Branch, End, Fail, Jump, Return, Term}
-use Rattle.ssa_build.specs.Lists.{In}
-use Rattle.ssa_build.specs.Live.{Live, LiveEnd, LiveIn, LiveSet}
+use Rattle.block_forms.specs.Places.{In}
+use Rattle.block_forms.specs.Live.{Live, LiveEnd, LiveIn, LiveSet}
 use Rattle.ssa_build.specs.Liveness.{marked}
 use Rattle.ssa_build.specs.Tables.{AreLiveTables, live_by}
 use Rattle.ssa_build.proofs.Lists.{place_of, within_or_past}

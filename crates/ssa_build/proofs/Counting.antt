@@ -1,6 +1,7 @@
 -- Membership in numbers in order, and elements with their places.
 use Rattle.std.proofs.Common.{◌≡◌, ℕ, zero, suc, ◌+◌, ◌<◌, ◌≤◌, List, [], ◌∷◌, map, length, slice_get, Some, refl, ap, ◌∙◌, inl, inr, arith}
-use Rattle.ssa_build.specs.Lists.{In, count_from}
+use Rattle.block_forms.specs.Places.{In}
+use Rattle.ssa_build.specs.Lists.{count_from}
 use Rattle.ssa_build.specs.Maximal.{numbered}
 use Rattle.ssa_build.proofs.Lists.{compared, from_map, in_along, none_some, some_same}
 use Rattle.ssa_build.proofs.Naming.{Differ}

@@ -3,7 +3,7 @@ use Rattle.std.proofs.Common.{◌≡◌, ◌⊎◌, ℕ, zero, suc, ◌<◌, ◌
 use Rattle.block_forms.specs.Lowered.{BlockBelow}
 use Rattle.block_forms.specs.Places.{Each}
 use Rattle.ssa_build.specs.Forms.{Block, Branch, End, Fail, Goto, Jump, Return, Term}
-use Rattle.ssa_build.specs.Live.{Live, LiveEnd, LiveIn, LiveSet, OnlyParametersLive}
+use Rattle.block_forms.specs.Live.{Live, LiveEnd, LiveIn, LiveSet, OnlyParametersLive}
 use Rattle.ssa_build.specs.Liveness.{IsClosed, marked}
 use Rattle.ssa_build.proofs.Closing.{reads_below}
 use Rattle.ssa_build.proofs.Lists.{within_or_past}

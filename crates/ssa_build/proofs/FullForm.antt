@@ -6,8 +6,9 @@ use Rattle.block_forms.specs.Forms.{at_key}
 use Rattle.block_forms.specs.Named.{leads}
 use Rattle.block_forms.specs.Places.{first_of}
 use Rattle.ssa_build.specs.Forms.{Block, Branch, End, Fail, Jump, Phi, Return, Ssa, SsaBlock, Term}
-use Rattle.ssa_build.specs.Lists.{In, count_from}
-use Rattle.ssa_build.specs.Live.{LiveEnd, LiveSet}
+use Rattle.block_forms.specs.Places.{In}
+use Rattle.ssa_build.specs.Lists.{count_from}
+use Rattle.block_forms.specs.Live.{LiveEnd, LiveSet}
 use Rattle.ssa_build.specs.Maximal.{after_block, after_set, entry_name, full, full_block, full_phi, full_phis, live_slots, name_after, named_end, named_set, sources}
 use Rattle.ssa_build.proofs.Counting.{at_numbered, distinct_count, distinct_map, in_count, length_numbered}
 use Rattle.ssa_build.proofs.Edges.{edge_from_leads, leads_from_edge}

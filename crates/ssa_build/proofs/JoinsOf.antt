@@ -2,7 +2,7 @@
 use Rattle.std.specs.Prelude.{◌≡◌, ℕ, List, map, slice_get, Some}
 use Rattle.ssa_build.specs.declared.joins.Join.{Join}
 use Rattle.ssa_build.specs.Forms.{Phi, Ssa, SsaBlock}
-use Rattle.ssa_build.specs.Lists.{In}
+use Rattle.block_forms.specs.Places.{In}
 use Rattle.ssa_build.proofs.Naming.{Sets}
 
 abbrev pub operand : ℕ × ℕ → ℕ

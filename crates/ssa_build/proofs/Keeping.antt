@@ -5,7 +5,7 @@ use Rattle.std.specs.List.{filter}
 use Rattle.block_forms.specs.Forms.{at_key}
 use Rattle.block_forms.specs.Places.{first_of}
 use Rattle.ssa_build.specs.Forms.{Block, Phi, Ssa, SsaBlock}
-use Rattle.ssa_build.specs.Lists.{In}
+use Rattle.block_forms.specs.Places.{In}
 use Rattle.ssa_build.proofs.Lists.{compared, distinct_filter, from_at_map, from_filter, from_lookup, from_map, same_map, some_same}
 use Rattle.ssa_build.proofs.Merges.{Renames, SetsStaying, replaced, replaced_block, replaced_in, replaced_phi}
 use Rattle.ssa_build.proofs.Naming.{Assigns, Differ, Edge, Flows, IsNamed, IsPhi, SameEnd, SameSet, Sets, exit_name}

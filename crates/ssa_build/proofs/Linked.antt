@@ -5,9 +5,9 @@ use Rattle.std.proofs.lemmas.List.{get_or_past, get_or_default}
 use Rattle.ssa_build.specs.declared.joins.Join.{Join}
 use Rattle.ssa_build.specs.Forms.{Block, Phi, Ssa, SsaBlock}
 use Rattle.ssa_build.specs.Joins.{IsRoot, Merged, WellFormed}
-use Rattle.ssa_build.specs.Lists.{In}
+use Rattle.block_forms.specs.Places.{In}
 use Rattle.ssa_build.specs.Merging.{is_end, replacing}
-use Rattle.ssa_build.specs.Trivial.{HasNoTrivial}
+use Rattle.block_forms.specs.Trivial.{HasNoTrivial}
 use Rattle.ssa_build.proofs.JoinsOf.{JoinsOf, operand}
 use Rattle.ssa_build.proofs.Keeping.{keeps}
 use Rattle.ssa_build.proofs.Lists.{from_map, in_get_or, in_map, place_of, some_same, within_or_past}

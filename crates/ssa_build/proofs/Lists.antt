@@ -4,7 +4,7 @@ use Rattle.std.specs.List.{filter}
 use Rattle.std.proofs.lemmas.Bool.Decides.{eqb_tells}
 use Rattle.block_forms.specs.Forms.{at_key}
 use Rattle.block_forms.specs.Places.{first_of}
-use Rattle.ssa_build.specs.Lists.{In}
+use Rattle.block_forms.specs.Places.{In}
 use Rattle.ssa_build.proofs.Naming.{Differ}
 
 pub some_same : {X : Type 0} {a b : X} → Some a ≡ Some b → a ≡ b

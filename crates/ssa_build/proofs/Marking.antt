@@ -1,8 +1,8 @@
 -- The test of liveness by a table, and what a table tells.
 use Rattle.std.proofs.Common.{◌≡◌, ◌⊎◌, ℕ, zero, suc, ◌+◌, ◌<◌, Bool, true, false, not, ◌||◌, ◌&&◌, List, [], ◌∷◌, length, get_or, set, drop, slice_get, Option, Some, None, nat_eq, refl, sym, ap, ◌∙◌, subst, inl, inr, arith, get_or-set_other}
 use Rattle.ssa_build.specs.Forms.{Block, Branch, End, Fail, Jump, Return, Term}
-use Rattle.ssa_build.specs.Lists.{In}
-use Rattle.ssa_build.specs.Live.{Live, LiveEnd, LiveIn, LiveSet}
+use Rattle.block_forms.specs.Places.{In}
+use Rattle.block_forms.specs.Live.{Live, LiveEnd, LiveIn, LiveSet}
 use Rattle.ssa_build.specs.Liveness.{OnlyLive, has, lives, lives_end, lives_set, marked, one_unless, unmarked}
 use Rattle.ssa_build.proofs.Lists.{compared, other_number, same_number, tests_other, tests_same}
 

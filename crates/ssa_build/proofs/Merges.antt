@@ -3,7 +3,7 @@ use Rattle.std.specs.Prelude.{◌≡◌, ◌≢◌, ◌⊎◌, ℕ, ◌<◌, ◌
 use Rattle.std.specs.List.{filter}
 use Rattle.ssa_build.specs.Blocks.{term}
 use Rattle.ssa_build.specs.Forms.{Branch, End, Fail, Jump, Phi, Return, Ssa, SsaBlock, Term}
-use Rattle.ssa_build.specs.Lists.{In}
+use Rattle.block_forms.specs.Places.{In}
 use Rattle.ssa_build.proofs.Naming.{Assigns, IsPhi}
 
 -- ---- names replaced everywhere, and φs dropped

@@ -5,7 +5,8 @@ use Rattle.std.proofs.Math.Nat.{mul-le-mul_right}
 use Rattle.ssa_build.specs.declared.layout.Layout.{Layout}
 use Rattle.ssa_build.specs.Forms.{Block, Term}
 use Rattle.ssa_build.specs.Layout.{IsLayout}
-use Rattle.ssa_build.specs.Lists.{In, count_from}
+use Rattle.block_forms.specs.Places.{In}
+use Rattle.ssa_build.specs.Lists.{count_from}
 use Rattle.ssa_build.specs.Names.{NamesBelow, assigned, has_phi, names_below, next_name, phi_slots, set_slots}
 use Rattle.ssa_build.proofs.Counting.{from_count}
 use Rattle.ssa_build.proofs.Lists.{compared, from_both, from_filter, in_place, tests_other, within_or_past}

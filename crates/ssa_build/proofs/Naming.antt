@@ -3,7 +3,7 @@ use Rattle.std.specs.Prelude.{◌≡◌, ◌⊎◌, ℕ, ◌<◌, ◌≤◌, Boo
 use Rattle.block_forms.specs.Forms.{at_key}
 use Rattle.block_forms.specs.Places.{first_of}
 use Rattle.ssa_build.specs.Forms.{Block, Branch, End, Fail, Jump, Phi, Return, Ssa, SsaBlock, Term}
-use Rattle.ssa_build.specs.Lists.{In}
+use Rattle.block_forms.specs.Places.{In}
 
 -- no element is equal to a later one
 abbrev pub Differ : {X : Type 0} → List X → Type 0

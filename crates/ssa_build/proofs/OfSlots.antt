@@ -3,7 +3,7 @@ use Rattle.std.proofs.Common.{◌≡◌, ℕ, ◌<◌, Bool, true, false, if◌t
 use Rattle.std.proofs.lemmas.Option.{slice_get_within}
 use Rattle.block_forms.specs.Forms.{at_key}
 use Rattle.ssa_build.specs.Forms.{Block, Phi, Ssa, SsaBlock, Term}
-use Rattle.ssa_build.specs.Lists.{In}
+use Rattle.block_forms.specs.Places.{In}
 use Rattle.ssa_build.proofs.Lists.{from_lookup, in_lookup, same_number, some_at, some_same}
 use Rattle.ssa_build.proofs.Naming.{Assigns, IsNamed, SameSet, exit_name, is_slot, renewed}
 

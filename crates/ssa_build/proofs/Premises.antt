@@ -1,7 +1,7 @@
 -- What makes the full form a named one: a closed table of live slots, and names of their own for φs and assignments.
 use Rattle.std.specs.Prelude.{◌≡◌, ◌≢◌, ℕ, ◌<◌, ◌≤◌, Bool, true, List, slice_get, Some}
 use Rattle.ssa_build.specs.Forms.{Block, Term}
-use Rattle.ssa_build.specs.Live.{LiveIn}
+use Rattle.block_forms.specs.Live.{LiveIn}
 use Rattle.ssa_build.proofs.Naming.{Edge}
 
 -- a table of live slots that has with what is live next what is live before

@@ -1,9 +1,9 @@
 -- By the names that they are merged into, renumbered.
 use Rattle.std.proofs.Common.{◌≡◌, ◌⊎◌, ℕ, ◌≤◌, List, [], ◌∷◌, slice_get, Some, refl, sym, ap, ◌∙◌, subst, inl, inr}
 use Rattle.ssa_build.specs.Forms.{Block, Phi, Ssa, SsaBlock}
-use Rattle.ssa_build.specs.Lists.{In}
+use Rattle.block_forms.specs.Places.{In}
 use Rattle.ssa_build.specs.Merging.{is_end}
-use Rattle.ssa_build.specs.Trivial.{HasNoTrivial, IsTrivial}
+use Rattle.block_forms.specs.Trivial.{HasNoTrivial, IsTrivial}
 use Rattle.ssa_build.proofs.Keeping.{each_block}
 use Rattle.ssa_build.proofs.Lists.{compared, in_map, other_number, same_number}
 use Rattle.ssa_build.proofs.Merges.{JoinsOnly, Merges, Renames, Renumbers, SetsStaying, replaced, replaced_block, replaced_in, replaced_phi}

@@ -4,7 +4,7 @@ use Rattle.std.proofs.lemmas.List.Sums.{sum_by-cons}
 use Rattle.block_forms.specs.Lowered.{one_of}
 use Rattle.block_forms.specs.Named.{assigns_to, phis_with_name, places_that_set}
 use Rattle.ssa_build.specs.Forms.{Phi, SsaBlock, Term}
-use Rattle.ssa_build.specs.Lists.{In}
+use Rattle.block_forms.specs.Places.{In}
 use Rattle.ssa_build.proofs.Keeping.{has_phi}
 use Rattle.ssa_build.proofs.Lists.{compared, in_along, in_map, tests_other, tests_same}
 use Rattle.ssa_build.proofs.Naming.{Assigns, Differ, IsPhi, Sets}

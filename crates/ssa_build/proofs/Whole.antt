@@ -6,14 +6,14 @@ use Rattle.block_forms.specs.Places.{Each}
 use Rattle.ssa_build.specs.declared.full.FullForm.{FullForm}
 use Rattle.ssa_build.specs.declared.joins.Join.{Join}
 use Rattle.ssa_build.specs.declared.layout.Layout.{Layout}
-use Rattle.ssa_build.specs.Blocks.{LeadsWithin}
+use Rattle.block_forms.specs.Leading.{LeadsWithin}
 use Rattle.ssa_build.specs.Forms.{Block, Goto, Ssa, SsaBlock}
 use Rattle.ssa_build.specs.FullForms.{IsFullForm, live_in}
 use Rattle.ssa_build.specs.FullJoins.{joins_below}
 use Rattle.ssa_build.specs.Joins.{Merged, WellFormed}
-use Rattle.ssa_build.specs.Live.{Live, OnlyParametersLive}
+use Rattle.block_forms.specs.Live.{Live, OnlyParametersLive}
 use Rattle.ssa_build.specs.Numbers.{Numbers}
-use Rattle.ssa_build.specs.Trivial.{HasNoTrivial}
+use Rattle.block_forms.specs.Trivial.{HasNoTrivial}
 use Rattle.ssa_build.specs.Writing.{AreNewBlocks}
 use Rattle.ssa_build.proofs.Built.{builds, formed}
 use Rattle.ssa_build.proofs.ByPlaces.{named_by_places}

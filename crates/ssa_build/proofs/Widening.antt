@@ -3,7 +3,7 @@ use Rattle.std.proofs.Common.{◌≡◌, ◌⊎◌, ℕ, suc, ◌+◌, ◌-◌, 
 use Rattle.std.proofs.lemmas.Option.{slice_get-get_or}
 use Rattle.std.proofs.lemmas.List.{length-set}
 use Rattle.ssa_build.specs.Forms.{Block}
-use Rattle.ssa_build.specs.Live.{LiveIn}
+use Rattle.block_forms.specs.Live.{LiveIn}
 use Rattle.ssa_build.specs.Liveness.{OnlyLive, Widened, lives, marked, unmarked}
 use Rattle.ssa_build.proofs.Lists.{compared, some_same}
 use Rattle.ssa_build.proofs.Marking.{live_lives, mark_more, unmarked_set}

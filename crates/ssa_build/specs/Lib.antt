@@ -1,8 +1,6 @@
 pub mod Forms
 pub mod Lists
 pub mod Blocks
-pub mod Trivial
-pub mod Live
 pub mod Liveness
 pub mod Tables
 pub mod Layout

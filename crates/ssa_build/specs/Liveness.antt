@@ -1,7 +1,7 @@
 -- The blocks at which a slot is live, as a table.
 use Rattle.std.specs.Prelude.{◌≡◌, ℕ, ◌+◌, Bool, true, false, not, ◌||◌, ◌&&◌, List, [], ◌∷◌, length, get_or, slice_get, Option, Some, None, nat_eq}
 use Rattle.ssa_build.specs.Forms.{Block, Branch, End, Fail, Jump, Return, Term}
-use Rattle.ssa_build.specs.Live.{Live, LiveIn}
+use Rattle.block_forms.specs.Live.{Live, LiveIn}
 
 abbrev pub has : List ℕ → ℕ → Bool
 has [] s = false

@@ -4,10 +4,10 @@ ghost use Rattle.std.specs.Prelude.{◌≡◌, ℕ, ◌+◌, ◌*◌, ◌^◌, �
 ghost use Rattle.block_forms.specs.Lowered.{BlockBelow, NoWayTo};
 ghost use Rattle.block_forms.specs.Named.{Named};
 ghost use Rattle.block_forms.specs.Places.{Each};
-ghost use Rattle.ssa_build.specs.Blocks.{LeadsWithin};
+ghost use Rattle.block_forms.specs.Leading.{LeadsWithin};
 ghost use Rattle.ssa_build.specs.Layout.{IsLayout};
-ghost use Rattle.ssa_build.specs.Live.{OnlyParametersLive};
-ghost use Rattle.ssa_build.specs.Trivial.{HasNoTrivial};
+ghost use Rattle.block_forms.specs.Live.{OnlyParametersLive};
+ghost use Rattle.block_forms.specs.Trivial.{HasNoTrivial};
 
 use crate::full::full_form;
 use crate::joins::merge_joins;

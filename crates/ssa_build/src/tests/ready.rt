@@ -4,9 +4,9 @@ ghost use Rattle.std.specs.Prelude.{◌≡◌, ℕ, ◌<◌, ◌≤◌, length, 
 ghost use Rattle.block_forms.specs.Forms.{AtTargets};
 ghost use Rattle.block_forms.specs.Lowered.{BlockBelow, EndBelow, NoWayTo, SetBelow, TermBelow, end_leads};
 ghost use Rattle.block_forms.specs.Places.{Each};
-ghost use Rattle.ssa_build.specs.Blocks.{LeadsWithin};
+ghost use Rattle.block_forms.specs.Leading.{LeadsWithin};
 ghost use Rattle.ssa_build.specs.Layout.{IsLayout};
-ghost use Rattle.ssa_build.specs.Live.{Live, OnlyParametersLive};
+ghost use Rattle.block_forms.specs.Live.{Live, OnlyParametersLive};
 
 use crate::layout::Layout;
 use crate::liveness::{is_marked, live_blocks};

@@ -1,7 +1,7 @@
 use Rattle.std.proofs.Common.{refl, sym, subst}
 use Rattle.block_forms.specs.Lowered.{BlockBelow}
 use Rattle.block_forms.specs.Places.{Each}
-use Rattle.ssa_build.specs.Live.{Live}
+use Rattle.block_forms.specs.Live.{Live}
 use Rattle.ssa_build.proofs.Dead.{only_parameters}
 use Rattle.ssa_build.proofs.tests.ready.is_ready.Goals as goal
 

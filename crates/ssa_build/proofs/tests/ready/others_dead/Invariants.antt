@@ -1,5 +1,5 @@
 use Rattle.std.proofs.Common.{ℕ, ◌<◌, ◌≤◌}
-use Rattle.ssa_build.specs.Live.{Live}
+use Rattle.block_forms.specs.Live.{Live}
 use Rattle.ssa_build.proofs.tests.ready.others_dead.Given as goal
 
 abbrev pub invariant-loop-slot : goal.invariant-loop-slot

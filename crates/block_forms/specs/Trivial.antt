@@ -1,7 +1,7 @@
 -- Trivial φs: those that join one name only.
 use Rattle.std.specs.Prelude.{◌≡◌, ◌⊎◌, ℕ, slice_get, Some}
-use Rattle.ssa_build.specs.Forms.{Phi, Ssa, SsaBlock}
-use Rattle.ssa_build.specs.Lists.{In}
+use Rattle.block_forms.specs.Forms.{Phi, Ssa, SsaBlock}
+use Rattle.block_forms.specs.Places.{In}
 
 -- the operands other than the φ itself are at most one name
 abbrev pub IsTrivial : Phi → Type 0

@@ -13,11 +13,11 @@ use Rattle.block_forms.specs.Laid.{Setting, laying, laid}
 use Rattle.block_forms.specs.Lowered.{Lowered, setting, all_parts, param_parts, params_parts, body_place}
 use Rattle.block_forms.specs.Patterns.{Part, jumps, fails, node, source_term}
 use Rattle.block_forms.specs.Places.{Each}
-use Rattle.ssa_build.specs.Blocks.{LeadsWithin}
-use Rattle.entry_liveness.proofs.Leading.{in_list, AllLead, lead_both, leads_at}
-use Rattle.entry_liveness.proofs.LeadingLoops.{loop_leads}
-use Rattle.entry_liveness.proofs.LeadingStatements.{Stand, Within, IsLed, both, StatementLeads, RowLeads, ArmsLead, ElseLeads, slot_leads, leave_leads, no_row, more_row, no_arms, more_arms, no_else, some_else, branch_leads, block_leads}
-use Rattle.entry_liveness.proofs.Parts.{left, right}
+use Rattle.block_forms.specs.Leading.{LeadsWithin}
+use Rattle.lowered_laws.proofs.Leading.{in_list, AllLead, lead_both, leads_at}
+use Rattle.lowered_laws.proofs.LeadingLoops.{loop_leads}
+use Rattle.lowered_laws.proofs.LeadingStatements.{Stand, Within, IsLed, both, StatementLeads, RowLeads, ArmsLead, ElseLeads, slot_leads, leave_leads, no_row, more_row, no_arms, more_arms, no_else, some_else, branch_leads, block_leads}
+use Rattle.lowered_laws.proofs.Parts.{left, right}
 
 module _ (s : Setting) where
   assign_leads : (name : List ℕ) (slot : _) (e : _) → StatementLeads s (stmt_of laying (b.Assign name slot e))

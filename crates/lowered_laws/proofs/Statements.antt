@@ -4,10 +4,10 @@ use Rattle.away_trees.specs.declared.statements.Stmt.TheBlock as b
 use Rattle.away_trees.specs.StatementAlgebra.{stmt_of, stmts_of, branches_of, else_of}
 use Rattle.slots_in_sight.specs.Sight.{walking}
 use Rattle.block_forms.specs.Laid.{Setting, laying}
-use Rattle.entry_liveness.proofs.Blocks.{block_safe, if_safe, cases_safe}
-use Rattle.entry_liveness.proofs.Leaves.{nothing_safe, assign_safe, exit_safe, continue_safe, return_safe, raise_safe, into_safe}
-use Rattle.entry_liveness.proofs.Loops.{loop_safe}
-use Rattle.entry_liveness.proofs.Rows.{SafeStatement, SafeRow, SafeArms, SafeElse, no_row, more_row, no_arms, more_arms, no_else, some_else}
+use Rattle.lowered_laws.proofs.Blocks.{block_safe, if_safe, cases_safe}
+use Rattle.lowered_laws.proofs.Leaves.{nothing_safe, assign_safe, exit_safe, continue_safe, return_safe, raise_safe, into_safe}
+use Rattle.lowered_laws.proofs.Loops.{loop_safe}
+use Rattle.lowered_laws.proofs.Rows.{SafeStatement, SafeRow, SafeArms, SafeElse, no_row, more_row, no_arms, more_arms, no_else, some_else}
 
 module _ (s : Setting) where
   mutual

@@ -13,8 +13,8 @@ use Rattle.block_forms.specs.Around.{Around}
 use Rattle.block_forms.specs.Laid.{Setting, Laid, LaidArm, after, a_node, with_expr, decl_size, row_size, arms_size, first_block, row_parts, arms_parts, lack, lack_parts, else_parts, branch_parts, inside_of, default_term, decl_parts, decls_parts, block_parts}
 use Rattle.block_forms.specs.Lowered.{AllStand}
 use Rattle.block_forms.specs.Patterns.{Part, node, no_of, set_parts, slot_parts, leave_parts}
-use Rattle.entry_liveness.proofs.Leading.{in_list, lead_both, Led, AroundWithin, block_within}
-use Rattle.entry_liveness.proofs.Parts.{left, right}
+use Rattle.lowered_laws.proofs.Leading.{in_list, lead_both, Led, AroundWithin, block_within}
+use Rattle.lowered_laws.proofs.Parts.{left, right}
 
 module _ (s : Setting) where
   abbrev pub Stand : List Part → Type 0

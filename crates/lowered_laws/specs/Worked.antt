@@ -3,7 +3,7 @@ use Rattle.std.specs.Prelude.{false, [], ◌∷◌}
 use Rattle.block_forms.specs.declared.forms.Goto.{Goto}
 use Rattle.block_forms.specs.Patterns.{term, jumps, returns}
 use Rattle.block_forms.specs.Worked.{sign_of_form}
-use Rattle.ssa_build.specs.Live.{Live, OnlyParametersLive}
+use Rattle.block_forms.specs.Live.{Live, OnlyParametersLive}
 
 -- it returns slot 1
 abbrev pub unset_form : Goto

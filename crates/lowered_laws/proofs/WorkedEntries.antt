@@ -5,9 +5,9 @@ use Rattle.away_trees.specs.declared.statements.Stmt.TheBlock as b
 use Rattle.slots_in_sight.specs.InSight.{AllInSight}
 use Rattle.block_forms.specs.Worked.{sign_of, sign_of_form, bigint}
 use Rattle.block_forms.proofs.WorkedForms.{forms_stand}
-use Rattle.ssa_build.specs.Live.{OnlyParametersLive}
-use Rattle.entry_liveness.specs.Worked.{unset_form, WorkedEntries}
-use Rattle.entry_liveness.proofs.Entry.{only_parameters_are_live}
+use Rattle.block_forms.specs.Live.{OnlyParametersLive}
+use Rattle.lowered_laws.specs.Worked.{unset_form, WorkedEntries}
+use Rattle.lowered_laws.proofs.Entry.{only_parameters_are_live}
 
 sign_of_sees : AllInSight sign_of
 unfolding b.hidden-the_row-Stmt-0 b.hidden-the_row-Arm-1 e.hidden-the_row-Expr-0 e.hidden-the_row-Expr-Chain-1-2-1 denote.Hole.Carrier.hidden

@@ -6,9 +6,9 @@ ghost use Rattle.away_types.specs.declared.slots.Slot.{Slot};
 ghost use Rattle.block_forms.specs.declared.forms.Goto.{Goto};
 ghost use Rattle.block_forms.specs.Lowered.{Lowered};
 ghost use Rattle.block_forms.specs.Places.{Each};
-ghost use Rattle.ssa_build.specs.Blocks.{LeadsWithin};
-ghost use Rattle.ssa_build.specs.Live.{OnlyParametersLive};
-ghost use Rattle.entry_liveness.specs.Worked.{WorkedEntries};
+ghost use Rattle.block_forms.specs.Leading.{LeadsWithin};
+ghost use Rattle.block_forms.specs.Live.{OnlyParametersLive};
+ghost use Rattle.lowered_laws.specs.Worked.{WorkedEntries};
 
 use away_types::CheckedFunction;
 use slots_in_sight::slots_are_in_sight;

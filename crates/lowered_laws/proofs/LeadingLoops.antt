@@ -9,9 +9,9 @@ use Rattle.block_forms.specs.declared.places.Place.{Place}
 use Rattle.block_forms.specs.Around.{Around}
 use Rattle.block_forms.specs.Laid.{Setting, Laid, after, kind_size, first_block, row_parts, again_of, kind_parts, loop_parts}
 use Rattle.block_forms.specs.Patterns.{Part, node, jump_of, no_of, source_term, bound_parts, step_parts, turn_parts, cur_of, after_bound, for_head, for_test, for_parts}
-use Rattle.entry_liveness.proofs.Leading.{in_list, loop_within}
-use Rattle.entry_liveness.proofs.LeadingStatements.{Stand, Within, IsLed, Onward, RowLeads, both, set_leads}
-use Rattle.entry_liveness.proofs.Parts.{left, right}
+use Rattle.lowered_laws.proofs.Leading.{in_list, loop_within}
+use Rattle.lowered_laws.proofs.LeadingStatements.{Stand, Within, IsLed, Onward, RowLeads, both, set_leads}
+use Rattle.lowered_laws.proofs.Parts.{left, right}
 
 module _ (s : Setting) where
   step_leads : (by : Option Expr) (k c step head : ℕ) → Stand s (step_parts s.goto s.numbers by k c step head) → Within s head

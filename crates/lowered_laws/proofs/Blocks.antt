@@ -15,11 +15,11 @@ use Rattle.block_forms.specs.Around.{Around}
 use Rattle.block_forms.specs.Laid.{Setting, Laid, LaidArm, after, a_node, row_size, arms_size, else_size, decl_size, decls_size, first_block, row_parts, default_term, decl_parts, decls_parts, arms_parts, else_parts, branch_parts, inside_of, block_parts, lack}
 use Rattle.block_forms.specs.Lowered.{AllStand}
 use Rattle.block_forms.specs.Patterns.{Part, node}
-use Rattle.entry_liveness.proofs.InSight.{Sees, sees_push, source_reads}
-use Rattle.entry_liveness.proofs.Leaves.{LayerSafe, slot_safe}
-use Rattle.entry_liveness.proofs.Parts.{left, right}
-use Rattle.entry_liveness.proofs.Rows.{InSight, Stood, Onward, SafeRow, SafeArms, SafeElse}
-use Rattle.entry_liveness.proofs.Ways.{Slots, with_slot, Within, Reads, Safe, safe_wider, around_wider, in_block}
+use Rattle.lowered_laws.proofs.InSight.{Sees, sees_push, source_reads}
+use Rattle.lowered_laws.proofs.Leaves.{LayerSafe, slot_safe}
+use Rattle.lowered_laws.proofs.Parts.{left, right}
+use Rattle.lowered_laws.proofs.Rows.{InSight, Stood, Onward, SafeRow, SafeArms, SafeElse}
+use Rattle.lowered_laws.proofs.Ways.{Slots, with_slot, Within, Reads, Safe, safe_wider, around_wider, in_block}
 
 -- ---- declarations
 

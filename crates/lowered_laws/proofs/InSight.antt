@@ -9,8 +9,8 @@ use Rattle.sql_meaning.specs.Reads.{Read, Slot, Param, Table, Outer, first_occur
 use Rattle.typed_values.specs.Sorts.{Every}
 use Rattle.slots_in_sight.specs.InSight.{is_among, IsSeen, ReadsInSight}
 use Rattle.block_forms.specs.Patterns.{source_term}
-use Rattle.ssa_build.specs.Lists.{In}
-use Rattle.entry_liveness.proofs.Ways.{Slots, with_slot, Reads}
+use Rattle.block_forms.specs.Places.{In}
+use Rattle.lowered_laws.proofs.Ways.{Slots, with_slot, Reads}
 
 -- the slots in sight are visible
 abbrev pub Sees : Slots → List ℕ → Type 0

@@ -17,9 +17,9 @@ use Rattle.block_forms.specs.Around.{exit_to, again_to}
 use Rattle.block_forms.specs.Laid.{Setting, Laid, LaidArm, laying}
 use Rattle.block_forms.specs.Lowered.{AllStand}
 use Rattle.block_forms.specs.Patterns.{node, jump_of, yes_of, is_null, source_term, set_parts, slot_parts, leave_parts}
-use Rattle.entry_liveness.proofs.InSight.{Sees, source_reads}
-use Rattle.entry_liveness.proofs.Rows.{InSight, SafeStatement}
-use Rattle.entry_liveness.proofs.Ways.{Slots, with_slot, Reads, Safe, safe_wider, safe_jump, safe_branch, safe_set, safe_return, safe_fail}
+use Rattle.lowered_laws.proofs.InSight.{Sees, source_reads}
+use Rattle.lowered_laws.proofs.Rows.{InSight, SafeStatement}
+use Rattle.lowered_laws.proofs.Ways.{Slots, with_slot, Reads, Safe, safe_wider, safe_jump, safe_branch, safe_set, safe_return, safe_fail}
 
 pub reads_one : (V : Slots) (slot e : ℕ) → V slot → Reads V (record { expr = e; names = slot ∷ [] })
 reads_one V slot e v s (inl q) = subst V q v

@@ -13,7 +13,7 @@ use Rattle.slots_in_sight.proofs.Parameters.{started}
 use Rattle.slots_in_sight.proofs.Statements.{stmt_good}
 use Rattle.block_forms.specs.Laid.{Setting, setting_of}
 use Rattle.block_forms.specs.Lowered.{numbers_of}
-use Rattle.entry_liveness.proofs.Statements.{statement_safe}
+use Rattle.lowered_laws.proofs.Statements.{statement_safe}
 
 -- How many slots a statement takes is no matter of the form, so it is counted over one without blocks.
 no_form : Function → Setting

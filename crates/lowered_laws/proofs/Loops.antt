@@ -16,11 +16,11 @@ use Rattle.block_forms.specs.Around.{Around}
 use Rattle.block_forms.specs.Laid.{Setting, Laid, after, kind_size, row_size, first_block, row_parts, loop_parts}
 use Rattle.block_forms.specs.Lowered.{AllStand}
 use Rattle.block_forms.specs.Patterns.{Part, node, jump_of, yes_of, no_of, source_term, one, copy, in_range, leaves_range, moved, not_positive, jumps, branches, bound_parts, step_parts, turn_parts, cur_of, after_bound, for_head, for_test, for_parts}
-use Rattle.entry_liveness.proofs.InSight.{Sees, sees_push, source_reads}
-use Rattle.entry_liveness.proofs.Leaves.{LayerSafe, set_safe, reads_one}
-use Rattle.entry_liveness.proofs.Parts.{left, right}
-use Rattle.entry_liveness.proofs.Rows.{InSight, Stood, Onward, SafeRow}
-use Rattle.entry_liveness.proofs.Ways.{Slots, with_slot, Within, Reads, reads_more, Safe, safe_less, safe_wider, step_jump, step_branch, safe_branch, safe_set, safe_fail, around_less, around_wider, in_loop}
+use Rattle.lowered_laws.proofs.InSight.{Sees, sees_push, source_reads}
+use Rattle.lowered_laws.proofs.Leaves.{LayerSafe, set_safe, reads_one}
+use Rattle.lowered_laws.proofs.Parts.{left, right}
+use Rattle.lowered_laws.proofs.Rows.{InSight, Stood, Onward, SafeRow}
+use Rattle.lowered_laws.proofs.Ways.{Slots, with_slot, Within, Reads, reads_more, Safe, safe_less, safe_wider, step_jump, step_branch, safe_branch, safe_set, safe_fail, around_less, around_wider, in_loop}
 
 reads_two : (V : Slots) (e a b : ℕ) → V a → V b → Reads V (record { expr = e; names = a ∷ b ∷ [] })
 reads_two V e a b va vb s (inl q) = subst V q va

@@ -1,5 +1,5 @@
-use Rattle.entry_liveness.proofs.Targets.{form_entry, form_targets}
-use Rattle.entry_liveness.proofs.laws.forms_lead_to_their_blocks.Goals as goal
+use Rattle.lowered_laws.proofs.Targets.{form_entry, form_targets}
+use Rattle.lowered_laws.proofs.laws.forms_lead_to_their_blocks.Goals as goal
 
 pub returns-clause-entry : goal.returns-clause-entry
 returns-clause-entry c = form_entry

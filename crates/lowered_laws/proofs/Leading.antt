@@ -6,7 +6,7 @@ use Rattle.block_forms.specs.Around.{Around, exit_to, again_to}
 use Rattle.block_forms.specs.Forms.{AtTargets}
 use Rattle.block_forms.specs.Lowered.{AllStand, one_of, owners, sharers}
 use Rattle.block_forms.specs.Patterns.{Part, own, shared, same, never}
-use Rattle.entry_liveness.proofs.InSight.{is_same}
+use Rattle.lowered_laws.proofs.InSight.{is_same}
 
 pub in_list : {X : Type 0} (xs : List X) (i : ℕ) (x : X) → slice_get xs i ≡ Some x → i < length xs
 in_list [] i x e = cc

@@ -11,12 +11,12 @@ use Rattle.block_forms.specs.declared.forms.Term.{Term}
 use Rattle.block_forms.specs.Laid.{Setting, laid}
 use Rattle.block_forms.specs.Lowered.{AllStand, Lowered, setting, param_parts, params_parts, body_place}
 use Rattle.block_forms.specs.Patterns.{Part, node, yes_of, null_of, is_null}
-use Rattle.ssa_build.specs.Live.{OnlyParametersLive}
-use Rattle.entry_liveness.proofs.InSight.{among_range}
-use Rattle.entry_liveness.proofs.Leaves.{reads_one}
-use Rattle.entry_liveness.proofs.Parts.{left, right}
-use Rattle.entry_liveness.proofs.Statements.{statement_safe}
-use Rattle.entry_liveness.proofs.Ways.{Slots, Safe, safe_jump, safe_branch, safe_return, safe_fail}
+use Rattle.block_forms.specs.Live.{OnlyParametersLive}
+use Rattle.lowered_laws.proofs.InSight.{among_range}
+use Rattle.lowered_laws.proofs.Leaves.{reads_one}
+use Rattle.lowered_laws.proofs.Parts.{left, right}
+use Rattle.lowered_laws.proofs.Statements.{statement_safe}
+use Rattle.lowered_laws.proofs.Ways.{Slots, Safe, safe_jump, safe_branch, safe_return, safe_fail}
 
 module _ (s : Setting) (result : Ty) (V : Slots) where
   param_safe : (strict : Bool) (i k : ℕ) (t : Ty) → V i → AllStand s.goto.blocks (param_parts s strict result i t)

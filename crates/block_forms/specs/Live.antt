@@ -1,7 +1,7 @@
 -- Live slots: those that are read before they are set on some way from a block.
 use Rattle.std.specs.Prelude.{◌≡◌, ◌⊎◌, ℕ, zero, suc, ◌<◌, List, slice_get, Option, Some, None}
-use Rattle.ssa_build.specs.Forms.{Block, Branch, End, Fail, Goto, Jump, Return, Term}
-use Rattle.ssa_build.specs.Lists.{In}
+use Rattle.block_forms.specs.Forms.{Block, Branch, End, Fail, Goto, Jump, Return, Term}
+use Rattle.block_forms.specs.Places.{In}
 
 abbrev pub LiveEnd : End → (ℕ → Type 0) → ℕ → Type 0
 LiveEnd (Jump c) next s = next c

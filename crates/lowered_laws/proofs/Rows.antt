@@ -11,9 +11,9 @@ use Rattle.block_forms.specs.Around.{Around}
 use Rattle.block_forms.specs.Laid.{Setting, Laid, LaidArm, after, a_node, with_expr, row_size, arms_size, else_size, first_block, row_parts, arms_parts, lack, lack_parts, else_parts}
 use Rattle.block_forms.specs.Lowered.{AllStand}
 use Rattle.block_forms.specs.Patterns.{Part, node, no_of, source_term}
-use Rattle.entry_liveness.proofs.InSight.{Sees, source_reads}
-use Rattle.entry_liveness.proofs.Parts.{left, right}
-use Rattle.entry_liveness.proofs.Ways.{Slots, Safe, SafeAround, safe_branch, safe_fail}
+use Rattle.lowered_laws.proofs.InSight.{Sees, source_reads}
+use Rattle.lowered_laws.proofs.Parts.{left, right}
+use Rattle.lowered_laws.proofs.Ways.{Slots, Safe, SafeAround, safe_branch, safe_fail}
 
 -- all expressions of a piece of text read slots in sight
 abbrev pub InSight : Walked → Type 0

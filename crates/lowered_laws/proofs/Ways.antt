@@ -10,8 +10,8 @@ use Rattle.block_forms.specs.declared.forms.End.TheVariants.{Jump, Branch, Retur
 use Rattle.block_forms.specs.declared.forms.Term.{Term}
 use Rattle.block_forms.specs.Forms.{Assignment}
 use Rattle.block_forms.specs.Patterns.{sets, branches, jumps, returns, fails}
-use Rattle.ssa_build.specs.Lists.{In}
-use Rattle.ssa_build.specs.Live.{Live, LiveIn, LiveEnd, LiveSet}
+use Rattle.block_forms.specs.Places.{In}
+use Rattle.block_forms.specs.Live.{Live, LiveIn, LiveEnd, LiveSet}
 
 -- slots that may be live
 abbrev pub Slots : Type 1
