@@ -1,0 +1,11 @@
+pub mod Lists
+pub mod Counts
+pub mod OneCaller
+pub mod Steps
+pub mod Walks
+pub mod Labelled
+pub mod Deep
+pub mod LabelsFit
+pub mod Widths
+pub mod Placing
+pub mod ColumnsFit

@@ -2,7 +2,9 @@
 use Rattle.std.specs.Prelude.{ℕ, zero, suc, Bool, true, false, ◌||◌, List, [], ◌∷◌, length, get_or, replicate, slice_get, slice_set, Option, Some, None, nat_eq}
 use Rattle.block_forms.specs.declared.forms.Goto.{Goto}
 use Rattle.block_forms.specs.Runs.{is_head}
-use Rattle.call_forms.specs.Forms.{CallEnd, Go, Pick, Return, Fail, AnfBlock}
+use Rattle.call_forms.specs.declared.forms.CallEnd.{CallEnd}
+use Rattle.call_forms.specs.declared.forms.AnfBlock.{AnfBlock}
+use Rattle.call_forms.specs.declared.forms.CallEnd.TheVariants.{Go, Pick, Return, Fail}
 use Rattle.tail_rec.specs.declared.callers.Callers.{Callers}
 use Rattle.tail_rec.specs.declared.callers.Callers.TheVariants.{No, One, Several}
 

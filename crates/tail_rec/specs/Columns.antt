@@ -3,7 +3,8 @@ use Rattle.std.specs.Prelude.{ℕ, zero, suc, ◌+◌, ◌<◌, ◌^◌, if◌th
 use Rattle.std.specs.List.{count_by}
 use Rattle.away_values.specs.declared.types.Ty.{Ty}
 use Rattle.away_values.specs.declared.types.Ty.TheVariants as ty
-use Rattle.call_forms.specs.Forms.{AnfBlock, params_of}
+use Rattle.call_forms.specs.declared.forms.AnfBlock.{AnfBlock}
+use Rattle.call_forms.specs.Forms.{params_of}
 use Rattle.call_forms.specs.Tight.{is_type}
 use Rattle.tail_rec.specs.declared.columns.PerType.{PerType}
 

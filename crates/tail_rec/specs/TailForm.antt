@@ -4,7 +4,8 @@ use Rattle.away_types.specs.declared.slots.Slot.{Slot}
 use Rattle.block_forms.specs.declared.forms.Goto.{Goto}
 use Rattle.block_forms.specs.declared.forms.Ssa.{Ssa}
 use Rattle.call_forms.specs.Columned.{type_of_name}
-use Rattle.call_forms.specs.Forms.{Anf, Tail}
+use Rattle.call_forms.specs.declared.forms.Anf.{Anf}
+use Rattle.call_forms.specs.declared.forms.Tail.{Tail}
 use Rattle.tail_rec.specs.Walk.{labels_of}
 use Rattle.tail_rec.specs.Columns.{widths_of, columns_of, starts_of, places_of}
 

@@ -2,7 +2,9 @@
 -- that would have a depth of sixteen is a label.
 use Rattle.std.specs.Prelude.{ℕ, zero, suc, Bool, true, false, if◌then◌else◌, List, [], ◌∷◌, ◌++◌, length, slice_get, Option, Some, None, nat_lt}
 use Rattle.block_forms.specs.declared.forms.Goto.{Goto}
-use Rattle.call_forms.specs.Forms.{CallEnd, Go, Pick, Return, Fail, AnfBlock}
+use Rattle.call_forms.specs.declared.forms.CallEnd.{CallEnd}
+use Rattle.call_forms.specs.declared.forms.AnfBlock.{AnfBlock}
+use Rattle.call_forms.specs.declared.forms.CallEnd.TheVariants.{Go, Pick, Return, Fail}
 use Rattle.tail_rec.specs.declared.walk.Reached.{Reached}
 use Rattle.tail_rec.specs.Callers.{callers_of, is_firm}
 
