@@ -1,8 +1,8 @@
 -- The columns are those that the labels need, and each label's parameters have places among them.
-use Rattle.std.proofs.Common.{◌≡◌, ◌⊎◌, ℕ, zero, suc, ◌+◌, ◌<◌, ◌≤◌, Bool, true, false, cond, List, [], ◌∷◌, map, length, Option, Some, None, refl, sym, ap, ◌∙◌, subst, inl, inr, arith}
+use Rattle.std.proofs.Common.{◌≡◌, ℕ, zero, suc, ◌<◌, ◌≤◌, List, [], ◌∷◌, map, length, Option, Some, None, refl, sym, ap, ◌∙◌, subst, inl, inr}
 use Rattle.std.specs.Prelude.{slice_get}
 use Rattle.std.specs.List.{count_by}
-use Rattle.std.proofs.lemmas.Option.{same_Some, none-some, slice_get_within}
+use Rattle.std.proofs.lemmas.Option.{same_Some, none-some}
 use Rattle.away_types.specs.declared.slots.Slot.{Slot}
 use Rattle.away_typing.specs.Kinds.{same}
 use Rattle.away_values.specs.declared.types.Ty.{Ty}
@@ -10,18 +10,18 @@ use Rattle.away_values.specs.declared.types.Ty.TheVariants as ty
 use Rattle.block_forms.specs.declared.forms.Goto.{Goto}
 use Rattle.block_forms.specs.declared.forms.Ssa.{Ssa}
 use Rattle.block_forms.specs.Named.{Named}
-use Rattle.block_forms.specs.Places.{Each, EachPair, In}
-use Rattle.call_forms.specs.Called.{Among, Called}
+use Rattle.block_forms.specs.Places.{Each, In}
+use Rattle.call_forms.specs.Called.{Called}
 use Rattle.call_forms.specs.Columned.{HasType, type_at, type_of_slot, type_of_name, PlacesOf, PlacesAt, Columned}
 use Rattle.call_forms.specs.declared.forms.AnfBlock.{AnfBlock}
 use Rattle.call_forms.specs.declared.forms.Anf.{Anf}
 use Rattle.call_forms.specs.declared.forms.Tail.{Tail}
 use Rattle.call_forms.specs.Forms.{params_of}
-use Rattle.call_forms.specs.Tight.{parameters_of_type, NeedsAll, ColumnsOfType, Tight}
+use Rattle.call_forms.specs.Tight.{parameters_of_type, ColumnsOfType, Tight}
 use Rattle.tail_rec.specs.declared.columns.PerType.{PerType}
-use Rattle.tail_rec.specs.Columns.{of_type, most_of, count_of, needed, widths_of, columns_of, starts_of, placed, places_at, places_of}
+use Rattle.tail_rec.specs.Columns.{of_type, most_of, count_of, needed, widths_of, columns_of, starts_of, placed, places_at}
 use Rattle.tail_rec.specs.TailForm.{IsTailForm}
-use Rattle.tail_rec.proofs.Labelled.{in_among, among_in}
+use Rattle.tail_rec.proofs.Labelled.{in_among}
 use Rattle.tail_rec.proofs.LabelsFit.{merged, depths, reasons}
 use Rattle.tail_rec.proofs.Lists.{in_place, some_at}
 use Rattle.tail_rec.proofs.Placing.{HasColumns, placed_long, places_typed, places_differ, fits_starts}
@@ -96,7 +96,7 @@ module _ (slots : List Slot) (params : ℕ) (g : Goto) (z : Ssa) (a : Anf) (name
     as_many = ap length is.places ∙ map_long (places_at types a.blocks (starts_of widths)) r.labels;
     each = λ i b ps at place.
         let same_places : places_at types a.blocks (starts_of widths) b ≡ ps =
-            map_at (places_at types a.blocks (starts_of widths)) r.labels i b ps at (ap (λ l. slice_get l i) (sym is.places) ∙ place) in
+        map_at (places_at types a.blocks (starts_of widths)) r.labels i b ps at (ap (λ l. slice_get l i) (sym is.places) ∙ place) in
         subst (PlacesAt slots z.names r.columns (slice_get a.blocks b)) same_places
         (places_of_block b ((merged g z a called r is.labels).labels_are_blocks i b at) (in_place r.labels i b at));
   }
@@ -112,11 +112,11 @@ module _ (slots : List Slot) (params : ℕ) (g : Goto) (z : Ssa) (a : Anf) (name
     none_spare = elim (most_is (needed types a.blocks t) 0 r.labels) [
       | inl e ↦ inl (count_is t ∙ (width_is types a.blocks r.labels t ∙ e))
       | inr m ↦
-        inr (record {
-          label = m.0;
-          is_label = in_among r.labels m.0 m.1;
-          needs = m.2 ∙ sym (count_is t ∙ width_is types a.blocks r.labels t);
-        })
+          inr (record {
+            label = m.0;
+            is_label = in_among r.labels m.0 m.1;
+            needs = m.2 ∙ sym (count_is t ∙ width_is types a.blocks r.labels t);
+          })
     ];
   }
 

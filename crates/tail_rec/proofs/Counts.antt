@@ -1,5 +1,5 @@
 -- What the table of callers tells, and which blocks are labels whatever their depth.
-use Rattle.std.proofs.Common.{◌≡◌, ◌⊎◌, ℕ, zero, suc, ◌+◌, ◌<◌, ◌≤◌, Bool, true, false, ◌||◌, eqb, List, [], ◌∷◌, length, get_or, set, replicate, Some, None, refl, sym, ap, ◌∙◌, subst, inl, inr, arith}
+use Rattle.std.proofs.Common.{◌≡◌, ◌⊎◌, ℕ, zero, suc, ◌+◌, ◌<◌, ◌≤◌, Bool, true, false, ◌||◌, List, [], ◌∷◌, length, get_or, replicate, refl, sym, ap, ◌∙◌, subst, inl, inr, arith}
 use Rattle.std.specs.Prelude.{slice_get, nat_eq}
 use Rattle.std.proofs.lemmas.Bool.{eqb-true, eqb-false, eq-eqb}
 use Rattle.std.proofs.lemmas.List.{length-set, length-replicate, get_or-replicate, get_or-set_same, get_or-set_other}
@@ -12,7 +12,7 @@ use Rattle.call_forms.specs.declared.forms.AnfBlock.{AnfBlock}
 use Rattle.call_forms.specs.declared.forms.CallEnd.TheVariants.{Go, Pick, Return, Fail}
 use Rattle.call_forms.specs.Merged.{end_calls, calls_to}
 use Rattle.tail_rec.specs.declared.callers.Callers.{Callers}
-use Rattle.tail_rec.specs.declared.callers.Callers.TheVariants.{No, One, Several}
+use Rattle.tail_rec.specs.declared.callers.Callers.TheVariants.{No, Several}
 use Rattle.tail_rec.specs.Callers.{one_more, with_call, with_end, with_ends, callers_of, is_several, several_there, has_several, is_head_of, is_firm}
 
 -- so many calls more

@@ -1,20 +1,19 @@
 -- The depths of what is reached are those of the relation, and a label that is not firm would have a depth of sixteen.
-use Rattle.std.proofs.Common.{◌≡◌, ◌≢◌, ◌⊎◌, ℕ, zero, suc, ◌<◌, ◌≤◌, Bool, true, false, List, length, Option, Some, None, refl, sym, ap, ◌∙◌, subst, inl, inr, arith}
+use Rattle.std.proofs.Common.{◌≡◌, ◌≢◌, ℕ, zero, suc, ◌<◌, Bool, true, false, List, length, Some, refl, sym, ap, ◌∙◌, subst, inl, inr, arith}
 use Rattle.std.specs.Prelude.{slice_get}
 use Rattle.std.proofs.lemmas.Option.{same_Some}
 use Rattle.block_forms.specs.Places.{In}
 use Rattle.call_forms.specs.Called.{Among}
-use Rattle.call_forms.specs.declared.forms.CallEnd.{CallEnd}
 use Rattle.call_forms.specs.declared.forms.AnfBlock.{AnfBlock}
 use Rattle.call_forms.specs.declared.forms.Anf.{Anf}
 use Rattle.call_forms.specs.Tight.{DepthAfter, DepthWithin, CalledAtDepth, HasDepth, without}
 use Rattle.tail_rec.specs.declared.walk.Reached.{Reached}
 use Rattle.tail_rec.specs.Walk.{reached, after_end, after_block, after, walked, labels_among}
 use Rattle.tail_rec.proofs.Lists.{in_place, place_in, same_place}
-use Rattle.tail_rec.proofs.Labelled.{among_in, in_among, in_without, from_without, LabelAt, label_from, label_in}
+use Rattle.tail_rec.proofs.Labelled.{among_in, in_among, in_without, from_without, label_from, label_in}
 use Rattle.tail_rec.proofs.OneCaller.{depth_target}
-use Rattle.tail_rec.proofs.Steps.{block_of, How, goes_on, stops, has, ReachedAt}
-use Rattle.tail_rec.proofs.Walks.{Setting, Follows, IsRoot, Parent, origin, walk_differs, closed, firm_reached, all_shallow}
+use Rattle.tail_rec.proofs.Steps.{block_of, How, goes_on, stops, has}
+use Rattle.tail_rec.proofs.Walks.{Setting, Follows, Parent, origin, walk_differs, closed, firm_reached, all_shallow}
 
 false_true : {b : Bool} → b ≡ false → b ≡ true → ⊥
 false_true p q = cc
@@ -55,15 +54,15 @@ module _ (a : Anf) (firm : ℕ → Bool) (s : Setting firm a.blocks) where
       let step : after firm a.blocks q.entry ≡ after_end firm h.above h.block.end = after_is q.entry h.caller h.above h.block q.block q.depth h.there in
       elim (has firm h.block.end h.above b d e h.after) [
         | inl i ↦
-          record {
-            entry = reached b d false;
-            there = closed firm a.blocks s q.entry (reached b d false) q.there (subst (λ rs. In rs (reached b d false)) (sym step) i);
-            block = refl;
-            depth = refl;
-          }
+            record {
+              entry = reached b d false;
+              there = closed firm a.blocks s q.entry (reached b d false) q.there (subst (λ rs. In rs (reached b d false)) (sym step) i);
+              block = refl;
+              depth = refl;
+            }
         | inr i ↦
-          absurd (h.no_label (in_among L b (label_in W (reached b 0 true)
-          (closed firm a.blocks s q.entry (reached b 0 true) q.there (subst (λ rs. In rs (reached b 0 true)) (sym step) i)) refl)))
+            absurd (h.no_label (in_among L b (label_in W (reached b 0 true)
+            (closed firm a.blocks s q.entry (reached b 0 true) q.there (subst (λ rs. In rs (reached b 0 true)) (sym step) i)) refl)))
       ]
 
   at_depth : (k b d : ℕ) → DepthWithin a L k b d → AtDepth b d
@@ -144,9 +143,9 @@ module _ (a : Anf) (firm : ℕ → Bool) (s : Setting firm a.blocks) where
         by false h further = elim (origin firm a.blocks s (length a.blocks) p r e) [
           | inl root ↦ absurd (false_true h root.label)
           | inr parent ↦
-            let before = parent.before in
-            lower parent.from r (in_place W p r e) h parent.follows
-            (further parent.at parent.from (omega (arith, before, lt)) (omega (arith, before, less)) parent.there)
+              let before = parent.before in
+              lower parent.from r (in_place W p r e) h parent.follows
+              (further parent.at parent.from (omega (arith, before, lt)) (omega (arith, before, less)) parent.there)
         ]
 
     -- the label itself would have a depth of sixteen

@@ -1,5 +1,5 @@
 -- The labels are those of a tail form with merged blocks, each with a reason, and no block is deep.
-use Rattle.std.proofs.Common.{◌≡◌, ◌⊎◌, ℕ, zero, suc, ◌<◌, ◌≤◌, Bool, true, false, List, length, Option, Some, None, refl, sym, ap, ◌∙◌, subst, inl, inr, arith}
+use Rattle.std.proofs.Common.{◌≡◌, ℕ, ◌<◌, ◌≤◌, Bool, true, false, List, length, Option, Some, None, refl, sym, subst, inl, inr, arith}
 use Rattle.std.specs.Prelude.{slice_get}
 use Rattle.block_forms.specs.declared.forms.End.{End}
 use Rattle.block_forms.specs.declared.forms.End.TheVariants as jump
@@ -20,12 +20,12 @@ use Rattle.call_forms.specs.Merged.{AtCalls, MayMerge, Merged}
 use Rattle.call_forms.specs.Tight.{HasDepth, without, Reason, entry, head, calls, deep}
 use Rattle.tail_rec.specs.declared.walk.Reached.{Reached}
 use Rattle.tail_rec.specs.Callers.{callers_of, is_firm}
-use Rattle.tail_rec.specs.Walk.{reached, walked, labels_among, labels_of}
+use Rattle.tail_rec.specs.Walk.{reached, walked, labels_of}
 use Rattle.tail_rec.proofs.Counts.{FirmReason, is_entry, has_head, has_calls, firm_reason, no_head, few_calls, entry_firm}
 use Rattle.tail_rec.proofs.Deep.{depth_small, would_be_deep}
-use Rattle.tail_rec.proofs.Labelled.{among_in, in_among, distinct_from, placed, LabelAt, label_from, label_in, labels_differ}
-use Rattle.tail_rec.proofs.Lists.{in_place, place_in, some_at}
-use Rattle.tail_rec.proofs.Walks.{Setting, IsRoot, Parent, origin, reached_below, walk_differs, firm_reached}
+use Rattle.tail_rec.proofs.Labelled.{in_among, distinct_from, placed, LabelAt, label_from, label_in, labels_differ}
+use Rattle.tail_rec.proofs.Lists.{in_place, place_in, some_at, at_most}
+use Rattle.tail_rec.proofs.Walks.{Setting, origin, reached_below, walk_differs, firm_reached}
 
 -- ---- calls go to blocks
 
@@ -102,6 +102,10 @@ module _ (g : Goto) (z : Ssa) (a : Anf) (called : Called g z a) where
       calls = targets;
     }
 
+    pub few_labels : length r.labels ≤ length a.blocks
+    few_labels = subst (λ l. length l ≤ length a.blocks) (sym is)
+        (at_most itself (length a.blocks) (labels_of g a.blocks) (labels_differ W (walk_differs firm a.blocks setting (length a.blocks))) label_below)
+
     pub depths : (b d : ℕ) → HasDepth a r.labels b d → d < 16
     depths b d h = depth_small a firm setting b d (subst (λ l. HasDepth a l b d) is h)
 
@@ -116,8 +120,8 @@ module _ (g : Goto) (z : Ssa) (a : Anf) (called : Called g z a) where
         elim (origin firm a.blocks setting (length a.blocks) p.0 f.entry p.1) [
           | inl root ↦ subst (Reason g a r) f.same (firm_reason_is f.entry.block (firm_reason g a.blocks f.entry.block root.block root.is_firm))
           | inr parent ↦
-            deep (subst (λ l. HasDepth a (without b l) b 16) (sym is)
-            (would_be_deep a firm setting b p.0 f.entry p.1 f.same parent f.label))
+              deep (subst (λ l. HasDepth a (without b l) b 16) (sym is)
+              (would_be_deep a firm setting b p.0 f.entry p.1 f.same parent f.label))
         ]
 
     pub reasons : Each (Reason g a r) r.labels

@@ -16,7 +16,7 @@ pub room_left : (free : PerType) (params : List ℕ) (i : ℕ) → i < length pa
 room_left free params i lt h = subst (HasRoom free) (ap length (drop_more params i 0 lt)) h
 
 module _ (types : ℕ → Option Ty) (params all : List ℕ) (i : ℕ) (free : PerType) (places : List ℕ)
-  (so : places ++ placed types free (drop i params) ≡ all) where
+    (so : places ++ placed types free (drop i params) ≡ all) where
   pub placed_on : (new : List ℕ) (found : Option Ty) (p : ℕ) (next : PerType) → i < length params → found ≡ types (get_or params i 0)
       → p ≡ place_for free found → new ≡ places ++ p ∷ [] → next ≡ after_place free found → new ++ placed types next (drop (i + 1) params) ≡ all
   placed_on new found p next lt of_type place is after =

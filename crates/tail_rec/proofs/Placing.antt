@@ -1,11 +1,11 @@
 -- The places of a label's parameters are distinct columns of their types.
-use Rattle.std.proofs.Common.{◌≡◌, ◌≢◌, ◌⊎◌, ℕ, zero, suc, ◌+◌, ◌<◌, ◌≤◌, Bool, true, false, cond, List, [], ◌∷◌, length, Option, Some, None, refl, sym, ap, ◌∙◌, subst, inl, inr, arith}
+use Rattle.std.proofs.Common.{◌≡◌, ◌≢◌, ℕ, zero, suc, ◌+◌, ◌<◌, ◌≤◌, true, cond, List, [], ◌∷◌, length, Option, Some, None, refl, sym, ap, ◌∙◌, subst, arith}
 use Rattle.std.specs.Prelude.{slice_get}
 use Rattle.std.proofs.lemmas.Option.{same_Some, none-some}
 use Rattle.away_typing.specs.Kinds.{same}
 use Rattle.away_values.specs.declared.types.Ty.{Ty}
 use Rattle.away_values.specs.declared.types.Ty.TheVariants as ty
-use Rattle.block_forms.specs.Places.{Each, EachPair, Distinct}
+use Rattle.block_forms.specs.Places.{Each, Distinct}
 use Rattle.call_forms.specs.Called.{itself}
 use Rattle.call_forms.specs.Tight.{is_type}
 use Rattle.call_forms.proofs.Elements.{none_distinct, one_more_distinct}
@@ -39,7 +39,6 @@ same_self ty.Boolean = refl
 same_self ty.Text = refl
 same_self ty.Integer = refl
 
-
 module _ (types : ℕ → Option Ty) where
   after_free : (free : PerType) (o : Option Ty) (t : Ty) → of_type (after_place free o) t ≡ cond (is_type t o) 1 0 + of_type free t
   after_free free None t = omega arith
@@ -58,7 +57,7 @@ module _ (types : ℕ → Option Ty) where
       let place : place_for free (types p) ≡ of_type free t = ap (place_for free) e in
       let yes : is_type t (types p) ≡ true = ap (is_type t) e ∙ same_self t in
       let one_more : count_of types t (p ∷ ps) ≡ 1 + count_of types t ps =
-          count-cons (λ p. is_type t (types p)) p ps ∙ ap (λ b. cond b 1 0 + count_of types t ps) yes in
+      count-cons (λ p. is_type t (types p)) p ps ∙ ap (λ b. cond b 1 0 + count_of types t ps) yes in
       record { from = omega (arith, place); before = omega (arith, place, one_more) }
 
   -- each place is one of the columns of its parameter's type from the free one on
@@ -122,7 +121,7 @@ module _ (types : ℕ → Option Ty) where
       let first : place_for free (types p) ≡ of_type free t.0 = ap (place_for free) p_type in
       let yes : is_type t.0 (types p) ≡ true = ap (is_type t.0) p_type ∙ same_self t.0 in
       let free_is : of_type (after_place free (types p)) t.0 ≡ 1 + of_type free t.0 =
-          after_free free (types p) t.0 ∙ ap (λ b. cond b 1 0 + of_type free t.0) yes in
+      after_free free (types p) t.0 ∙ ap (λ b. cond b 1 0 + of_type free t.0) yes in
       let less = r.from in
       omega (arith, less, free_is, first, same_place)
     where

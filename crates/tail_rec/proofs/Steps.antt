@@ -1,16 +1,14 @@
 -- One step of the walk: what is reached behind a block.
-use Rattle.std.proofs.Common.{◌≡◌, ◌⊎◌, ℕ, zero, suc, ◌+◌, ◌<◌, ◌≤◌, Bool, true, false, cond, List, [], ◌∷◌, ◌++◌, Option, Some, None, refl, sym, ap, ◌∙◌, subst, inl, inr, arith}
-use Rattle.std.specs.Prelude.{slice_get, nat_eq, nat_lt}
-use Rattle.std.proofs.lemmas.Bool.{ltb-true, ltb-false, lt-ltb, le-ltb}
-use Rattle.block_forms.specs.Lowered.{one_of}
+use Rattle.std.proofs.Common.{◌≡◌, ◌⊎◌, ℕ, suc, ◌<◌, ◌≤◌, Bool, true, false, cond, List, [], ◌∷◌, ◌++◌, refl, sym, ap, ◌∙◌, subst, inl, inr, arith}
+use Rattle.std.specs.Prelude.{nat_lt}
+use Rattle.std.proofs.lemmas.Bool.{ltb-true, ltb-false}
 use Rattle.block_forms.specs.Places.{In}
 use Rattle.call_forms.specs.declared.forms.CallEnd.{CallEnd}
-use Rattle.call_forms.specs.declared.forms.AnfBlock.{AnfBlock}
 use Rattle.call_forms.specs.declared.forms.CallEnd.TheVariants.{Go, Pick, Return, Fail}
 use Rattle.call_forms.specs.Merged.{end_calls}
 use Rattle.call_forms.specs.Tight.{DepthAfter}
 use Rattle.tail_rec.specs.declared.walk.Reached.{Reached}
-use Rattle.tail_rec.specs.Walk.{reached, behind_test, followed, picked, after_end, after_block, after}
+use Rattle.tail_rec.specs.Walk.{reached, behind_test, followed, picked, after_end, after}
 use Rattle.tail_rec.proofs.Lists.{in_left, in_right, from_both, KeysDiffer, differ_both}
 use Rattle.tail_rec.proofs.OneCaller.{both_arms}
 
@@ -77,13 +75,13 @@ module _ (firm : ℕ → Bool) where
       }
   found (Pick t x y) d r i = elim (from_both (picked firm d x.target) (picked firm d y.target) r i) [
     | inl j ↦
-      let f = from_picked d x.target r j in
-      let same = arm_block x.target d r f.1 in
-      record { not_firm = subst (λ b. firm b ≡ false) same f.0; how = by_arm (Pick t x y) x.target d r (λ depth deep. (inl same, deep)) f.1 }
+        let f = from_picked d x.target r j in
+        let same = arm_block x.target d r f.1 in
+        record { not_firm = subst (λ b. firm b ≡ false) same f.0; how = by_arm (Pick t x y) x.target d r (λ depth deep. (inl same, deep)) f.1 }
     | inr j ↦
-      let f = from_picked d y.target r j in
-      let same = arm_block y.target d r f.1 in
-      record { not_firm = subst (λ b. firm b ≡ false) same f.0; how = by_arm (Pick t x y) y.target d r (λ depth deep. (inr same, deep)) f.1 }
+        let f = from_picked d y.target r j in
+        let same = arm_block y.target d r f.1 in
+        record { not_firm = subst (λ b. firm b ≡ false) same f.0; how = by_arm (Pick t x y) y.target d r (λ depth deep. (inr same, deep)) f.1 }
   ]
   found (Return t) d r i = absurd i
   found (Fail c) d r i = absurd i
@@ -120,12 +118,12 @@ module _ (firm : ℕ → Bool) where
   has (Pick t x y) above b d open_block h =
       subst (λ d. ReachedAt (picked firm above x.target ++ picked firm above y.target) b d) (sym h.1)
       (elim h.0 [
-      | inl q ↦ reached_left (picked firm above x.target) (picked firm above y.target) b (suc above)
-        (subst (λ b. ReachedAt (picked firm above x.target) b (suc above)) q
-        (in_picked above x.target (subst (λ b. firm b ≡ false) (sym q) open_block)))
-      | inr q ↦ reached_right (picked firm above x.target) (picked firm above y.target) b (suc above)
-        (subst (λ b. ReachedAt (picked firm above y.target) b (suc above)) q
-        (in_picked above y.target (subst (λ b. firm b ≡ false) (sym q) open_block)))
+        | inl q ↦ reached_left (picked firm above x.target) (picked firm above y.target) b (suc above)
+            (subst (λ b. ReachedAt (picked firm above x.target) b (suc above)) q
+            (in_picked above x.target (subst (λ b. firm b ≡ false) (sym q) open_block)))
+        | inr q ↦ reached_right (picked firm above x.target) (picked firm above y.target) b (suc above)
+            (subst (λ b. ReachedAt (picked firm above y.target) b (suc above)) q
+            (in_picked above y.target (subst (λ b. firm b ≡ false) (sym q) open_block)))
       ])
   has (Return t) above b d open_block h = absurd h
   has (Fail c) above b d open_block h = absurd h

@@ -1,17 +1,16 @@
 -- The walk: what it reaches has a block that calls it before it, comes once, and is closed under calls.
-use Rattle.std.proofs.Common.{◌≡◌, ◌⊎◌, ℕ, zero, suc, ◌+◌, ◌<◌, ◌≤◌, Bool, true, false, cond, List, [], ◌∷◌, ◌++◌, length, Option, Some, None, refl, sym, ap, ◌∙◌, subst, inl, inr, arith}
+use Rattle.std.proofs.Common.{◌≡◌, ◌⊎◌, ℕ, zero, suc, ◌<◌, ◌≤◌, Bool, true, false, cond, List, [], ◌∷◌, length, Option, Some, None, refl, sym, ap, subst, inl, inr, arith}
 use Rattle.std.specs.Prelude.{slice_get}
-use Rattle.std.proofs.lemmas.Option.{slice_get_past}
 use Rattle.block_forms.specs.Places.{Each, In}
 use Rattle.call_forms.specs.declared.forms.CallEnd.{CallEnd}
 use Rattle.call_forms.specs.declared.forms.AnfBlock.{AnfBlock}
 use Rattle.call_forms.specs.Merged.{end_calls, calls_to, AtCalls}
 use Rattle.call_forms.specs.Tight.{DepthAfter}
 use Rattle.tail_rec.specs.declared.walk.Reached.{Reached}
-use Rattle.tail_rec.specs.Walk.{reached, after_end, after_block, after, after_some, firm_labels, walked}
+use Rattle.tail_rec.specs.Walk.{reached, after_block, after, after_some, firm_labels, walked}
 use Rattle.tail_rec.proofs.Lists.{in_place, place_in, in_left, in_right, from_both, at_left, split_at, within, lt_or_same, KeysDiffer, differ_both, same_place, at_most}
 use Rattle.tail_rec.proofs.OneCaller.{calls_of, some_call, one_caller, depth_calls, depth_target, called_target}
-use Rattle.tail_rec.proofs.Steps.{block_of, How, goes_on, stops, Found, found, has, ReachedAt, end_differs}
+use Rattle.tail_rec.proofs.Steps.{block_of, How, goes_on, stops, found, end_differs}
 
 -- firm: the blocks that are labels whatever their depth. Every other block has one call at most, and each call is of a block.
 pub record Setting (firm : ℕ → Bool) (xs : List AnfBlock) : Type 0 where
@@ -99,8 +98,8 @@ module _ (firm : ℕ → Bool) (xs : List AnfBlock) (s : Setting firm xs) where
   first_in (suc n) b lt e = elim (lt_or_same b n lt) [
     | inl q ↦ in_left (firm_labels firm n) (cond (firm n) (reached n 0 true ∷ []) []) (reached b 0 true) (first_in n b q e)
     | inr q ↦ in_right (firm_labels firm n) (cond (firm n) (reached n 0 true ∷ []) []) (reached b 0 true)
-      (subst (λ t. In (cond t (reached n 0 true ∷ []) []) (reached b 0 true)) (sym (subst (λ n. firm n ≡ true) q e))
-      (inl (ap (λ n. reached n 0 true) (sym q))))
+        (subst (λ t. In (cond t (reached n 0 true ∷ []) []) (reached b 0 true)) (sym (subst (λ n. firm n ≡ true) q e))
+        (inl (ap (λ n. reached n 0 true) (sym q))))
   ]
 
   firsts_differ : (n : ℕ) → KeysDiffer block_of (firm_labels firm n)
@@ -131,15 +130,15 @@ module _ (firm : ℕ → Bool) (xs : List AnfBlock) (s : Setting firm xs) where
     | inl q ↦ elim (origin i j r q) [
       | inl root ↦ inl root
       | inr p ↦
-        let lt = p.walked in
-        inr (record {
-          at = p.at;
-          before = p.before;
-          walked = omega (arith, lt);
-          from = p.from;
-          there = at_left (W i) (after_some firm xs (slice_get (W i) i)) p.at p.from p.there;
-          follows = p.follows;
-        })
+          let lt = p.walked in
+          inr (record {
+            at = p.at;
+            before = p.before;
+            walked = omega (arith, lt);
+            from = p.from;
+            there = at_left (W i) (after_some firm xs (slice_get (W i) i)) p.at p.from p.there;
+            follows = p.follows;
+          })
     ]
     | inr q ↦ inr (by (slice_get (W i) i) refl q.0 q.1)
   ]
@@ -189,12 +188,12 @@ module _ (firm : ℕ → Bool) (xs : List AnfBlock) (s : Setting firm xs) where
       elim (origin i p.0 x p.1) [
         | inl root ↦ firm_or_not (subst (λ b. firm b ≡ true) same root.is_firm) f.not_firm
         | inr parent ↦
-          let one = one_caller xs y.block parent.from.block q.block
-              (subst (λ b. 0 < calls_of (slice_get xs parent.from.block) b) same (follows_calls parent.from x parent.follows)) (follows_calls q y f)
-              (s.few y.block (follows_below q y f) f.not_firm) in
-          let place = same_place block_of (W i) parent.at i parent.from q differ parent.there e one in
-          let lt = parent.walked in
-          omega (arith, place, lt)
+            let one = one_caller xs y.block parent.from.block q.block
+            (subst (λ b. 0 < calls_of (slice_get xs parent.from.block) b) same (follows_calls parent.from x parent.follows)) (follows_calls q y f)
+            (s.few y.block (follows_below q y f) f.not_firm) in
+            let place = same_place block_of (W i) parent.at i parent.from q differ parent.there e one in
+            let lt = parent.walked in
+            omega (arith, place, lt)
       ]
     where
       firm_or_not : {b : Bool} → b ≡ true → b ≡ false → ⊥
@@ -234,7 +233,7 @@ module _ (firm : ℕ → Bool) (xs : List AnfBlock) (s : Setting firm xs) where
       by o e (inl at) further = elim (lt_or_same j i lt) [
         | inl less ↦ in_left (W i) (after_some firm xs (slice_get (W i) i)) r (further less at h)
         | inr same ↦ in_right (W i) (after_some firm xs (slice_get (W i) i)) r
-          (last (slice_get (W i) i) refl (subst (λ j. slice_get (W i) j ≡ Some q) same at))
+            (last (slice_get (W i) i) refl (subst (λ j. slice_get (W i) j ≡ Some q) same at))
       ]
 
   -- ---- all that is reached

@@ -1,8 +1,9 @@
 -- The most of the counts of labels, and the columns of each type.
-use Rattle.std.proofs.Common.{◌≡◌, ◌⊎◌, ℕ, zero, suc, ◌+◌, ◌*◌, ◌<◌, ◌≤◌, Bool, true, false, cond, List, [], ◌∷◌, ◌++◌, replicate, Option, Some, None, refl, sym, ap, ◌∙◌, subst, inl, inr, arith}
+use Rattle.std.proofs.Common.{◌≡◌, ◌⊎◌, ℕ, zero, suc, ◌+◌, ◌*◌, ◌<◌, ◌≤◌, Bool, true, false, cond, List, [], ◌∷◌, ◌++◌, length, replicate, ◌^◌, Some, refl, sym, ap, ◌∙◌, subst, inl, inr, arith}
 use Rattle.std.specs.Prelude.{slice_get, nat_lt}
 use Rattle.std.specs.List.{count_by}
 use Rattle.std.proofs.lemmas.Bool.{ltb-true, ltb-false}
+use Rattle.std.proofs.lemmas.List.{length-append, length-replicate}
 use Rattle.std.proofs.lemmas.List.Sums.{sum_by-cons, sum_by-append}
 use Rattle.std.proofs.lemmas.List.Folds.{sum_by-replicate}
 use Rattle.away_typing.specs.Kinds.{same}
@@ -10,7 +11,7 @@ use Rattle.away_values.specs.declared.types.Ty.{Ty}
 use Rattle.away_values.specs.declared.types.Ty.TheVariants as ty
 use Rattle.block_forms.specs.Places.{In}
 use Rattle.tail_rec.specs.declared.columns.PerType.{PerType}
-use Rattle.tail_rec.specs.Columns.{greater, most_of, of_type, columns_of, starts_of}
+use Rattle.tail_rec.specs.Columns.{greater, most_of, of_type, columns_of, starts_of, AreFew}
 
 -- ---- the most
 
@@ -42,7 +43,7 @@ module _ (count : ℕ → ℕ) where
   most_is m [] = inl refl
   most_is m (b ∷ bs) = elim (most_is (greater m (count b)) bs) [
     | inl e ↦ greater_cases (λ k. most_of count k bs ≡ k → (most_of count k bs ≡ m) ⊎ ((c : ℕ) × In (b ∷ bs) c × (count c ≡ most_of count k bs))) m (count b)
-      (λ lt q. inr (b, inl refl, sym q)) (λ le q. inl q) e
+        (λ lt q. inr (b, inl refl, sym q)) (λ le q. inl q) e
     | inr r ↦ inr (r.0, inr r.1, r.2)
   ]
 
@@ -75,6 +76,21 @@ columns_count n ty.Bigint = parts n ty.Bigint ∙ (let e : n.bigint * 1 + (n.boo
 columns_count n ty.Boolean = parts n ty.Boolean ∙ (let e : n.bigint * 0 + (n.boolean * 1 + (n.text * 0 + n.integer * 0)) ≡ n.boolean = omega arith in e)
 columns_count n ty.Text = parts n ty.Text ∙ (let e : n.bigint * 0 + (n.boolean * 0 + (n.text * 1 + n.integer * 0)) ≡ n.text = omega arith in e)
 columns_count n ty.Integer = parts n ty.Integer ∙ (let e : n.bigint * 0 + (n.boolean * 0 + (n.text * 0 + n.integer * 1)) ≡ n.integer = omega arith in e)
+
+pub few_columns : (n : PerType) → AreFew n → length (columns_of n) < 2 ^ 30
+few_columns n few =
+    let a = few.bigint in
+    let b = few.boolean in
+    let c = few.text in
+    let d = few.integer in
+    let whole : length (columns_of n) ≡ n.bigint + (n.boolean + (n.text + n.integer)) =
+    longer n.bigint ty.Bigint (replicate n.boolean ty.Boolean ++ (replicate n.text ty.Text ++ replicate n.integer ty.Integer))
+    (longer n.boolean ty.Boolean (replicate n.text ty.Text ++ replicate n.integer ty.Integer)
+    (longer n.text ty.Text (replicate n.integer ty.Integer) (length-replicate n.integer ty.Integer))) in
+    omega (arith, a, b, c, d, whole)
+  where
+    longer : (m : ℕ) (t : Ty) (rest : List Ty) {k : ℕ} → length rest ≡ k → length (replicate m t ++ rest) ≡ m + k
+    longer m t rest {k} e = length-append (replicate m t) rest ∙ (ap (λ l. l + length rest) (length-replicate m t) ∙ ap (λ l. m + l) e)
 
 -- ---- which columns have a type
 

@@ -10,7 +10,7 @@ use std::alloc::{AllocError, Global};
 
 /// How many calls go to a block.
 #[derive(Clone, Copy, Debug, PartialEq, Eq)]
-pub enum Callers {
+pub(crate) enum Callers {
     No,
     One,
     Several,
@@ -49,7 +49,7 @@ fn count_end(table: &mut [Callers], end: &CallEnd)
 }
 
 /// How many calls go to each block.
-pub fn callers_of(alloc: Global, blocks: &[AnfBlock]) -> Result<Vec<Callers>, AllocError>
+pub(crate) fn callers_of(alloc: Global, blocks: &[AnfBlock]) -> Result<Vec<Callers>, AllocError>
     ensures { IfOk result (λ v. v.items ≡ spec.callers_of blocks.now) }
 {
     let mut table = vec![in alloc; Callers::No; blocks.len()]?;
@@ -78,7 +78,7 @@ fn has_several(callers: &[Callers], block: u32) -> bool
 }
 
 /// Whether a block is a label whatever its depth: the entry, a head, and a block with several calls to it.
-pub fn is_firm(g: &Goto, callers: &[Callers], block: u32) -> bool
+pub(crate) fn is_firm(g: &Goto, callers: &[Callers], block: u32) -> bool
     ensures { result ≡ spec.is_firm g.now callers.now block }
 {
     block == g.entry || is_head(g, block) || has_several(callers, block)

@@ -17,7 +17,7 @@ use std::alloc::{AllocError, Global};
 
 /// A number for each type.
 #[derive(Clone, Copy, Debug, PartialEq, Eq)]
-pub struct PerType {
+pub(crate) struct PerType {
     pub bigint: u32,
     pub boolean: u32,
     pub text: u32,
@@ -46,7 +46,7 @@ fn is_of(t: Ty, found: Option<Ty>) -> bool
 }
 
 /// The type of a name: that of its slot.
-pub fn type_of(slots: &[Slot], names: &[u32], name: u32) -> Option<Ty>
+pub(crate) fn type_of(slots: &[Slot], names: &[u32], name: u32) -> Option<Ty>
     ensures { result ≡ type_of_name slots.now names.now name }
 {
     match names.get(name as usize) {
@@ -86,13 +86,7 @@ fn needed(slots: &[Slot], names: &[u32], blocks: &[AnfBlock], block: u32, t: Ty)
 }
 
 /// The most parameters of the type that one label has.
-fn most_needed(
-    slots: &[Slot],
-    names: &[u32],
-    blocks: &[AnfBlock],
-    labels: &[u32],
-    t: Ty,
-) -> u32
+fn most_needed(slots: &[Slot], names: &[u32], blocks: &[AnfBlock], labels: &[u32], t: Ty) -> u32
     requires { Each spec.HasFewParameters blocks.now }
     ensures exact { result ≡ spec.most_of (spec.needed (type_of_name slots.now names.now) blocks.now t) 0 labels.now }
     ensures few { result < 2 ^ 28 }
@@ -108,7 +102,7 @@ fn most_needed(
 }
 
 /// For each type the most parameters of it that one label has.
-pub fn widths_of(
+pub(crate) fn widths_of(
     slots: &[Slot],
     names: &[u32],
     blocks: &[AnfBlock],
@@ -136,7 +130,7 @@ fn push_columns(columns: &mut Items<Ty>, t: Ty, count: u32) -> Result<(), AllocE
 }
 
 /// So many columns of each type.
-pub fn columns_of(alloc: Global, widths: PerType) -> Result<Items<Ty>, AllocError>
+pub(crate) fn columns_of(alloc: Global, widths: PerType) -> Result<Items<Ty>, AllocError>
     ensures { IfOk result (λ v. v ≡ spec.columns_of widths) }
 {
     let mut columns = Items::new(alloc);

@@ -23,7 +23,11 @@ fn labels_among(alloc: Global, reached: &[Reached]) -> Result<Items<u32>, AllocE
 }
 
 /// The labels: the entry, heads, blocks with several calls to them, and blocks that would have a depth of sixteen.
-pub fn labels_of(alloc: Global, g: &Goto, blocks: &[AnfBlock]) -> Result<Items<u32>, AllocError>
+pub(crate) fn labels_of(
+    alloc: Global,
+    g: &Goto,
+    blocks: &[AnfBlock],
+) -> Result<Items<u32>, AllocError>
     requires { length blocks.now ≤ 2 ^ 32 }
     ensures { IfOk result (λ v. v ≡ spec.labels_of g.now blocks.now) }
 {

@@ -14,7 +14,7 @@ use sqlite_items::Items;
 use std::alloc::{AllocError, Global};
 
 /// The first column of each type, where there are so many of each.
-pub fn starts_of(widths: PerType) -> PerType
+pub(crate) fn starts_of(widths: PerType) -> PerType
     requires { spec.AreFew widths }
     ensures exact { result ≡ spec.starts_of widths }
     ensures room { (more : ℕ) → more < 2 ^ 28 → spec.HasRoom result more }
@@ -121,7 +121,7 @@ fn places_at(
 }
 
 /// The columns of each label's parameters.
-pub fn places_of(
+pub(crate) fn places_of(
     alloc: Global,
     slots: &[Slot],
     names: &[u32],

@@ -20,7 +20,7 @@ use call_forms::{Anf, Tail};
 use std::alloc::{AllocError, Global};
 
 /// The tail form over these slots.
-pub fn tail_form(
+pub(crate) fn tail_form(
     alloc: Global,
     slots: &[Slot],
     g: &Goto,
@@ -29,7 +29,8 @@ pub fn tail_form(
 ) -> Result<Tail, AllocError>
     requires few_blocks { length a.now.blocks ≤ 2 ^ 32 }
     requires few_parameters { Each HasFewParameters a.now.blocks }
-    ensures { IfOk result (λ r. IsTailForm slots.now g.now s.now a.now r) }
+    ensures exact { IfOk result (λ r. IsTailForm slots.now g.now s.now a.now r) }
+    ensures few_columns { IfOk result (λ r. length r.columns < 2 ^ 30) }
 {
     let blocks = a.blocks.as_slice();
     let names = s.names.as_slice();
@@ -60,6 +61,8 @@ pub fn to_tail(
     ensures merged { IfOk result (λ r. Merged g.now a.now r) }
     ensures columned { IfOk result (λ r. Columned f.now.slots s.now a.now r) }
     ensures tight { IfOk result (λ r. Tight f.now.slots g.now s.now a.now r) }
+    ensures few_labels { IfOk result (λ r. length r.labels ≤ length a.now.blocks) }
+    ensures few_columns { IfOk result (λ r. length r.columns < 2 ^ 30) }
 {
     Ok(tail_form(alloc, f.slots.as_slice(), g, s, a)?)
 }

@@ -12,7 +12,7 @@ use std::alloc::{AllocError, Global};
 
 /// A block that is reached, with its depth, and whether it is a label.
 #[derive(Clone, Copy, Debug, PartialEq, Eq)]
-pub struct Reached {
+pub(crate) struct Reached {
     pub block: u32,
     pub depth: u32,
     pub is_label: bool,
@@ -137,7 +137,7 @@ fn reach_next(
 }
 
 /// All blocks that calls reach from labels, each after the block that calls it.
-pub fn walk_calls(
+pub(crate) fn walk_calls(
     alloc: Global,
     g: &Goto,
     callers: &[Callers],

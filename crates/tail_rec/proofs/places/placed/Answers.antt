@@ -1,4 +1,4 @@
-use Rattle.std.proofs.Common.{◌≡◌, ◌≤◌, length, drop, ◌+◌, ◌++◌, sym, ap, subst, arith}
+use Rattle.std.proofs.Common.{◌≤◌, length, drop, ◌+◌, ◌++◌, sym, ap, subst, arith}
 use Rattle.call_forms.specs.Columned.{type_of_name}
 use Rattle.tail_rec.specs.Columns.{placed, HasRoom}
 use Rattle.tail_rec.proofs.PlacedLoop.{room_left, placed_on, placed_over}
@@ -22,13 +22,12 @@ loop-name-preserved c =
     let params = c.args.params.now in
     let i = c.loop-name.name-index in
     let free = c.loop-name.free in
-    let found = c.type_of-found.result in
-    (
+    let found = c.type_of-found.result in (
       subst (λ f. HasRoom f (length (drop (i + 1) params))) (sym c.after_place-free.ensures)
-      (room_after free found (length (drop (i + 1) params)) (room_left free params i c.loop-name-test.true c.loop-name.invariant.0)),
+          (room_after free found (length (drop (i + 1) params)) (room_left free params i c.loop-name-test.true c.loop-name.invariant.0)),
       placed_on types params (placed types c.args.starts params) i free c.loop-name.places c.loop-name.invariant.1 c.push.new.self found
-      c.place_for.result c.after_place-free.result c.loop-name-test.true c.type_of-found.ensures c.place_for.ensures c.in_ok-push.ensures.ok
-      c.after_place-free.ensures,
+          c.place_for.result c.after_place-free.result c.loop-name-test.true c.type_of-found.ensures c.place_for.ensures c.in_ok-push.ensures.ok
+          c.after_place-free.ensures,
     )
 
 pub returns : goal.returns

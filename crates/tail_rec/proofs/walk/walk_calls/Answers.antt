@@ -1,4 +1,4 @@
-use Rattle.std.proofs.Common.{◌≡◌, Some, None, ap, ◌∙◌, sym, arith}
+use Rattle.std.proofs.Common.{◌≡◌, Some, None, ap, ◌∙◌, arith}
 use Rattle.std.specs.Prelude.{slice_get}
 use Rattle.std.proofs.lemmas.Grind.{common_steps}
 use Rattle.std.proofs.lemmas.Option.{gets}
@@ -13,9 +13,9 @@ loop-at-preserved c =
     let rs = c.loop-at.reached.items in
     elim c.if-at-len.branch [
       | then-at-len+in_ok-reach_next w ↦
-        let there : slice_get rs c.loop-at.at ≡ Some w.index-from.result.now = grind (arith, common_steps, gets) in
-        walk_on firm c.args.blocks.now c.loop-at.at rs c.if-at-len.reached.items w.index-from.result.now c.loop-at.invariant there (ap (λ v. v.items) w.reached-is ∙ w.in_ok-reach_next.ensures)
+          let there : slice_get rs c.loop-at.at ≡ Some w.index-from.result.now = grind (arith, common_steps, gets) in
+          walk_on firm c.args.blocks.now c.loop-at.at rs c.if-at-len.reached.items w.index-from.result.now c.loop-at.invariant there (ap (λ v. v.items) w.reached-is ∙ w.in_ok-reach_next.ensures)
       | else-at-len w ↦
-        let none : slice_get rs c.loop-at.at ≡ None = grind (arith, common_steps, gets) in
-        walk_over firm c.args.blocks.now c.loop-at.at rs c.if-at-len.reached.items c.loop-at.invariant none (ap (λ v. v.items) w.reached-is)
+          let none : slice_get rs c.loop-at.at ≡ None = grind (arith, common_steps, gets) in
+          walk_over firm c.args.blocks.now c.loop-at.at rs c.if-at-len.reached.items c.loop-at.invariant none (ap (λ v. v.items) w.reached-is)
     ]
