@@ -93,12 +93,14 @@ fn built(
     heads: &[u32],
     blocks: Items<AnfBlock>,
 ) -> Tail {
+    assert!(rt; types.len() < 65_536);
+    assert!(rt; blocks.len() < 65_536);
     let mut slots = Vec::new(rt.alloc());
     let mut names = Items::new(rt.alloc());
-    for (name, ty) in types.iter().enumerate() {
+    for name in 0..types.len() {
         slots
             .push(Slot {
-                ty: *ty,
+                ty: types[name],
                 not_null: false,
             })
             .expect(rt, "memory");
@@ -110,7 +112,6 @@ fn built(
     };
     let g = goto(rt, blocks.len() as u32, heads);
     let a = Anf { blocks };
-    assert!(rt; a.blocks.len() < 65_536);
     assert!(rt; all_have_few(a.blocks.as_slice()));
     tail_form(rt.alloc(), &slots, &g, &s, &a).expect(rt, "memory")
 }
