@@ -23,10 +23,10 @@ of_type n ty.Boolean = n.boolean
 of_type n ty.Text = n.text
 of_type n ty.Integer = n.integer
 
--- the greatest of the counts, and of m
 abbrev pub greater : ℕ → ℕ → ℕ
 greater m n = if nat_lt m n then n else m
 
+-- the greatest of the counts, and of m
 abbrev pub most_of : (ℕ → ℕ) → ℕ → List ℕ → ℕ
 most_of count m [] = m
 most_of count m (b ∷ bs) = most_of count (greater m (count b)) bs
