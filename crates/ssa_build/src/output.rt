@@ -15,7 +15,7 @@ use sqlite_items::Items;
 use std::alloc::{AllocError, Global};
 
 /// Whether a name is merged into no other.
-pub fn is_end(into: &[u32], name: u32) -> bool
+pub(crate) fn is_end(into: &[u32], name: u32) -> bool
     ensures { result ≡ merging_of.is_end (replacing into.now) name }
 {
     let at = name as usize;
@@ -27,7 +27,7 @@ pub fn is_end(into: &[u32], name: u32) -> bool
 }
 
 /// The new name for an old one.
-pub fn new_name(into: &[u32], numbers: &[u32], name: u32) -> u32
+pub(crate) fn new_name(into: &[u32], numbers: &[u32], name: u32) -> u32
     ensures { result ≡ merging_of.new_name into.now numbers.now name }
 {
     let at = name as usize;
@@ -41,7 +41,7 @@ pub fn new_name(into: &[u32], numbers: &[u32], name: u32) -> u32
 }
 
 /// The new name of a slot where a block begins.
-pub fn new_before(
+pub(crate) fn new_before(
     full: &FullForm,
     blocks: &[Block],
     into: &[u32],
@@ -58,7 +58,7 @@ pub fn new_before(
 }
 
 /// The new name of a slot where a block ends.
-pub fn new_after(
+pub(crate) fn new_after(
     full: &FullForm,
     blocks: &[Block],
     into: &[u32],
@@ -76,7 +76,7 @@ pub fn new_after(
 }
 
 /// A term with the new names that its slots have where a block begins.
-pub fn term_before(
+pub(crate) fn term_before(
     alloc: Global,
     full: &FullForm,
     blocks: &[Block],
@@ -101,7 +101,7 @@ pub fn term_before(
 }
 
 /// A term with the new names that its slots have where a block ends.
-pub fn term_after(
+pub(crate) fn term_after(
     alloc: Global,
     full: &FullForm,
     blocks: &[Block],
@@ -127,7 +127,7 @@ pub fn term_after(
 }
 
 /// The new names of the live slots of a block.
-pub fn new_map(
+pub(crate) fn new_map(
     alloc: Global,
     full: &FullForm,
     blocks: &[Block],
@@ -150,7 +150,7 @@ pub fn new_map(
 }
 
 /// The operands of a φ.
-pub fn new_operands(
+pub(crate) fn new_operands(
     alloc: Global,
     full: &FullForm,
     blocks: &[Block],
@@ -174,7 +174,7 @@ pub fn new_operands(
 }
 
 /// The φs of a block that are merged into no other name.
-pub fn new_phis(
+pub(crate) fn new_phis(
     alloc: Global,
     full: &FullForm,
     blocks: &[Block],

@@ -121,7 +121,7 @@ fn new_block(
 }
 
 /// All blocks under new names.
-pub fn new_blocks(
+pub(crate) fn new_blocks(
     alloc: Global,
     full: &FullForm,
     blocks: &[Block],
