@@ -23,7 +23,11 @@ pub(crate) struct FullForm {
 }
 
 /// The tables of the full form.
-pub(crate) fn full_form(alloc: Global, layout: Layout, blocks: &[Block]) -> Result<FullForm, AllocError>
+pub(crate) fn full_form(
+    alloc: Global,
+    layout: Layout,
+    blocks: &[Block],
+) -> Result<FullForm, AllocError>
     requires is_layout { IsLayout layout }
     requires sized { length blocks.now ≡ layout.blocks }
     ensures layout { IfOk result (λ f. f.layout ≡ layout) }

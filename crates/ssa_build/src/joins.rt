@@ -67,7 +67,13 @@ pub(crate) fn joined_names(into: &[u32], merges: usize, join: &Join) -> Found
 }
 
 /// Merges a join that joins one name only into that name, and says whether it did.
-pub(crate) fn settle(slots: &[u32], joins: &[Join], at: usize, into: &mut [u32], merges: usize) -> bool
+pub(crate) fn settle(
+    slots: &[u32],
+    joins: &[Join],
+    at: usize,
+    into: &mut [u32],
+    merges: usize,
+) -> bool
     requires formed { WellFormed slots.now joins.now }
     requires merging { Merging slots.now joins.now into.old merges }
     requires here { at < length joins.now }
@@ -136,7 +142,11 @@ pub(crate) fn separate(alloc: Global, count: usize) -> Result<Vec<u32>, AllocErr
 }
 
 /// Each name leads to the one that it is merged into, and no join that is left joins one name only.
-pub(crate) fn merge_joins(alloc: Global, slots: &[u32], joins: &[Join]) -> Result<Vec<u32>, AllocError>
+pub(crate) fn merge_joins(
+    alloc: Global,
+    slots: &[u32],
+    joins: &[Join],
+) -> Result<Vec<u32>, AllocError>
     requires formed { WellFormed slots.now joins.now }
     requires short { length slots.now < 2 ^ 32 }
     ensures { IfOk result (λ v. Merged slots.now joins.now v.items) }

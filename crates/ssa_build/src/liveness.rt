@@ -96,7 +96,11 @@ pub(crate) fn widen_all(blocks: &[Block], table: &mut [bool], slot: u32)
 }
 
 /// The blocks at which a slot is live.
-pub(crate) fn live_blocks(alloc: Global, blocks: &[Block], slot: u32) -> Result<Items<bool>, AllocError>
+pub(crate) fn live_blocks(
+    alloc: Global,
+    blocks: &[Block],
+    slot: u32,
+) -> Result<Items<bool>, AllocError>
     ensures { IfOk result (λ v. LiveTable blocks.now slot v) }
 {
     let mut table = unmarked_table(alloc, blocks.len())?;

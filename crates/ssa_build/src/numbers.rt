@@ -14,7 +14,11 @@ pub(crate) struct Numbering {
 }
 
 /// Numbers the names that lead to themselves, in order.
-pub(crate) fn number_roots(alloc: Global, slots: &[u32], into: &[u32]) -> Result<Numbering, AllocError>
+pub(crate) fn number_roots(
+    alloc: Global,
+    slots: &[u32],
+    into: &[u32],
+) -> Result<Numbering, AllocError>
     requires sized { length into.now ≡ length slots.now }
     requires short { length slots.now < 2 ^ 32 }
     ensures { IfOk result (λ v. Numbers slots.now into.now v.numbers.items v.names) }
