@@ -1,5 +1,5 @@
 -- A statement has at most fifteen parts with a block for each of its nodes, and a function sixteen for each node and two more.
-use Rattle.std.proofs.Common.{◌≡◌, ℕ, ◌+◌, ◌*◌, ◌≤◌, Bool, true, false, List, [], ◌∷◌, ◌++◌, length, Option, Some, None, arith}
+use Rattle.std.proofs.Common.{◌≡◌, ℕ, ◌+◌, ◌*◌, ◌≤◌, Bool, true, false, List, [], ◌∷◌, length, Option, Some, None, arith}
 use Rattle.std.specs.Prelude.{slice_get, sum}
 use Rattle.std.proofs.lemmas.List.Sums.{sum_by-cons}
 use Rattle.away_values.specs.declared.types.Ty.{Ty}
@@ -19,7 +19,7 @@ use Rattle.block_forms.specs.declared.forms.Term.{Term}
 use Rattle.block_forms.specs.declared.places.Numbers.{Numbers}
 use Rattle.block_forms.specs.declared.places.Place.{Place}
 use Rattle.block_forms.specs.Around.{Around, exit_to, again_to}
-use Rattle.block_forms.specs.Laid.{Setting, Laid, laying, laid, after, a_node, with_expr, decl_size, kind_size, row_size, arms_size, first_block, row_parts, decl_parts, decls_parts, default_term, arms_parts, lack, else_parts, kind_parts, again_of, inside_of}
+use Rattle.block_forms.specs.Laid.{Setting, laying, laid, after, a_node, with_expr, decl_size, kind_size, row_size, arms_size, first_block, row_parts, decl_parts, decls_parts, default_term, arms_parts, lack, else_parts, kind_parts, again_of, inside_of}
 use Rattle.block_forms.specs.Lowered.{Lowered, setting, all_parts, param_parts, params_parts, body_place}
 use Rattle.block_forms.specs.Patterns.{node, no_of, set_parts, slot_parts, leave_parts, source_term}
 use Rattle.lowered_laws.proofs.Filled.{filled, filled_append, as_many}
@@ -57,7 +57,7 @@ module _ (s : Setting) where
     few : (x : Stmt) (p : Place) (around : Around) (next : ℕ) → filled ((stmt_of laying x).parts s p around next) ≤ 15 * stmt_of counting x
     few (b.Block' label decls m body closing) p around next =
         let xs = stmts_of laying body in
-        let inside = inside_of decls p in
+        let inside = inside_of s decls p in
         let start = first_block s (length xs) inside.node next in
         let outer = record { label = label; exit = next; again = None } ∷ around in
         omega (arith, filled_append (decls_parts s decls (after p a_node) start) (row_parts s xs inside outer next), few_decls decls (after p a_node) start, few_row body inside outer next)
