@@ -14,6 +14,7 @@ use crate::joins::merge_joins;
 use crate::layout::Layout;
 use crate::numbers::number_roots;
 use crate::phis::full_joins;
+use crate::renames::Renaming;
 use crate::writing::new_blocks;
 use away_types::CheckedFunction;
 use away_values::NoMemory;
@@ -42,7 +43,13 @@ pub(crate) fn build_form(alloc: Global, layout: Layout, g: &Goto) -> Result<Ssa,
     let joins = full_joins(alloc, &full, goto_blocks)?;
     let into = merge_joins(alloc, &full.names.slots, &joins)?;
     let numbering = number_roots(alloc, &full.names.slots, &into)?;
-    let written = new_blocks(alloc, &full, goto_blocks, &into, &numbering.numbers)?;
+    let renaming = Renaming {
+        full: &full,
+        blocks: goto_blocks,
+        into: &into,
+        numbers: &numbering.numbers,
+    };
+    let written = new_blocks(alloc, &renaming)?;
     Ok(Ssa {
         names: numbering.names,
         blocks: written,
