@@ -1,7 +1,6 @@
 -- A statement has at most fifteen parts with a block for each of its nodes, and a function sixteen for each node and two more.
-use Rattle.std.proofs.Common.{◌≡◌, ℕ, ◌+◌, ◌*◌, ◌≤◌, Bool, true, false, List, [], ◌∷◌, length, Option, Some, None, arith}
+use Rattle.std.proofs.Common.{ℕ, ◌+◌, ◌*◌, ◌≤◌, Bool, true, false, List, [], ◌∷◌, length, Option, Some, None, arith}
 use Rattle.std.specs.Prelude.{slice_get, sum}
-use Rattle.std.proofs.lemmas.List.Sums.{sum_by-cons}
 use Rattle.away_values.specs.declared.types.Ty.{Ty}
 use Rattle.away_trees.specs.declared.queries.Expr.{Expr}
 use Rattle.away_trees.specs.declared.statements.Decl.{Decl}
@@ -23,9 +22,7 @@ use Rattle.block_forms.specs.Laid.{Setting, laying, laid, after, a_node, with_ex
 use Rattle.block_forms.specs.Lowered.{Lowered, setting, all_parts, param_parts, params_parts, body_place}
 use Rattle.block_forms.specs.Patterns.{node, no_of, set_parts, slot_parts, leave_parts, source_term}
 use Rattle.lowered_laws.proofs.Filled.{filled, filled_append, as_many}
-
-sum_cons : (x : ℕ) (xs : List ℕ) → sum (x ∷ xs) ≡ x + sum xs
-sum_cons x xs = sum_by-cons (λ k. k) x xs
+use Rattle.lowered_laws.proofs.Sums.{sum_cons}
 
 module _ (g : Goto) (n : Numbers) where
   few_set : (not_null : Bool) (t : Ty) (b slot : ℕ) (e : Term) (next : ℕ) → filled (set_parts g n not_null t b slot e next) ≤ 3

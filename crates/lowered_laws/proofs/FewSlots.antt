@@ -1,7 +1,6 @@
 -- A function has at most four slots for each of its nodes.
-use Rattle.std.proofs.Common.{◌≡◌, ℕ, ◌+◌, ◌*◌, ◌≤◌, List, [], ◌∷◌, length, arith}
+use Rattle.std.proofs.Common.{ℕ, ◌+◌, ◌*◌, ◌≤◌, List, [], ◌∷◌, length, arith}
 use Rattle.std.specs.Prelude.{sum}
-use Rattle.std.proofs.lemmas.List.Sums.{sum_by-cons}
 use Rattle.away_trees.specs.declared.statements.Decl.{Decl}
 use Rattle.away_trees.specs.declared.statements.Function.{Function}
 use Rattle.away_trees.specs.declared.statements.LoopKind.{LoopKind}
@@ -15,13 +14,11 @@ use Rattle.block_forms.specs.declared.places.Place.{Place}
 use Rattle.block_forms.specs.Laid.{laying, laid, decls_size, kind_size, row_size, arms_size}
 use Rattle.block_forms.specs.OwnSlots.{OwnSlots}
 use Rattle.block_forms.proofs.SlotCounts.{own_slots_counted}
+use Rattle.lowered_laws.proofs.Sums.{sum_cons}
 
 -- variables, and three hidden slots for each FOR
 abbrev slots_in : Place → ℕ
 slots_in p = p.slot + 3 * p.fors
-
-sum_cons : (x : ℕ) (xs : List ℕ) → sum (x ∷ xs) ≡ x + sum xs
-sum_cons x xs = sum_by-cons (λ k. k) x xs
 
 few_decls : (ds : List Decl) → slots_in (decls_size ds) ≤ 4 * length ds
 few_decls [] = omega arith

@@ -13,6 +13,7 @@ pub mod LeadingStatements
 pub mod LeadingLoops
 pub mod Targets
 pub mod WorkedEntries
+pub mod Sums
 pub mod Filled
 pub mod FewParts
 pub mod FewSlots

@@ -1,7 +1,6 @@
 -- A checked function has as many nodes as the written one, and so keeps their limit.
-use Rattle.std.proofs.Common.{◌≡◌, refl, ap, ℕ, ◌+◌, ◌≤◌, true, false, List, [], ◌∷◌, ◌++◌, map, fold, length, Option, Some, None, arith, length-append}
+use Rattle.std.proofs.Common.{◌≡◌, refl, ap, ℕ, ◌+◌, ◌≤◌, true, false, List, [], ◌∷◌, map, fold, length, Option, Some, None, arith, length-append}
 use Rattle.std.specs.Prelude.{sum}
-use Rattle.std.proofs.lemmas.List.Sums.{sum_by-cons}
 use Rattle.away_trees.specs.declared.queries.Expr.{Expr}
 use Rattle.away_trees.specs.declared.schemas.Schema.{Schema}
 use Rattle.away_trees.specs.declared.statements.Arm.{Arm}
@@ -26,19 +25,13 @@ use Rattle.away_types.specs.FunctionChecks.{start, entry, body_of, resolved_func
 use Rattle.away_types.specs.ResolvedBodies.{resolved_stmt}
 use Rattle.away_types.specs.Statements as n
 use Rattle.away_types.specs.Statements.{Spot, By, resolving, with_declared, with_resolved, none_resolved, none_declared, each_resolved, declared_all, assigned, headed, within}
-
-sum_cons : (x : ℕ) (xs : List ℕ) → sum (x ∷ xs) ≡ x + sum xs
-sum_cons x xs = sum_by-cons (λ k. k) x xs
+use Rattle.lowered_laws.proofs.Sums.{sum_cons, sum_push}
 
 abbrev of_stmt : Stmt → ℕ
 of_stmt x = stmt_of counting x
 
 abbrev of_arm : Arm → ℕ
 of_arm x = branch_of counting x
-
-sum_push : {A : Type 0} (f : A → ℕ) (xs : List A) (x : A) → sum (map f (xs ++ x ∷ [])) ≡ sum (map f xs) + f x
-sum_push f [] x = omega (arith, sum_cons (f x) [])
-sum_push f (y ∷ ys) x = omega (arith, sum_cons (f y) (map f (ys ++ x ∷ [])), sum_cons (f y) (map f ys), sum_push f ys x)
 
 -- ---- pieces
 
