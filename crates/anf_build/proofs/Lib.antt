@@ -1,0 +1,11 @@
+mod Lists
+mod Marking
+mod Widening
+mod NamesBySlot
+mod Loops
+mod Names
+mod Slots
+mod Blocks
+mod UsefulForm
+mod CalledForm
+mod Shortness

@@ -1,0 +1,6 @@
+pub mod Liveness
+pub mod Tables
+pub mod Passing
+pub mod Premises
+pub mod Short
+pub mod NormalForm
