@@ -11,7 +11,8 @@ use Rattle.block_forms.specs.Live.{LiveEnd, LiveIn}
 use Rattle.block_forms.specs.Named.{Feeds, MapOfSlots, Named, exit_map}
 use Rattle.block_forms.specs.Places.{Each, In, first_of}
 use Rattle.call_forms.specs.Called.{Among, AssignmentReads, CallOf, Passes, PassesNames, own_names, with_assigned}
-use Rattle.call_forms.specs.Forms.{Anf, AnfBlock}
+use Rattle.call_forms.specs.declared.forms.Anf.{Anf}
+use Rattle.call_forms.specs.declared.forms.AnfBlock.{AnfBlock}
 use Rattle.anf_build.specs.NormalForm.{IsNormalForm}
 use Rattle.anf_build.specs.Passing.{AreNames, IsBlockOf, arguments, arguments_of, call_of, live_pairs, name_or, named_or, parameters}
 use Rattle.anf_build.specs.Tables.{live_by}

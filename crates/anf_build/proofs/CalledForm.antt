@@ -13,7 +13,9 @@ use Rattle.block_forms.specs.Live.{LiveEnd}
 use Rattle.block_forms.specs.Named.{AssignmentRenamed, EndRenamed, EntryHas, Feeds, MapOfParameters, Named, TermRenamed, exit_map}
 use Rattle.block_forms.specs.Places.{Each, In}
 use Rattle.call_forms.specs.Called.{Among, AssignmentReads, BlockCalled, Called, CallOf, EndCalled, EndReads, EntryParameters, HasName, ParametersOf, ReadsOwn, own_names}
-use Rattle.call_forms.specs.Forms.{Anf, AnfBlock, Call}
+use Rattle.call_forms.specs.declared.forms.Anf.{Anf}
+use Rattle.call_forms.specs.declared.forms.AnfBlock.{AnfBlock}
+use Rattle.call_forms.specs.declared.forms.Call.{Call}
 use Rattle.anf_build.specs.NormalForm.{IsNormalForm}
 use Rattle.anf_build.specs.Passing.{IsBlockOf, call_of, end_of, live_pairs, parameters}
 use Rattle.anf_build.specs.Tables.{live_by}
@@ -32,7 +34,7 @@ names_differ names (p ∷ ps) own d = (
 )
 
 module _ (slots params : ℕ) (g : Goto) (z : Ssa) (a : Anf) (named : Named slots params g z) (normal : IsNormalForm g z a) where
-  live_at : ℕ → ℕ → Type 0
+  abbrev live_at : ℕ → ℕ → Type 0
   live_at s c = live_by normal.tables c s ≡ true
 
   module _ (b : ℕ) (x : Block) (y : SsaBlock) (w : AnfBlock) (here : Standing g z a b x y w) where

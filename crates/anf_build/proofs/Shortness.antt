@@ -7,7 +7,7 @@ use Rattle.block_forms.specs.declared.forms.Ssa.{Ssa}
 use Rattle.block_forms.specs.declared.forms.SsaBlock.{SsaBlock}
 use Rattle.block_forms.specs.Forms.{Pairs}
 use Rattle.block_forms.specs.Named.{Named}
-use Rattle.call_forms.specs.Forms.{Anf}
+use Rattle.call_forms.specs.declared.forms.Anf.{Anf}
 use Rattle.anf_build.specs.NormalForm.{IsNormalForm}
 use Rattle.anf_build.specs.Passing.{arguments_of, call_of, end_of, live_pairs, named_or, parameters}
 use Rattle.anf_build.specs.Short.{AnfBlockWithin, AnfWithin, CallEndWithin, CallWithin, EndWithin, SetWithin, SsaBlockWithin, SsaWithin}

@@ -12,7 +12,10 @@ use Rattle.block_forms.specs.Live.{Live, LiveEnd, LiveIn}
 use Rattle.block_forms.specs.Named.{EndRenamed, Feeds, Named, TermRenamed, exit_map}
 use Rattle.block_forms.specs.Places.{Each, In}
 use Rattle.call_forms.specs.Called.{Among}
-use Rattle.call_forms.specs.Forms.{Anf, AnfBlock, CallEnd, params_of}
+use Rattle.call_forms.specs.declared.forms.Anf.{Anf}
+use Rattle.call_forms.specs.declared.forms.AnfBlock.{AnfBlock}
+use Rattle.call_forms.specs.declared.forms.CallEnd.{CallEnd}
+use Rattle.call_forms.specs.Forms.{params_of}
 use Rattle.call_forms.specs.Useful.{EndPasses, IsUseful, PassesOn, ReadByEnd, ReadBySet, SetsAnother, UsedHere, UsefulParameters, UsefulWithin}
 use Rattle.anf_build.specs.NormalForm.{IsNormalForm}
 use Rattle.anf_build.specs.Passing.{IsBlockOf, arguments, arguments_of, call_of, end_of, live_pairs, named_or, parameters}
@@ -28,7 +31,7 @@ Uses H a q e p = ReadBySet q p ⊎ SetsAnother q p × (ReadByEnd e p ⊎ EndPass
 
 module _ (slots params : ℕ) (g : Goto) (z : Ssa) (a : Anf) (named : Named slots params g z) (normal : IsNormalForm g z a) where
   -- what is useful one step earlier, where a slot is live by a way of so many blocks
-  Known : ℕ → ℕ → Type 0
+  abbrev Known : ℕ → ℕ → Type 0
   Known k s = (c : ℕ) (y : SsaBlock) (p : ℕ) → Live g.blocks k c s → slice_get z.blocks c ≡ Some y → at_key y.map s ≡ Some p → UsefulWithin a k c p
 
   module _ (b : ℕ) (x : Block) (y : SsaBlock) (w : AnfBlock) (here : Standing g z a b x y w) (k s p : ℕ) (lt : s < length normal.tables) (known : Known k s) (at_end : at_key (exit_map x y) s ≡ Some p) where

@@ -3,7 +3,7 @@ use Rattle.std.specs.Prelude.{◌<◌, Bool, List, length}
 use Rattle.block_forms.specs.declared.forms.Goto.{Goto}
 use Rattle.block_forms.specs.declared.forms.Ssa.{Ssa}
 use Rattle.block_forms.specs.Places.{Each}
-use Rattle.call_forms.specs.Forms.{Anf}
+use Rattle.call_forms.specs.declared.forms.Anf.{Anf}
 use Rattle.anf_build.specs.Passing.{AreBlocksOf}
 use Rattle.anf_build.specs.Tables.{AreLiveTables}
 

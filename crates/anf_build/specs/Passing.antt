@@ -8,7 +8,10 @@ use Rattle.block_forms.specs.declared.forms.End.TheVariants as jump
 use Rattle.block_forms.specs.declared.forms.SsaBlock.{SsaBlock}
 use Rattle.block_forms.specs.Forms.{Pairs, at_key}
 use Rattle.block_forms.specs.Named.{exit_map}
-use Rattle.call_forms.specs.Forms.{Call, CallEnd, Go, Pick, Return, Fail, AnfBlock}
+use Rattle.call_forms.specs.declared.forms.Call.{Call}
+use Rattle.call_forms.specs.declared.forms.CallEnd.{CallEnd}
+use Rattle.call_forms.specs.declared.forms.AnfBlock.{AnfBlock}
+use Rattle.call_forms.specs.declared.forms.CallEnd.TheVariants.{Go, Pick, Return, Fail}
 use Rattle.anf_build.specs.Tables.{live_by}
 
 -- ---- names by slot

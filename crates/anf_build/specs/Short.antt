@@ -7,7 +7,11 @@ use Rattle.block_forms.specs.declared.forms.SsaBlock.{SsaBlock}
 use Rattle.block_forms.specs.declared.forms.Term.{Term}
 use Rattle.block_forms.specs.Forms.{Assignment}
 use Rattle.block_forms.specs.Places.{Each}
-use Rattle.call_forms.specs.Forms.{Call, CallEnd, Go, Pick, Return, Fail, AnfBlock, Anf}
+use Rattle.call_forms.specs.declared.forms.Call.{Call}
+use Rattle.call_forms.specs.declared.forms.CallEnd.{CallEnd}
+use Rattle.call_forms.specs.declared.forms.AnfBlock.{AnfBlock}
+use Rattle.call_forms.specs.declared.forms.Anf.{Anf}
+use Rattle.call_forms.specs.declared.forms.CallEnd.TheVariants.{Go, Pick, Return, Fail}
 
 module _ (n : ℕ) where
   abbrev pub TermWithin : Term → Type 0
