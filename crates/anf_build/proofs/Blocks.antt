@@ -1,22 +1,21 @@
 -- What the blocks that stand for those of an SSA form read, and what they pass.
-use Rattle.std.proofs.Common.{◌≡◌, ◌⊎◌, ℕ, zero, suc, ◌<◌, ◌≤◌, Bool, true, List, [], ◌∷◌, map, length, get_or, slice_get, Option, Some, None, refl, sym, ap, ◌∙◌, subst, inl, inr, arith}
+use Rattle.std.proofs.Common.{◌≡◌, ℕ, suc, ◌<◌, Bool, true, List, [], ◌∷◌, map, length, slice_get, Option, Some, None, refl, sym, ap, ◌∙◌, subst, inl, inr}
 use Rattle.std.proofs.lemmas.Option.{slice_get_within}
 use Rattle.block_forms.specs.declared.forms.Block.{Block}
-use Rattle.block_forms.specs.declared.forms.End.{End}
 use Rattle.block_forms.specs.declared.forms.Goto.{Goto}
 use Rattle.block_forms.specs.declared.forms.Ssa.{Ssa}
 use Rattle.block_forms.specs.declared.forms.SsaBlock.{SsaBlock}
 use Rattle.block_forms.specs.Forms.{Assignment, Pairs, at_key, source}
 use Rattle.block_forms.specs.Live.{LiveEnd, LiveIn}
-use Rattle.block_forms.specs.Named.{Feeds, MapOfSlots, Named, exit_map}
+use Rattle.block_forms.specs.Named.{Feeds, Named, exit_map}
 use Rattle.block_forms.specs.Places.{Each, In, first_of}
-use Rattle.call_forms.specs.Called.{Among, AssignmentReads, CallOf, Passes, PassesNames, own_names, with_assigned}
+use Rattle.call_forms.specs.Called.{Among, CallOf, Passes, PassesNames, own_names, with_assigned}
 use Rattle.call_forms.specs.declared.forms.Anf.{Anf}
 use Rattle.call_forms.specs.declared.forms.AnfBlock.{AnfBlock}
 use Rattle.anf_build.specs.NormalForm.{IsNormalForm}
 use Rattle.anf_build.specs.Passing.{AreNames, IsBlockOf, arguments, arguments_of, call_of, live_pairs, name_or, named_or, parameters}
 use Rattle.anf_build.specs.Tables.{live_by}
-use Rattle.anf_build.proofs.Lists.{Differ, at_map, from_at_map, from_filter, from_lookup, in_filter, in_lookup, in_place, place_in, slots_differ, some_at, some_same}
+use Rattle.anf_build.proofs.Lists.{Differ, at_map, from_at_map, from_filter, from_lookup, in_filter, in_place, place_in, slots_differ, some_at, some_same}
 use Rattle.anf_build.proofs.Names.{Assigns, exit_cases, fed_block, fed_name, live_by_end}
 
 pub map_length : {X Y : Type 0} (f : X → Y) (xs : List X) → length (map f xs) ≡ length xs

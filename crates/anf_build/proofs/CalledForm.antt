@@ -15,7 +15,6 @@ use Rattle.block_forms.specs.Places.{Each, In}
 use Rattle.call_forms.specs.Called.{Among, AssignmentReads, BlockCalled, Called, CallOf, EndCalled, EndReads, EntryParameters, HasName, ParametersOf, ReadsOwn, own_names}
 use Rattle.call_forms.specs.declared.forms.Anf.{Anf}
 use Rattle.call_forms.specs.declared.forms.AnfBlock.{AnfBlock}
-use Rattle.call_forms.specs.declared.forms.Call.{Call}
 use Rattle.anf_build.specs.NormalForm.{IsNormalForm}
 use Rattle.anf_build.specs.Passing.{IsBlockOf, call_of, end_of, live_pairs, parameters}
 use Rattle.anf_build.specs.Tables.{live_by}
@@ -28,8 +27,8 @@ names_differ : (names : List ℕ) (ps : Pairs) → ((p : ℕ × ℕ) → In ps p
 names_differ names [] own d = tt
 names_differ names (p ∷ ps) own d = (
   (λ i. let r = from_map (λ (p : ℕ × ℕ). p.1) ps p.1 i in
-  let same : r.0.0 ≡ p.0 = some_same (sym (own r.0 (inr r.1)) ∙ ap (slice_get names) r.2 ∙ own p (inl refl)) in
-  d.0 (subst (In (map (λ (p : ℕ × ℕ). p.0) ps)) same (in_map (λ (p : ℕ × ℕ). p.0) ps r.0 r.1))),
+      let same : r.0.0 ≡ p.0 = some_same (sym (own r.0 (inr r.1)) ∙ ap (slice_get names) r.2 ∙ own p (inl refl)) in
+      d.0 (subst (In (map (λ (p : ℕ × ℕ). p.0) ps)) same (in_map (λ (p : ℕ × ℕ). p.0) ps r.0 r.1))),
   names_differ names ps (λ q i. own q (inr i)) d.1,
 )
 
@@ -49,8 +48,8 @@ module _ (slots params : ℕ) (g : Goto) (z : Ssa) (a : Anf) (named : Named slot
         let owned : (p : ℕ × ℕ) → In (live_pairs normal.tables b y.map) p → slice_get z.names p.1 ≡ Some p.0 = λ p i. own_slot slots params g z a named normal b y here.named p (from_filter test y.map p i).0 in
         let differ : Differ (parameters normal.tables b y.map) = names_differ z.names (live_pairs normal.tables b y.map) owned (distinct_filter test (λ (p : ℕ × ℕ). p.0) y.map (map_differs slots params g z a named normal b y here.named)) in
         let of_form : Each (λ p. p < length z.names) (parameters normal.tables b y.map) = λ i p at.
-            let q = from_at_map (λ (p : ℕ × ℕ). p.1) (live_pairs normal.tables b y.map) i p at in
-            subst (λ n. n < length z.names) q.2 (slice_get_within z.names q.0.1 q.0.0 (owned q.0 (in_place (live_pairs normal.tables b y.map) i q.0 q.1))) in
+        let q = from_at_map (λ (p : ℕ × ℕ). p.1) (live_pairs normal.tables b y.map) i p at in
+        subst (λ n. n < length z.names) q.2 (slice_get_within z.names q.0.1 q.0.0 (owned q.0 (in_place (live_pairs normal.tables b y.map) i q.0 q.1))) in
         record {
           distinct = differ_distinct w.params (subst Differ (sym made.params) differ);
           of_form = subst (Each (λ p. p < length z.names)) (sym made.params) of_form;

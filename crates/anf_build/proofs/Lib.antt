@@ -1,8 +1,6 @@
 mod Lists
 mod Marking
 mod Widening
-mod NamesBySlot
-mod Loops
 mod Names
 mod Slots
 mod Blocks

@@ -122,8 +122,8 @@ pub slots_differ : (m : Pairs) → Distinct first_of m → Differ (map first_of 
 slots_differ [] d = tt
 slots_differ (p ∷ ps) d = (
   (λ i. let r = from_map first_of ps p.0 i in
-  let at = place_in ps r.0 r.1 in
-  (d (suc at.0) r.0 at.1).others 0 p refl (omega arith) (sym r.2)),
+      let at = place_in ps r.0 r.1 in
+      (d (suc at.0) r.0 at.1).others 0 p refl (omega arith) (sym r.2)),
   slots_differ ps (λ i x e. record { others = λ j y at lt. (d (suc i) x e).others (suc j) y at (omega (arith, lt)) }),
 )
 

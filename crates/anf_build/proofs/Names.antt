@@ -1,17 +1,15 @@
 -- What blocks read under names, and the names that slots have at their ends.
-use Rattle.std.proofs.Common.{◌≡◌, ◌⊎◌, ℕ, ◌<◌, List, [], ◌∷◌, length, slice_get, Option, Some, None, if◌then◌else◌, refl, sym, ap, ◌∙◌, subst, inl, inr, arith}
+use Rattle.std.proofs.Common.{◌≡◌, ◌⊎◌, ℕ, ◌<◌, List, length, slice_get, Option, Some, None, if◌then◌else◌, refl, sym, ap, ◌∙◌, subst, inl, inr}
 use Rattle.std.proofs.lemmas.Option.{slice_get_within}
-use Rattle.block_forms.specs.declared.forms.End.{End}
-use Rattle.block_forms.specs.declared.forms.End.TheVariants.{Jump, Branch, Return, Fail}
 use Rattle.block_forms.specs.declared.forms.SsaBlock.{SsaBlock}
 use Rattle.block_forms.specs.declared.forms.Term.{Term}
 use Rattle.block_forms.specs.Forms.{Assignment, Pairs, at_key, source}
-use Rattle.block_forms.specs.Live.{LiveEnd, LiveSet}
-use Rattle.block_forms.specs.Named.{AssignmentRenamed, EndRenamed, Feeds, Gives, Renamed, TermRenamed, renewal, with_pair}
+use Rattle.block_forms.specs.Live.{LiveSet}
+use Rattle.block_forms.specs.Named.{AssignmentRenamed, Feeds, Gives, TermRenamed, renewal, with_pair}
 use Rattle.block_forms.specs.Places.{In}
 use Rattle.call_forms.specs.Called.{Among}
 use Rattle.call_forms.specs.Useful.{ReadBySet, SetsAnother}
-use Rattle.anf_build.proofs.Lists.{compared, in_place, none_some, place_in, some_at, some_same, tests_other, tests_same}
+use Rattle.anf_build.proofs.Lists.{compared, in_place, place_in, some_at, some_same, tests_other, tests_same}
 
 -- ---- terms
 

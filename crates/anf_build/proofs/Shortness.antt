@@ -1,5 +1,5 @@
 -- The lists of the normal form are no longer than those of the SSA form.
-use Rattle.std.proofs.Common.{◌≡◌, ℕ, ◌<◌, ◌≤◌, Bool, List, [], map, length, slice_get, Option, Some, None, refl, sym, ap, ◌∙◌, subst, arith}
+use Rattle.std.proofs.Common.{◌≡◌, ℕ, ◌<◌, Bool, List, map, length, slice_get, Option, Some, None, refl, sym, subst, arith}
 use Rattle.block_forms.specs.declared.forms.End.{End}
 use Rattle.block_forms.specs.declared.forms.End.TheVariants.{Jump, Branch, Return, Fail}
 use Rattle.block_forms.specs.declared.forms.Goto.{Goto}
@@ -9,8 +9,8 @@ use Rattle.block_forms.specs.Forms.{Pairs}
 use Rattle.block_forms.specs.Named.{Named}
 use Rattle.call_forms.specs.declared.forms.Anf.{Anf}
 use Rattle.anf_build.specs.NormalForm.{IsNormalForm}
-use Rattle.anf_build.specs.Passing.{arguments_of, call_of, end_of, live_pairs, named_or, parameters}
-use Rattle.anf_build.specs.Short.{AnfBlockWithin, AnfWithin, CallEndWithin, CallWithin, EndWithin, SetWithin, SsaBlockWithin, SsaWithin}
+use Rattle.anf_build.specs.Passing.{arguments_of, call_of, end_of, live_pairs, named_or}
+use Rattle.anf_build.specs.Short.{AnfWithin, CallEndWithin, CallWithin, EndWithin, SetWithin, SsaWithin}
 use Rattle.anf_build.specs.Tables.{live_by}
 use Rattle.anf_build.proofs.Lists.{fewer}
 use Rattle.anf_build.proofs.Blocks.{made_of, map_length, standing_made}

@@ -1,5 +1,5 @@
 -- Live slots have names.
-use Rattle.std.proofs.Common.{◌≡◌, ◌⊎◌, ℕ, zero, suc, ◌<◌, ◌≤◌, Bool, true, false, List, [], ◌∷◌, length, get_or, slice_get, Option, Some, None, refl, sym, ap, ◌∙◌, subst, inl, inr, arith}
+use Rattle.std.proofs.Common.{◌≡◌, ℕ, zero, suc, ◌<◌, Bool, true, false, List, [], length, get_or, slice_get, Option, Some, None, refl, sym, ap, ◌∙◌, subst, inl, inr}
 use Rattle.std.proofs.lemmas.List.{get_or_past}
 use Rattle.std.proofs.lemmas.Option.{slice_get_within}
 use Rattle.block_forms.specs.declared.forms.Block.{Block}
@@ -11,10 +11,9 @@ use Rattle.block_forms.specs.declared.forms.SsaBlock.{SsaBlock}
 use Rattle.block_forms.specs.Forms.{Assignment, AtTargets, Pairs, at_key}
 use Rattle.block_forms.specs.Live.{Live, LiveEnd, LiveIn, LiveSet}
 use Rattle.block_forms.specs.Named.{EndRenamed, Feeds, Named, exit_map}
-use Rattle.block_forms.specs.Places.{Each}
-use Rattle.anf_build.specs.Liveness.{IsClosed, OnlyLive, marked}
+use Rattle.anf_build.specs.Liveness.{IsClosed, marked}
 use Rattle.anf_build.specs.Tables.{AreLiveTables, live_by}
-use Rattle.anf_build.proofs.Lists.{from_lookup, in_place, place_in, some_at, within_or_past}
+use Rattle.anf_build.proofs.Lists.{from_lookup, some_at, within_or_past}
 use Rattle.anf_build.proofs.Names.{exit_other, fed_block, fed_name, live_cases, name_of_read, set_reads}
 
 -- ---- tables

@@ -1,5 +1,5 @@
 -- Parameters of the normal form are useful: they are names of live slots.
-use Rattle.std.proofs.Common.{◌≡◌, ◌⊎◌, ℕ, zero, suc, ◌<◌, true, List, length, slice_get, Option, Some, None, refl, sym, ap, ◌∙◌, subst, inl, inr}
+use Rattle.std.proofs.Common.{◌≡◌, ◌⊎◌, ℕ, zero, suc, ◌<◌, length, slice_get, Some, sym, ap, ◌∙◌, subst, inl, inr}
 use Rattle.block_forms.specs.declared.forms.Block.{Block}
 use Rattle.block_forms.specs.declared.forms.End.{End}
 use Rattle.block_forms.specs.declared.forms.End.TheVariants.{Jump, Branch, Return, Fail}
@@ -7,23 +7,22 @@ use Rattle.block_forms.specs.declared.forms.Goto.{Goto}
 use Rattle.block_forms.specs.declared.forms.Ssa.{Ssa}
 use Rattle.block_forms.specs.declared.forms.SsaBlock.{SsaBlock}
 use Rattle.block_forms.specs.declared.forms.Term.{Term}
-use Rattle.block_forms.specs.Forms.{Assignment, AtTargets, Pairs, at_key}
+use Rattle.block_forms.specs.Forms.{Assignment, AtTargets, at_key}
 use Rattle.block_forms.specs.Live.{Live, LiveEnd, LiveIn}
 use Rattle.block_forms.specs.Named.{EndRenamed, Feeds, Named, TermRenamed, exit_map}
-use Rattle.block_forms.specs.Places.{Each, In}
+use Rattle.block_forms.specs.Places.{In}
 use Rattle.call_forms.specs.Called.{Among}
 use Rattle.call_forms.specs.declared.forms.Anf.{Anf}
 use Rattle.call_forms.specs.declared.forms.AnfBlock.{AnfBlock}
 use Rattle.call_forms.specs.declared.forms.CallEnd.{CallEnd}
 use Rattle.call_forms.specs.Forms.{params_of}
-use Rattle.call_forms.specs.Useful.{EndPasses, IsUseful, PassesOn, ReadByEnd, ReadBySet, SetsAnother, UsedHere, UsefulParameters, UsefulWithin}
+use Rattle.call_forms.specs.Useful.{EndPasses, PassesOn, ReadByEnd, ReadBySet, SetsAnother, UsedHere, UsefulParameters, UsefulWithin}
 use Rattle.anf_build.specs.NormalForm.{IsNormalForm}
-use Rattle.anf_build.specs.Passing.{IsBlockOf, arguments, arguments_of, call_of, end_of, live_pairs, named_or, parameters}
-use Rattle.anf_build.specs.Tables.{live_by}
+use Rattle.anf_build.specs.Passing.{IsBlockOf, arguments_of, call_of, end_of, live_pairs, named_or, parameters}
 use Rattle.anf_build.proofs.Lists.{at_map, from_at_map, from_lookup, in_lookup, some_same}
-use Rattle.anf_build.proofs.Names.{exit_other, fed_block, fed_name, live_cases, name_of_read, set_reads, sets_another}
+use Rattle.anf_build.proofs.Names.{exit_other, fed_block, live_cases, name_of_read, set_reads, sets_another}
 use Rattle.anf_build.proofs.Slots.{has_name, live_of_way, slot_within, way_of}
-use Rattle.anf_build.proofs.Blocks.{Standing, made_of, map_differs, named_is, own_slot, pair_at, parameter_of, slot_in, standing, standing_made}
+use Rattle.anf_build.proofs.Blocks.{Standing, made_of, map_differs, named_is, own_slot, pair_at, parameter_of, standing, standing_made}
 
 -- an assignment and an end use a name
 abbrev Uses : (ℕ → ℕ → Type 0) → Anf → Assignment → CallEnd → ℕ → Type 0

@@ -1,5 +1,5 @@
 -- Forms whose lists are short.
-use Rattle.std.specs.Prelude.{ℕ, ◌<◌, List, length, Option, Some, None}
+use Rattle.std.specs.Prelude.{ℕ, ◌<◌, length, Some, None}
 use Rattle.block_forms.specs.declared.forms.End.{End}
 use Rattle.block_forms.specs.declared.forms.End.TheVariants as jump
 use Rattle.block_forms.specs.declared.forms.Ssa.{Ssa}

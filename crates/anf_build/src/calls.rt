@@ -21,10 +21,7 @@ fn copied_term(alloc: Global, term: &Term) -> Result<Term, AllocError>
     })
 }
 
-fn copied_set(
-    alloc: Global,
-    set: &Option<(u32, Term)>,
-) -> Result<Option<(u32, Term)>, AllocError>
+fn copied_set(alloc: Global, set: &Option<(u32, Term)>) -> Result<Option<(u32, Term)>, AllocError>
     ensures { IfOk result (λ s. s ≡ set.now) }
 {
     match set {
@@ -57,16 +54,16 @@ fn arguments(
     alloc: Global,
     tables: &[Items<bool>],
     names: &[Option<u32>],
-    block: usize,
+    callee: usize,
     map: &[(u32, u32)],
 ) -> Result<Items<u32>, AllocError>
     requires sized { length names.now ≡ length tables.now }
-    ensures { IfOk result (λ v. v ≡ passing.arguments tables.now names.now block map.now) }
+    ensures { IfOk result (λ v. v ≡ passing.arguments tables.now names.now callee map.now) }
 {
     let mut args = Items::new(alloc);
     for pair in map {
         let (slot, name) = *pair;
-        if is_live(tables, block, slot) {
+        if is_live(tables, callee, slot) {
             args.push(name_of(names, slot, name))?;
         }
     }

@@ -23,7 +23,11 @@ fn reads(term: &Term, slot: usize) -> bool
 pub(crate) fn is_marked(table: &[bool], block: usize) -> bool
     ensures { result ≡ marked table.now block }
 {
-    if block < table.len() { table[block] } else { false }
+    if block < table.len() {
+        table[block]
+    } else {
+        false
+    }
 }
 
 /// Whether a slot is live where a block ends.
@@ -33,9 +37,7 @@ fn lives_at_end(end: &End, table: &[bool], slot: usize) -> bool
     match end {
         End::Jump(next) => is_marked(table, *next as usize),
         End::Branch(test, yes, no) => {
-            reads(test, slot)
-                || is_marked(table, *yes as usize)
-                || is_marked(table, *no as usize)
+            reads(test, slot) || is_marked(table, *yes as usize) || is_marked(table, *no as usize)
         }
         End::Return(value) => reads(value, slot),
         End::Fail(_) => false,
@@ -49,8 +51,7 @@ fn lives_at(block: &Block, table: &[bool], slot: usize) -> bool
     match &block.set {
         None => lives_at_end(&block.end, table, slot),
         Some((target, value)) => {
-            reads(value, slot)
-                || *target as usize != slot && lives_at_end(&block.end, table, slot)
+            reads(value, slot) || *target as usize != slot && lives_at_end(&block.end, table, slot)
         }
     }
 }

@@ -121,7 +121,11 @@ fn many_blocks(rt: HostRuntime) {
     }
     let mut blocks = Items::new(rt.alloc());
     for at in 0..8_015u32 {
-        let y = block(&rt, map.as_slice(), End::Branch(term(&rt, &[at % slots]), at + 1, at / 2));
+        let y = block(
+            &rt,
+            map.as_slice(),
+            End::Branch(term(&rt, &[at % slots]), at + 1, at / 2),
+        );
         blocks.push(y).expect(&rt, "memory");
     }
     let last = block(&rt, map.as_slice(), End::Return(term(&rt, &[31])));
