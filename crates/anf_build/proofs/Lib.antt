@@ -1,6 +1,6 @@
 mod Lists
 mod Marking
-mod Widening
+mod Spreading
 mod Names
 mod Slots
 mod Blocks

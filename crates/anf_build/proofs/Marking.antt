@@ -14,14 +14,14 @@ has_from [] i s lt = absurd (let no : ⊥ = omega arith in no)
 has_from (x ∷ xs) zero s lt = refl
 has_from (x ∷ xs) (suc i) s lt = has_from xs i s (omega arith) ∙ ap (λ v. nat_eq (get_or xs i 0) s || has (drop v (x ∷ xs)) s) (let e : suc (i + 1) ≡ suc i + 1 = omega arith in e)
 
-or_cases : (a b : Bool) → (a || b) ≡ true → (a ≡ true) ⊎ (b ≡ true)
+pub or_cases : (a b : Bool) → (a || b) ≡ true → (a ≡ true) ⊎ (b ≡ true)
 or_cases true b e = inl refl
 or_cases false b e = inr e
 
-or_first : (a b : Bool) → a ≡ true → (a || b) ≡ true
+pub or_first : (a b : Bool) → a ≡ true → (a || b) ≡ true
 or_first a b e = ap (λ c. c || b) e
 
-or_second : (a b : Bool) → b ≡ true → (a || b) ≡ true
+pub or_second : (a b : Bool) → b ≡ true → (a || b) ≡ true
 or_second true b e = refl
 or_second false b e = e
 
@@ -94,6 +94,24 @@ module _ (g : List Block) (next : ℕ → Type 0) (s : ℕ) (known : (c : ℕ) �
 
   pub ways : (b : ℕ) (x : Block) → slice_get g b ≡ Some x → LiveIn (Some x) next s → (k : ℕ) × Live g k b s
   ways b x at h = let r = ways_set x.set x.end h in (suc r.0, subst (λ o. LiveIn o (λ c. Live g r.0 c s) s) (sym at) r.1)
+
+-- what is live next may be more
+module _ (P Q : ℕ → Type 0) (s : ℕ) (more : (c : ℕ) → P c → Q c) where
+  more_end : (e : End) → LiveEnd e P s → LiveEnd e Q s
+  more_end (Jump c) h = more c h
+  more_end (Branch t y n) (inl i) = inl i
+  more_end (Branch t y n) (inr (inl h)) = inr (inl (more y h))
+  more_end (Branch t y n) (inr (inr h)) = inr (inr (more n h))
+  more_end (Return t) h = h
+  more_end (Fail k) h = h
+
+  pub more_set : (x : Block) → LiveIn (Some x) P s → LiveIn (Some x) Q s
+  more_set x h = go x.set h
+    where
+      go : (a : Option (ℕ × Term)) → LiveSet a (LiveEnd x.end P s) s → LiveSet a (LiveEnd x.end Q s) s
+      go None h = more_end x.end h
+      go (Some a) (inl i) = inl i
+      go (Some a) (inr h) = inr (h.0, more_end x.end h.1)
 
 -- ---- one more block marked
 

@@ -8,33 +8,16 @@ use Rattle.block_forms.specs.declared.forms.End.TheVariants.{Jump, Branch, Retur
 use Rattle.block_forms.specs.declared.forms.Goto.{Goto}
 use Rattle.block_forms.specs.declared.forms.Ssa.{Ssa}
 use Rattle.block_forms.specs.declared.forms.SsaBlock.{SsaBlock}
-use Rattle.block_forms.specs.Forms.{Assignment, AtTargets, Pairs, at_key}
-use Rattle.block_forms.specs.Live.{Live, LiveEnd, LiveIn, LiveSet}
+use Rattle.block_forms.specs.Forms.{AtTargets, Pairs, at_key}
+use Rattle.block_forms.specs.Live.{Live, LiveEnd, LiveIn}
 use Rattle.block_forms.specs.Named.{EndRenamed, Feeds, Named, exit_map}
 use Rattle.anf_build.specs.Liveness.{IsClosed, marked}
 use Rattle.anf_build.specs.Tables.{AreLiveTables, live_by}
 use Rattle.anf_build.proofs.Lists.{from_lookup, some_at, within_or_past}
+use Rattle.anf_build.proofs.Marking.{more_set}
 use Rattle.anf_build.proofs.Names.{exit_other, fed_block, fed_name, live_cases, name_of_read, set_reads}
 
 -- ---- tables
-
--- what is live next may be more
-module _ (P Q : ℕ → Type 0) (s : ℕ) (more : (c : ℕ) → P c → Q c) where
-  more_end : (e : End) → LiveEnd e P s → LiveEnd e Q s
-  more_end (Jump c) h = more c h
-  more_end (Branch t y n) (inl i) = inl i
-  more_end (Branch t y n) (inr (inl h)) = inr (inl (more y h))
-  more_end (Branch t y n) (inr (inr h)) = inr (inr (more n h))
-  more_end (Return t) h = h
-  more_end (Fail k) h = h
-
-  pub more_set : (x : Block) → LiveIn (Some x) P s → LiveIn (Some x) Q s
-  more_set x h = go x.set h
-    where
-      go : (a : Assignment) → LiveSet a (LiveEnd x.end P s) s → LiveSet a (LiveEnd x.end Q s) s
-      go None h = more_end x.end h
-      go (Some a) (inl i) = inl i
-      go (Some a) (inr h) = inr (h.0, more_end x.end h.1)
 
 marked_live : (g : List Block) (s : ℕ) (table : List Bool) → IsClosed g s table → (k b : ℕ) → Live g k b s → marked table b ≡ true
 marked_live g s table closed zero b h = absurd h

@@ -1,4 +1,5 @@
 pub mod Liveness
+pub mod Spreading
 pub mod Tables
 pub mod Passing
 pub mod Premises

@@ -26,6 +26,14 @@ lives_set (Some a) later s = has a.1.names s || (not (nat_eq a.0 s) && later)
 abbrev pub lives : Block → List Bool → ℕ → Bool
 lives x table s = lives_set x.set (lives_end x.end table s) s
 
+-- whether the block isn't marked, though the slot is live there by what is marked
+abbrev pub due_block : Option Block → List Bool → ℕ → Bool → Bool
+due_block None table s m = false
+due_block (Some x) table s m = not m && lives x table s
+
+abbrev pub due : List Block → List Bool → ℕ → ℕ → Bool
+due g table s b = due_block (slice_get g b) table s (marked table b)
+
 -- how many blocks are not marked
 abbrev pub one_unless : Bool → ℕ
 one_unless true = 0
@@ -47,8 +55,3 @@ pub record LiveTable (g : List Block) (s : ℕ) (table : List Bool) : Type 0 whe
   pub sized : length table ≡ length g
   pub only : OnlyLive g s table
   pub closed : IsClosed g s table
-
-pub record Widened (g : List Block) (s : ℕ) (old new : List Bool) (added : ℕ) : Type 0 where
-  pub only : OnlyLive g s new
-  pub counted : unmarked new + added ≡ unmarked old
-  pub closed : added ≡ 0 → IsClosed g s new

@@ -5,6 +5,7 @@ mod build;
 mod calls;
 mod exits;
 mod liveness;
+mod sources;
 mod tables;
 
 pub use build::to_calls;

@@ -1,7 +1,8 @@
 //! The blocks at which a slot is live: it is read before it is set on some way from there.
 
-ghost use Rattle.std.specs.Prelude.{◌≡◌, ℕ, ◌+◌, ◌^◌, ◌<◌, ◌≤◌, length, IfOk, true};
-ghost use Rattle.anf_build.specs.Liveness.{LiveTable, OnlyLive, Widened, has, lives, lives_end, marked, unmarked};
+ghost use Rattle.std.specs.Prelude.{◌≡◌, ℕ, ◌+◌, ◌^◌, ◌<◌, ◌≤◌, [], length, IfOk, OnOk, IsTrue, true};
+ghost use Rattle.anf_build.specs.Liveness.{LiveTable, OnlyLive, due, has, lives, lives_end, marked};
+ghost use Rattle.anf_build.specs.Spreading.{HasAll, HasSources, Spread, Work};
 
 use block_forms::{Block, End, Term};
 use sqlite_items::Items;
@@ -56,22 +57,77 @@ fn lives_at(block: &Block, table: &[bool], slot: usize) -> bool
     }
 }
 
-/// Marks the blocks at which the slot is live by what is marked; the answer is their number.
-fn widen(blocks: &[Block], table: &mut [bool], slot: usize) -> usize
+/// Whether a block isn't marked, though the slot is live there by what is marked.
+fn is_due(blocks: &[Block], table: &[bool], at: usize, slot: usize) -> bool
+    ensures by_table { result ≡ due blocks.now table.now slot at }
+    ensures within { IsTrue result → at < length blocks.now }
+{
+    match blocks.get(at) {
+        None => false,
+        Some(block) => !is_marked(table, at) && lives_at(block, table, slot),
+    }
+}
+
+/// Marks those of some blocks that are due, and adds them to the blocks from which marks are yet to spread.
+fn mark_due(
+    blocks: &[Block],
+    sources: &[usize],
+    table: &mut [bool],
+    left: &mut Items<usize>,
+    slot: usize,
+) -> Result<(), AllocError>
     requires sized { length table.old ≡ length blocks.now }
     requires only { OnlyLive blocks.now slot table.old }
-    ensures { Widened blocks.now slot table.old table.new result }
+    ensures { OnOk result (Spread blocks.now slot table.old left.old sources.now table.new left.new) }
 {
-    let mut added = 0;
-    let count = blocks.len();
-    for done in 0..count {
-        let at = count - 1 - done;
-        if !table[at] && lives_at(&blocks[at], table, slot) {
+    for source in sources {
+        let at = *source;
+        if is_due(blocks, table, at, slot) {
             table[at] = true;
-            added += 1;
+            left.push(at)?;
         }
     }
-    added
+    Ok(())
+}
+
+/// Marks blocks until all are marked at which the slot is live: from each marked block to those that lead to it.
+fn spread(
+    blocks: &[Block],
+    sources: &[Items<usize>],
+    table: &mut [bool],
+    left: &mut Items<usize>,
+    slot: usize,
+) -> Result<(), AllocError>
+    requires sources { HasSources blocks.now (length blocks.now) sources.now }
+    requires begun { Work blocks.now slot table.old left.old }
+    ensures { OnOk result (LiveTable blocks.now slot table.new) }
+{
+    while let Some(block) = left.pop() {
+        if let Some(list) = sources.get(block) {
+            mark_due(blocks, list.as_slice(), table, left, slot)?;
+        }
+    }
+    Ok(())
+}
+
+/// Marks the blocks at which a slot is live: first those that read it.
+fn mark_live(
+    blocks: &[Block],
+    sources: &[Items<usize>],
+    all: &[usize],
+    table: &mut [bool],
+    left: &mut Items<usize>,
+    slot: usize,
+) -> Result<(), AllocError>
+    requires sources { HasSources blocks.now (length blocks.now) sources.now }
+    requires all { HasAll (length blocks.now) all.now }
+    requires sized { length table.old ≡ length blocks.now }
+    requires unmarked { (b : ℕ) → marked table.old b ≡ true → ⊥ }
+    requires none_left { left.old ≡ [] }
+    ensures { OnOk result (LiveTable blocks.now slot table.new) }
+{
+    mark_due(blocks, all, table, left, slot)?;
+    spread(blocks, sources, table, left, slot)
 }
 
 /// No block is marked.
@@ -85,28 +141,20 @@ fn unmarked_table(alloc: Global, count: usize) -> Result<Vec<bool>, AllocError>
     Ok(table)
 }
 
-/// Marks blocks until all are marked at which the slot is live.
-fn widen_all(blocks: &[Block], table: &mut [bool], slot: usize)
-    requires sized { length table.old ≡ length blocks.now }
-    requires only { OnlyLive blocks.now slot table.old }
-    ensures { LiveTable blocks.now slot table.new }
-{
-    loop {
-        if widen(blocks, table, slot) == 0 {
-            return;
-        }
-    }
-}
-
-/// The blocks at which a slot is live.
+/// The blocks at which a slot is live. Marks spread from the blocks that read the slot, along the sources of blocks.
 pub(crate) fn live_blocks(
     alloc: Global,
     blocks: &[Block],
+    sources: &[Items<usize>],
+    all: &[usize],
     slot: usize,
 ) -> Result<Items<bool>, AllocError>
+    requires sources { HasSources blocks.now (length blocks.now) sources.now }
+    requires all { HasAll (length blocks.now) all.now }
     ensures { IfOk result (λ v. LiveTable blocks.now slot v) }
 {
     let mut table = unmarked_table(alloc, blocks.len())?;
-    widen_all(blocks, &mut table, slot);
+    let mut left = Items::new(alloc);
+    mark_live(blocks, sources, all, &mut table, &mut left, slot)?;
     Ok(Items::from_vec(table))
 }

@@ -2,9 +2,11 @@
 
 ghost use Rattle.std.specs.Prelude.{◌≡◌, ◌<◌, length, IfOk, IsTrue};
 ghost use Rattle.block_forms.specs.Places.{Each};
+ghost use Rattle.anf_build.specs.Spreading.{HasAll, HasSources};
 ghost use Rattle.anf_build.specs.Tables.{AreLiveTables, live_by};
 
 use crate::liveness::{is_marked, live_blocks};
+use crate::sources::{all_sources, numbers};
 use block_forms::Block;
 use sqlite_items::Items;
 use std::alloc::{AllocError, Global};
@@ -23,6 +25,25 @@ pub(crate) fn slots_of(names: &[u32]) -> usize
     slots
 }
 
+/// For each slot the blocks at which it is live, from the sources and the numbers of the blocks.
+fn tables_from(
+    alloc: Global,
+    blocks: &[Block],
+    sources: &[Items<usize>],
+    all: &[usize],
+    slots: usize,
+) -> Result<Vec<Items<bool>>, AllocError>
+    requires sources { HasSources blocks.now (length blocks.now) sources.now }
+    requires all { HasAll (length blocks.now) all.now }
+    ensures { IfOk result (λ v. (length v.items ≡ slots) × AreLiveTables blocks.now v.items) }
+{
+    let mut tables = Vec::new(alloc);
+    for slot in 0..slots {
+        tables.push(live_blocks(alloc, blocks, sources, all, slot)?)?;
+    }
+    Ok(tables)
+}
+
 /// For each slot the blocks at which it is live.
 pub(crate) fn live_tables(
     alloc: Global,
@@ -31,11 +52,9 @@ pub(crate) fn live_tables(
 ) -> Result<Vec<Items<bool>>, AllocError>
     ensures { IfOk result (λ v. (length v.items ≡ slots) × AreLiveTables blocks.now v.items) }
 {
-    let mut tables = Vec::new(alloc);
-    for slot in 0..slots {
-        tables.push(live_blocks(alloc, blocks, slot)?)?;
-    }
-    Ok(tables)
+    let sources = all_sources(alloc, blocks)?;
+    let all = numbers(alloc, blocks.len())?;
+    tables_from(alloc, blocks, sources.as_slice(), all.as_slice(), slots)
 }
 
 /// Whether a slot is live at a block.
