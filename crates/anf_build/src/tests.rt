@@ -2,8 +2,9 @@
 
 mod forms;
 
-use crate::build::normal_form;
-use block_forms::{End, Ssa, SsaBlock};
+use crate::build::{normal_form, to_calls};
+use away_values::Class;
+use block_forms::{Block, End, Goto, Ssa, SsaBlock};
 use forms::{block, fails, goto_of, joins, phi, sets, shown, term};
 use sqlite_items::Items;
 use std::process::Abort;
@@ -107,7 +108,7 @@ fn worked_forms(rt: HostRuntime) {
     }
 }
 
-/// 2,671 times: IF test of a slot: the slot := itself, over again; 32 slots in turn. Slot 31 alone is returned.
+/// 8,015 blocks test 32 slots in turn, and go on to the next block or back to one of half the number; the last block returns one slot.
 #[test]
 fn many_blocks(rt: HostRuntime) {
     let slots: u32 = 32;
@@ -142,4 +143,37 @@ fn many_blocks(rt: HostRuntime) {
     for block in ends {
         assert!(rt; block.params.len() == 1);
     }
+}
+
+/// One block, which fails.
+#[test]
+fn one_block(rt: HostRuntime) {
+    let code = *b"2F005";
+    let mut from = Items::new(rt.alloc());
+    let x = Block {
+        head: false,
+        set: None,
+        end: End::Fail(Class { code }),
+    };
+    from.push(x).expect(&rt, "memory");
+    let mut blocks = Items::new(rt.alloc());
+    let y = SsaBlock {
+        map: Items::new(rt.alloc()),
+        phis: Items::new(rt.alloc()),
+        set: None,
+        end: End::Fail(Class { code }),
+    };
+    blocks.push(y).expect(&rt, "memory");
+    let g = Goto {
+        entry: 0,
+        finish: 0,
+        nodes: Items::new(rt.alloc()),
+        blocks: from,
+    };
+    let z = Ssa {
+        names: Items::new(rt.alloc()),
+        blocks,
+    };
+    let anf = to_calls(rt.alloc(), &g, &z).expect(&rt, "memory");
+    assert!(rt; shown(&rt, &anf).as_str() == " ()!");
 }
