@@ -9,7 +9,7 @@ use Rattle.block_forms.specs.Live.{LiveEnd, LiveIn}
 use Rattle.block_forms.specs.Lowered.{end_leads}
 use Rattle.block_forms.specs.Places.{In}
 use Rattle.call_forms.specs.Useful.{SetsAnother}
-use Rattle.anf_build.specs.Liveness.{LiveTable, OnlyLive, due, due_block, lives, marked}
+use Rattle.anf_build.specs.Liveness.{LiveTable, due, due_block, lives, marked}
 use Rattle.anf_build.specs.Spreading.{AddsTargets, HasAll, HasSources, IsDone, Spread, Work}
 use Rattle.anf_build.proofs.Lists.{compared, none_some, same_number, some_same, tests_same, within_or_past}
 use Rattle.anf_build.proofs.Marking.{live_lives, lives_live, mark_more, more_set, or_cases, or_first, or_second, unmarked_set}
@@ -60,17 +60,6 @@ marked_within table d m = elim (within_or_past d (length table)) [
 -- ---- some blocks, one after another
 
 module _ (g : List Block) (s : ℕ) (old : List Bool) (old_left : List ℕ) where
-  pub spread_none : length old ≡ length g → OnlyLive g s old → Spread g s old old_left [] old old_left
-  spread_none sized only = record {
-    sized = sized;
-    only = only;
-    kept = λ b m. m;
-    counted = refl;
-    queued = λ b m. inl m;
-    left_kept = λ b i. i;
-    done = λ b x i at h. absurd i;
-  }
-
   module _ (sources : List ℕ) (table : List Bool) (left : List ℕ) (so : Spread g s old old_left sources table left) (b : ℕ) where
     -- the slot is live by more marks too
     lives_still : (x : Block) → lives x old s ≡ true → lives x table s ≡ true
@@ -129,9 +118,6 @@ module _ (g : List Block) (s : ℕ) (old : List Bool) (old_left : List ℕ) wher
 -- ---- work
 
 module _ (g : List Block) (s : ℕ) where
-  nothing_marked : (old : List Bool) → ((b : ℕ) → marked old b ≡ true → ⊥) → OnlyLive g s old
-  nothing_marked old none b m = absurd (none b m)
-
   -- at first the blocks that read the slot are marked
   pub work_begins : (old table : List Bool) (all left : List ℕ) → ((b : ℕ) → marked old b ≡ true → ⊥) → HasAll (length g) all → Spread g s old [] all table left → Work g s table left
   work_begins old table all left none has so = record {
