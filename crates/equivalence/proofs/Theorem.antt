@@ -1,11 +1,11 @@
 -- The three laws of the forms together: turns become visits, and visits become iterations.
-use Rattle.std.proofs.Common.{◌≡◌, ◌≢◌, ℕ, zero, suc, ◌+◌, ◌*◌, ◌<◌, ◌≤◌, ◌^◌, List, [], ◌∷◌, length, map, refl, ap, sym, ◌∙◌, subst, arith}
+use Rattle.std.proofs.Common.{◌≡◌, ◌≢◌, ℕ, zero, suc, ◌+◌, ◌*◌, ◌<◌, ◌≤◌, ◌^◌, List, [], ◌∷◌, length, refl, ap, sym, ◌∙◌, subst, arith}
 use Rattle.std.specs.List.{AllZip}
 use Rattle.std.proofs.lemmas.List.{length-map}
 use Rattle.away_trees.specs.declared.queries.Query.{Query}
 use Rattle.away_trees.specs.declared.schemas.Schema.{Schema}
 use Rattle.away_trees.specs.declared.statements.Function.{Function}
-use Rattle.away_trees.specs.Count.{nodes, weight}
+use Rattle.away_trees.specs.Count.{weight}
 use Rattle.away_trees.specs.Fits.{FitsTable, FitsSchema}
 use Rattle.away_types.specs.declared.slots.Slot.{Slot}
 use Rattle.away_values.specs.declared.types.Ty.{Ty}
@@ -21,10 +21,10 @@ use Rattle.block_forms.specs.declared.forms.Goto.{Goto}
 use Rattle.block_forms.specs.declared.forms.Ssa.{Ssa}
 use Rattle.block_forms.specs.Frames.{frame_of}
 use Rattle.block_forms.specs.Machines.{Ran, IsOver}
-use Rattle.block_forms.specs.Runs.{Frame, ssa_runs}
+use Rattle.block_forms.specs.Runs.{ssa_runs}
 use Rattle.call_forms.specs.declared.forms.Anf.{Anf}
 use Rattle.call_forms.specs.declared.forms.Tail.{Tail}
-use Rattle.lowering_law.specs.Law.{form_at, Meets, Keeps}
+use Rattle.lowering_law.specs.Law.{Meets, Keeps}
 use Rattle.query_law.specs.QueryAnswers.{AnswersAs}
 use Rattle.query_law.proofs.Composed.{more_before}
 use Rattle.ssa_check.specs.Naming.{NamedRunsInLockstep}
