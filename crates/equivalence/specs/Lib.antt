@@ -1,2 +1,3 @@
 pub mod Equivalent
 pub mod Accepted
+pub mod Worked

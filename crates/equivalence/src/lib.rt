@@ -12,8 +12,11 @@ ghost use Rattle.call_forms.specs.declared.forms.Anf.{Anf};
 ghost use Rattle.call_forms.specs.declared.forms.Tail.{Tail};
 ghost use Rattle.equivalence.specs.Accepted.{AcceptedForms};
 ghost use Rattle.equivalence.specs.Equivalent.{Equivalent};
+ghost use Rattle.equivalence.specs.Worked.{SignOfIsAccepted};
 
 use away_types::CheckedFunction;
+use block_forms::worked_forms_are_lowered;
+use call_forms::worked_calls_are_related;
 use lowering_law::forms_of_checked_functions_keep_answers;
 use query_law::forms_answer_as_the_query;
 use ssa_check::naming_keeps_answers;
@@ -25,4 +28,12 @@ pub fn accepted_forms_are_equivalent(f: &CheckedFunction)
     forms_of_checked_functions_keep_answers(f);
     naming_keeps_answers();
     forms_answer_as_the_query();
+}
+
+/// The six relations hold of the forms of a worked function and its query.
+pub fn worked_forms_are_accepted()
+    ensures { SignOfIsAccepted }
+{
+    worked_forms_are_lowered();
+    worked_calls_are_related();
 }
