@@ -1,3 +1,2 @@
-pub mod Equivalent
 pub mod Accepted
 pub mod Worked
