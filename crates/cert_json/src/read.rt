@@ -8,10 +8,10 @@ ghost use Rattle.cert_json.specs.Certificates.{Reads, Refuses, anf_in, cert_in, 
 
 use crate::cert::{Cert, CertField, CertRefusal};
 use crate::decode::Decode;
-use block_forms::{Block, Goto, Ssa, SsaBlock};
-use call_forms::{Anf, AnfBlock, Tail};
 use crate::misfit::Misfit;
 use away_values::Ty;
+use block_forms::{Block, Goto, Ssa, SsaBlock};
+use call_forms::{Anf, AnfBlock, Tail};
 use serde_json::Value;
 use sqlite_items::Items;
 use std::alloc::Global;
