@@ -1,6 +1,5 @@
 //! Blocks from JSON.
 
-ghost use Rattle.std.specs.Prelude.{◌≡◌};
 ghost use Rattle.serde_json.specs.View.{view};
 ghost use Rattle.cert_json.specs.Given.{Gives};
 ghost use Rattle.cert_json.specs.Blocks.{anf_block_in, block_in, phi_in, ssa_block_in};
