@@ -1,0 +1,7 @@
+pub mod Lists
+pub mod ListsAgain
+pub mod Codes
+pub mod Again
+pub mod FormsAgain
+pub mod Flat
+pub mod FieldByField
