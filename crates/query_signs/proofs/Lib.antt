@@ -1,2 +1,4 @@
 pub mod Putting
 pub mod PutNodes
+pub mod ReadBack
+pub mod WithoutNames

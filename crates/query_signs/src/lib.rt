@@ -1,8 +1,10 @@
 //! A query as a list of signs, by which it is compared without its names.
 #![tactic(auto)]
 
+mod laws;
 mod push;
 mod signs;
 
+pub use laws::signs_tell_queries;
 pub use push::{expr_signs, query_signs};
 pub use signs::{Kind, Manner, Sign};
