@@ -2,3 +2,4 @@ pub mod Putting
 pub mod PutNodes
 pub mod ReadBack
 pub mod WithoutNames
+pub mod PlacedSigns

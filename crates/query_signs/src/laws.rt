@@ -1,8 +1,14 @@
 //! What signs tell.
 
+ghost use Rattle.query_signs.specs.Placing.{SignsOfPlaced};
 ghost use Rattle.query_signs.specs.Telling.{SignsTell};
 
 /// Two queries have the same signs exactly where they differ in names alone.
 pub fn signs_tell_queries()
     ensures { SignsTell }
+{}
+
+/// An expression with columns for its slots and casts round its literals has the signs of the expression, placed.
+pub fn placed_expressions_have_signs()
+    ensures { SignsOfPlaced }
 {}
