@@ -3,3 +3,4 @@ pub mod PutNodes
 pub mod ReadBack
 pub mod WithoutNames
 pub mod PlacedSigns
+pub mod ReadSlots
