@@ -1,9 +1,9 @@
 -- How often numbers stand in a list, by its parts, and what a table of capped counts tells.
-use Rattle.std.proofs.Common.{◌≡◌, ◌≢◌, ℕ, zero, suc, ◌+◌, ◌<◌, ◌≤◌, Bool, true, false, cond, List, [], ◌∷◌, ◌++◌, length, get_or, set, drop, slice_get, Option, Some, None, if◌then◌else◌, min, nat_eq, refl, sym, ap, ◌∙◌, subst, arith, get_or-set_same, get_or-set_other, length-append, length-set}
-use Rattle.std.proofs.lemmas.Bool.{eqb-true, eq-eqb, ne_eqb}
-use Rattle.std.proofs.lemmas.Option.{slice_get_within, same_Some}
+use Rattle.std.proofs.Common.{◌≡◌, ◌≢◌, ℕ, zero, suc, ◌+◌, ◌<◌, ◌≤◌, Bool, true, false, List, [], ◌∷◌, ◌++◌, length, get_or, set, drop, slice_get, Some, None, if◌then◌else◌, min, nat_eq, refl, sym, ap, ◌∙◌, subst, arith, get_or-set_same, get_or-set_other, length-append, length-set}
+use Rattle.std.proofs.lemmas.Bool.{eqb-true, eq-eqb}
+use Rattle.std.proofs.lemmas.Option.{same_Some}
 use Rattle.block_forms.specs.Lowered.{one_of}
-use Rattle.block_forms.specs.Places.{Each, EachAt, NoneBefore, Distinct}
+use Rattle.block_forms.specs.Places.{Each, Distinct}
 use Rattle.block_forms.specs.declared.forms.Term.{Term}
 use Rattle.block_forms.specs.Forms.{Assignment}
 use Rattle.call_forms.specs.Called.{itself, Among, with_assigned}

@@ -1,12 +1,11 @@
 -- The signs of a placed expression are those of the expression, placed.
-use Rattle.std.proofs.Common.{◌≡◌, refl, ap, sym, ◌∙◌, ℕ, suc, Bool, List, [], ◌∷◌, map, Option, Some, None, option_map}
+use Rattle.std.proofs.Common.{◌≡◌, refl, ap, sym, ◌∙◌, ℕ, suc, List, [], ◌∷◌, map, Option, Some, None, option_map}
 use Rattle.away_values.specs.declared.types.Ty.TheVariants as ty
 use Rattle.away_values.specs.declared.operators.ChainOp.{ChainOp}
 use Rattle.away_trees.specs.declared.queries.Col.{Col}
 use Rattle.away_trees.specs.declared.queries.Expr.{Expr}
 use Rattle.away_trees.specs.declared.queries.Expr.TheVariants as expr
 use Rattle.away_trees.specs.declared.queries.Expr.TheOpen as ex
-use Rattle.away_trees.specs.declared.queries.Expr.TheViews.{roll-Select, roll-Recursive, roll-Query}
 use Rattle.away_trees.specs.declared.queries.Source.{Source}
 use Rattle.away_trees.specs.declared.queries.FromItem.{FromItem}
 use Rattle.away_trees.specs.declared.queries.Item.{Item}

@@ -1,7 +1,6 @@
 -- The signs of each node, by those of its parts as the code puts them.
 use Rattle.std.proofs.Common.{◌≡◌, ℕ, Bool, List, [], ◌∷◌, map, Option, Some, None, option_map, refl, sym, ap, ◌∙◌}
 use Rattle.away_values.specs.declared.operators.ChainOp.{ChainOp}
-use Rattle.away_values.specs.declared.operators.CmpOp.{CmpOp}
 use Rattle.away_trees.specs.declared.queries.Expr.{Expr}
 use Rattle.away_trees.specs.declared.queries.Expr.TheVariants as expr
 use Rattle.away_trees.specs.declared.queries.Expr.TheViews.{roll-Select, roll-Recursive, roll-Query, out-Select, out-Recursive, out-Query, roll-out-Select, roll-out-Recursive, roll-out-Query}

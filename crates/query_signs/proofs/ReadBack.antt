@@ -13,13 +13,13 @@ use Rattle.away_trees.specs.declared.queries.Key.{Key}
 use Rattle.away_trees.specs.declared.queries.Select.{Select}
 use Rattle.away_trees.specs.declared.queries.Recursive.{Recursive}
 use Rattle.away_trees.specs.declared.queries.Query.{Query}
-use Rattle.sql_meaning.specs.Names.{nameless, bare_columns, bare, bare_value}
-use Rattle.sql_meaning.proofs.Related.{Alike, AlikeOption, AlikeLink, AlikeArm, Relation, IsKept, expr_related, query_related}
+use Rattle.sql_meaning.specs.Names.{nameless, bare_columns, bare}
+use Rattle.sql_meaning.proofs.Related.{Alike, AlikeOption, AlikeLink, AlikeArm, Relation, IsKept, query_related}
 use Rattle.query_signs.specs.declared.signs.Kind.{Kind}
 use Rattle.query_signs.specs.declared.signs.Kind.TheVariants as kind
 use Rattle.query_signs.specs.declared.signs.Manner.TheVariants.{Whole}
 use Rattle.query_signs.specs.declared.signs.Sign.TheVariants as sign
-use Rattle.query_signs.specs.Signs.{Signs, Put, SourcePut, node, row, option, itself, link_node, arm_node, else_node, kept_with, shaping, signs_of_expr, signs_of_query}
+use Rattle.query_signs.specs.Signs.{Signs, Put, SourcePut, node, row, option, itself, link_node, arm_node, else_node, kept_with, shaping, signs_of_query}
 
 -- ---- what was read
 

@@ -1,4 +1,4 @@
-use Rattle.std.proofs.Common.{◌≡◌, length}
+use Rattle.std.proofs.Common.{length}
 use Rattle.block_forms.proofs.Verdicts.{decided, passed, refuted}
 use Rattle.call_check.proofs.Counting.{table_differs, differs_in_table}
 use Rattle.call_check.proofs.check.check_merged.Goals as goal

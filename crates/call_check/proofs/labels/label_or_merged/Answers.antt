@@ -1,4 +1,4 @@
-use Rattle.std.proofs.Common.{◌≡◌, ◌+◌, arith, rules}
+use Rattle.std.proofs.Common.{arith, rules}
 use Rattle.block_forms.proofs.Verdicts.{decided}
 use Rattle.call_check.proofs.Counting.{no_label, not_counted}
 use Rattle.call_check.proofs.labels.label_or_merged.Goals as goal

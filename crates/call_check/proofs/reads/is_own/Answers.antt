@@ -1,6 +1,3 @@
-use Rattle.std.proofs.Common.{◌≡◌, ℕ, ◌∷◌, suc, zero, List, Some, ap, sym}
-use Rattle.block_forms.specs.declared.forms.Term.{Term}
-use Rattle.call_forms.specs.Called.{Among, with_assigned}
 use Rattle.block_forms.proofs.Verdicts.{decided}
 use Rattle.call_check.proofs.Counting.{among_rest, among_more}
 use Rattle.call_check.proofs.reads.is_own.Goals as goal
