@@ -1,0 +1,3 @@
+pub mod Phis
+pub mod SameLists
+pub mod Counting

@@ -1,0 +1,192 @@
+-- The signs of each node, by those of its parts as the code puts them.
+use Rattle.std.proofs.Common.{◌≡◌, ℕ, Bool, List, [], ◌∷◌, map, Option, Some, None, option_map, refl, sym, ap, ◌∙◌}
+use Rattle.away_values.specs.declared.operators.ChainOp.{ChainOp}
+use Rattle.away_values.specs.declared.operators.CmpOp.{CmpOp}
+use Rattle.away_trees.specs.declared.queries.Expr.{Expr}
+use Rattle.away_trees.specs.declared.queries.Expr.TheVariants as expr
+use Rattle.away_trees.specs.declared.queries.Expr.TheViews.{roll-Select, roll-Recursive, roll-Query, out-Select, out-Recursive, out-Query, roll-out-Select, roll-out-Recursive, roll-out-Query}
+use Rattle.away_trees.specs.declared.queries.Item.{Item}
+use Rattle.away_trees.specs.declared.queries.FromItem.{FromItem}
+use Rattle.away_trees.specs.declared.queries.Key.{Key}
+use Rattle.away_trees.specs.declared.queries.Source.{Source}
+use Rattle.away_trees.specs.declared.queries.Source.TheVariants as source
+use Rattle.away_trees.specs.declared.queries.Select.{Select}
+use Rattle.away_trees.specs.declared.queries.Recursive.{Recursive}
+use Rattle.away_trees.specs.declared.queries.Query.{Query}
+use Rattle.away_trees.specs.Algebra.{expr_of, item_of, from_of, key_of, source_of, select_of, recursive_of, query_of}
+use Rattle.away_trees.proofs.Equations as eq
+use Rattle.query_signs.specs.declared.signs.Kind.{Kind}
+use Rattle.query_signs.specs.declared.signs.Kind.TheVariants as kind
+use Rattle.query_signs.specs.declared.signs.Manner.{Manner}
+use Rattle.query_signs.specs.declared.signs.Manner.TheVariants.{Whole, Reading}
+use Rattle.query_signs.specs.declared.signs.Sign.TheVariants as sign
+use Rattle.query_signs.specs.Signs.{Signs, Put, node, row, option, itself, link_node, arm_node, else_node, list_and_from, kept_with, shaping, link_put, arm_put, with_put}
+
+-- ---- rows of parts
+
+pub row_map : {X Y : Type 0} (f : Y → Put) (g : X → Y) (xs : List X) (rest : Signs) → row f (map g xs) rest ≡ row (λ x. f (g x)) xs rest
+row_map f g [] rest = refl
+row_map f g (x ∷ xs) rest = ap (f (g x)) (row_map f g xs rest)
+
+pub option_put : {X Y : Type 0} (f : Y → Put) (g : X → Y) (x : Option X) (rest : Signs) → option f (option_map g x) rest ≡ option (λ x. f (g x)) x rest
+option_put f g None rest = refl
+option_put f g (Some x) rest = refl
+
+module _ (m : Manner) where
+  abbrev pub E : Expr → Put
+  E e = expr_of (shaping m) e
+
+  -- ---- nodes of one, two and three expressions
+
+  pub one_is : (k : Kind) (e x y : Expr) → E e ≡ node k (E x) → y ≡ x → (rest : Signs) → node k (E y) rest ≡ E e rest
+  one_is k e x y is got rest = ap (λ y. node k (E y) rest) got ∙ ap (λ f. f rest) (sym is)
+
+  pub two_is : (k : Kind) (e x y x' y' : Expr) → E e ≡ node k (λ rest. E x (E y rest)) → x' ≡ x → y' ≡ y → (rest : Signs)
+      → sign.Open k ∷ E x' (E y' (sign.Close ∷ rest)) ≡ E e rest
+  two_is k e x y x' y' is got got' rest =
+      ap (λ x. sign.Open k ∷ E x (E y' (sign.Close ∷ rest))) got ∙ (ap (λ y. sign.Open k ∷ E x (E y (sign.Close ∷ rest))) got' ∙ ap (λ f. f rest) (sym is))
+
+  pub three_is : (k : Kind) (e x y z x' y' z' : Expr) → E e ≡ node k (λ rest. E x (E y (E z rest))) → x' ≡ x → y' ≡ y → z' ≡ z → (rest : Signs)
+      → sign.Open k ∷ E x' (E y' (E z' (sign.Close ∷ rest))) ≡ E e rest
+  three_is k e x y z x' y' z' is got got' got'' rest =
+      ap (λ x. sign.Open k ∷ E x (E y' (E z' (sign.Close ∷ rest)))) got
+      ∙ (ap (λ y. sign.Open k ∷ E x (E y (E z' (sign.Close ∷ rest)))) got'
+      ∙ (ap (λ z. sign.Open k ∷ E x (E y (E z (sign.Close ∷ rest)))) got'' ∙ ap (λ f. f rest) (sym is)))
+
+  -- ---- nodes with lists
+
+  pub chain_is : (e x x' : Expr) (links links' : List (ChainOp × Expr)) → e ≡ expr.Chain x links → x' ≡ x → links' ≡ links → (rest : Signs)
+      → sign.Open kind.Chain ∷ E x' (row (link_put m) links' (sign.Close ∷ rest)) ≡ E e rest
+  chain_is e x x' links links' is got got' rest =
+      ap (λ x. sign.Open kind.Chain ∷ E x (row (link_put m) links' (sign.Close ∷ rest))) got
+      ∙ (ap (λ l. sign.Open kind.Chain ∷ E x (row (link_put m) l (sign.Close ∷ rest))) got'
+      ∙ (ap (λ r. sign.Open kind.Chain ∷ E x r) (sym (row_map link_node (λ l. eq.link_of (shaping m) l) links (sign.Close ∷ rest)))
+      ∙ sym (ap (λ e. E e rest) is ∙ ap (λ f. f rest) (eq.of_chain (shaping m) x links))))
+
+  pub one_of_is : (v : Bool) (e x x' : Expr) (list list' : List Expr) → e ≡ expr.OneOf v x list → x' ≡ x → list' ≡ list → (rest : Signs)
+      → sign.Open (kind.OneOf v) ∷ E x' (row (λ x. E x) list' (sign.Close ∷ rest)) ≡ E e rest
+  one_of_is v e x x' list list' is got got' rest =
+      ap (λ x. sign.Open (kind.OneOf v) ∷ E x (row (λ x. E x) list' (sign.Close ∷ rest))) got
+      ∙ (ap (λ l. sign.Open (kind.OneOf v) ∷ E x (row (λ x. E x) l (sign.Close ∷ rest))) got'
+      ∙ (ap (λ r. sign.Open (kind.OneOf v) ∷ E x r) (sym (row_map itself (λ x. E x) list (sign.Close ∷ rest)))
+      ∙ sym (ap (λ e. E e rest) is ∙ ap (λ f. f rest) (eq.of_oneof (shaping m) v x list))))
+
+  pub call_is : (e : Expr) (name : List ℕ) (list list' : List Expr) → e ≡ expr.Call name list → list' ≡ list → (rest : Signs)
+      → sign.Open kind.Call ∷ sign.Name name ∷ row (λ x. E x) list' (sign.Close ∷ rest) ≡ E e rest
+  call_is e name list list' is got rest =
+      ap (λ l. sign.Open kind.Call ∷ sign.Name name ∷ row (λ x. E x) l (sign.Close ∷ rest)) got
+      ∙ (ap (λ r. sign.Open kind.Call ∷ sign.Name name ∷ r) (sym (row_map itself (λ x. E x) list (sign.Close ∷ rest)))
+      ∙ sym (ap (λ e. E e rest) is ∙ ap (λ f. f rest) (eq.of_call (shaping m) name list)))
+
+  pub cases_is : (e : Expr) (arms arms' : List (Expr × Expr)) (other : Option Expr) → e ≡ expr.Cases arms other → arms' ≡ arms → (rest : Signs)
+      → sign.Open kind.Cases ∷ row (arm_put m) arms' (option (λ x. node kind.Else (E x)) other (sign.Close ∷ rest)) ≡ E e rest
+  cases_is e arms arms' other is got rest =
+      let tail = option (λ x. node kind.Else (E x)) other (sign.Close ∷ rest) in
+      ap (λ l. sign.Open kind.Cases ∷ row (arm_put m) l tail) got
+      ∙ (ap (λ r. sign.Open kind.Cases ∷ r) (sym (row_map arm_node (λ a. eq.arm_of (shaping m) a) arms tail))
+      ∙ (ap (λ r. sign.Open kind.Cases ∷ row arm_node (map (λ a. eq.arm_of (shaping m) a) arms) r) (sym (option_put else_node (λ x. E x) other (sign.Close ∷ rest)))
+      ∙ sym (ap (λ e. E e rest) is ∙ ap (λ f. f rest) (eq.of_cases (shaping m) arms other))))
+
+  -- ---- nodes of a query
+
+  pub scalar_is : (e : Expr) (q q' : Query) → e ≡ expr.Scalar q → q' ≡ q → (rest : Signs) → node kind.Scalar (query_of (shaping m) q') rest ≡ E e rest
+  scalar_is e q q' is got rest =
+      ap (λ q. node kind.Scalar (query_of (shaping m) q) rest) got ∙ sym (ap (λ e. E e rest) is ∙ ap (λ f. f rest) (eq.of_scalar (shaping m) q))
+
+  pub exists_is : (e : Expr) (q q' : Query) → e ≡ expr.Exists q → q' ≡ q → (rest : Signs) → node kind.Exists (query_of (shaping m) q') rest ≡ E e rest
+  exists_is e q q' is got rest =
+      ap (λ q. node kind.Exists (query_of (shaping m) q) rest) got ∙ sym (ap (λ e. E e rest) is ∙ ap (λ f. f rest) (eq.of_exists (shaping m) q))
+
+  pub sub_is : (s : Source) (columns : List (List ℕ)) (q q' : Query) (v : Bool) → s ≡ source.Sub q v → q' ≡ q → (rest : Signs)
+      → node (kind.Sub v) (query_of (shaping m) q') rest ≡ source_of (shaping m) s columns rest
+  sub_is s columns q q' v is got rest =
+      ap (λ q. node (kind.Sub v) (query_of (shaping m) q) rest) got
+      ∙ sym (ap (λ s. source_of (shaping m) s columns rest) is ∙ ap (λ f. f columns rest) (eq.of_sub (shaping m) q v))
+
+  -- ---- selects, and whole queries
+
+  abbrev pub L : List Item → Put
+  L list = node kind.List (row (λ x. item_of (shaping m) x) list)
+
+  abbrev pub F : List FromItem → Put
+  F from = node kind.From (row (λ x. from_of (shaping m) x) from)
+
+  abbrev pub O : Kind → Option Expr → Put
+  O k e = node k (option (λ x. E x) e)
+
+  abbrev pub K : List Key → Put
+  K keys = node kind.Order (row (λ x. key_of (shaping m) x) keys)
+
+  abbrev behind : Option Expr → List Key → Option Expr → Put
+  behind filter order limit rest = O kind.Filter filter (K order (O kind.Limit limit (sign.Leave ∷ rest)))
+
+  list_put : (list : List Item) (rest : Signs) → node kind.List (row itself (map (λ x. item_of (shaping m) x) list)) rest ≡ L list rest
+  list_put list rest = ap (λ r. sign.Open kind.List ∷ r) (row_map itself (λ x. item_of (shaping m) x) list (sign.Close ∷ rest))
+
+  from_put : (from : List FromItem) (rest : Signs) → node kind.From (row itself (map (λ x. from_of (shaping m) x) from)) rest ≡ F from rest
+  from_put from rest = ap (λ r. sign.Open kind.From ∷ r) (row_map itself (λ x. from_of (shaping m) x) from (sign.Close ∷ rest))
+
+  behind_put : (filter : Option Expr) (order : List Key) (limit : Option Expr) (rest : Signs)
+      → node kind.Filter (option itself (option_map (λ e. E e) filter)) (node kind.Order (row itself (map (λ x. key_of (shaping m) x) order)) (node kind.Limit (option itself (option_map (λ e. E e) limit)) (sign.Leave ∷ rest)))
+      ≡ behind filter order limit rest
+  behind_put filter order limit rest =
+      let last = option_put itself (λ e. E e) limit (sign.Close ∷ sign.Leave ∷ rest) in
+      let keys = row_map itself (λ x. key_of (shaping m) x) order (sign.Close ∷ O kind.Limit limit (sign.Leave ∷ rest)) in
+      let first = option_put itself (λ e. E e) filter (sign.Close ∷ K order (O kind.Limit limit (sign.Leave ∷ rest))) in
+      ap (λ z. node kind.Filter (option itself (option_map (λ e. E e) filter)) (node kind.Order (row itself (map (λ x. key_of (shaping m) x) order)) (sign.Open kind.Limit ∷ z))) last
+      ∙ (ap (λ z. node kind.Filter (option itself (option_map (λ e. E e) filter)) (sign.Open kind.Order ∷ z)) keys ∙ ap (λ z. sign.Open kind.Filter ∷ z) first)
+
+pub whole_order : (m : Manner) (list : List Item) (from : List FromItem) (list' : List Item) (from' : List FromItem) → m ≡ Whole → list' ≡ list → from' ≡ from → (rest : Signs)
+    → F m from' (L m list' rest) ≡ list_and_from m (L m list) (F m from) rest
+whole_order Whole list from list' from' is e f rest = λ i. F Whole (f i) (L Whole (e i) rest)
+whole_order Reading list from list' from' is e f rest = absurd (cc)
+
+pub reading_order : (m : Manner) (list : List Item) (from : List FromItem) (list' : List Item) (from' : List FromItem) → m ≡ Reading → list' ≡ list → from' ≡ from → (rest : Signs)
+    → L m list' (F m from' rest) ≡ list_and_from m (L m list) (F m from) rest
+reading_order Whole list from list' from' is e f rest = absurd (cc)
+reading_order Reading list from list' from' is e f rest = λ i. L Reading (e i) (F Reading (f i) rest)
+
+both_put : (m n : Manner) (list : List Item) (from : List FromItem) (rest : Signs)
+    → list_and_from n (node kind.List (row itself (map (λ x. item_of (shaping m) x) list))) (node kind.From (row itself (map (λ x. from_of (shaping m) x) from))) rest
+    ≡ list_and_from n (L m list) (F m from) rest
+both_put m Whole list from rest =
+    from_put m from (node kind.List (row itself (map (λ x. item_of (shaping m) x) list)) rest) ∙ ap (λ z. F m from z) (list_put m list rest)
+both_put m Reading list from rest =
+    list_put m list (node kind.From (row itself (map (λ x. from_of (shaping m) x) from)) rest) ∙ ap (λ z. L m list z) (from_put m from rest)
+
+pub select_is : (m : Manner) (s : Select) (order : List Key) → order ≡ (out-Select s).order → (rest : Signs)
+    → sign.Enter ∷ list_and_from m (L m (out-Select s).list) (F m (out-Select s).from) (behind m (out-Select s).filter order (out-Select s).limit rest)
+    ≡ select_of (shaping m) s rest
+select_is m s order g rest =
+    let v = out-Select s in
+    (λ i. sign.Enter ∷ list_and_from m (L m v.list) (F m v.from) (behind m v.filter (g i) v.limit rest))
+    ∙ sym
+    (ap (λ s. select_of (shaping m) s rest) (sym (roll-out-Select s))
+    ∙ (ap (λ p. p rest) (eq.of_select (shaping m) v.list v.from v.filter v.order v.limit)
+    ∙ ((λ i. sign.Enter ∷ list_and_from m (node kind.List (row itself (map (λ x. item_of (shaping m) x) v.list))) (node kind.From (row itself (map (λ x. from_of (shaping m) x) v.from))) (behind_put m v.filter v.order v.limit rest i))
+    ∙ ap (λ z. sign.Enter ∷ z) (both_put m m v.list v.from (behind m v.filter v.order v.limit rest)))))
+
+pub recursive_is : (m : Manner) (r : Recursive) (first : List Select) → first ≡ (out-Recursive r).first → (rest : Signs)
+    → sign.Open kind.Recursive ∷ sign.Open kind.First ∷ row (λ s. select_of (shaping m) s) first (sign.Close ∷ select_of (shaping m) (out-Recursive r).second (sign.Close ∷ rest))
+    ≡ recursive_of (shaping m) r rest
+recursive_is m r first e rest =
+    let v = out-Recursive r in
+    let behind = sign.Close ∷ select_of (shaping m) v.second (sign.Close ∷ rest) in
+    ap (λ l. sign.Open kind.Recursive ∷ sign.Open kind.First ∷ row (λ s. select_of (shaping m) s) l behind) e
+    ∙ (ap (λ z. sign.Open kind.Recursive ∷ sign.Open kind.First ∷ z) (sym (row_map itself (λ s. select_of (shaping m) s) v.first behind))
+    ∙ sym (ap (λ r. recursive_of (shaping m) r rest) (sym (roll-out-Recursive r)) ∙ ap (λ f. f rest) (eq.of_recursive (shaping m) v.name v.columns v.first v.second)))
+
+with_is : (m : Manner) (r : Option Recursive) (rest : Signs) → kept_with m (option_map (λ r. recursive_of (shaping m) r) r) rest ≡ with_put m r rest
+with_is m None rest = refl
+with_is Whole (Some r) rest = refl
+with_is Reading (Some r) rest = refl
+
+pub query_is : (m : Manner) (q : Query) (selects : List Select) → selects ≡ (out-Query q).selects → (rest : Signs)
+    → sign.Open kind.Query ∷ sign.Open kind.With ∷ with_put m (out-Query q).recursive (sign.Close ∷ row (λ s. select_of (shaping m) s) selects (sign.Close ∷ rest))
+    ≡ query_of (shaping m) q rest
+query_is m q selects e rest =
+    let v = out-Query q in
+    ap (λ l. sign.Open kind.Query ∷ sign.Open kind.With ∷ with_put m v.recursive (sign.Close ∷ row (λ s. select_of (shaping m) s) l (sign.Close ∷ rest))) e
+    ∙ (ap (λ z. sign.Open kind.Query ∷ sign.Open kind.With ∷ with_put m v.recursive (sign.Close ∷ z)) (sym (row_map itself (λ s. select_of (shaping m) s) v.selects (sign.Close ∷ rest)))
+    ∙ (ap (λ z. sign.Open kind.Query ∷ sign.Open kind.With ∷ z) (sym (with_is m v.recursive (sign.Close ∷ row itself (map (λ s. select_of (shaping m) s) v.selects) (sign.Close ∷ rest))))
+    ∙ sym (ap (λ q. query_of (shaping m) q rest) (sym (roll-out-Query q)) ∙ ap (λ f. f rest) (eq.query_roll (shaping m) v.recursive v.selects))))
