@@ -1,0 +1,2 @@
+pub mod Equivalent
+pub mod Accepted

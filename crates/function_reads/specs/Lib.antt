@@ -1,0 +1,2 @@
+pub mod OverTables
+pub mod Raising

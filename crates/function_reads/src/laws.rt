@@ -1,0 +1,14 @@
+//! What the expressions of a checked function read, and what its forms raise.
+
+ghost use Rattle.function_reads.specs.OverTables.{ReadTheirTables};
+ghost use Rattle.function_reads.specs.Raising.{RaiseClasses};
+
+/// Each expression of a checked function reads slots and the tables of its schema alone, and no aggregate stands in it outside a select's list.
+pub fn checked_functions_read_their_tables()
+    ensures { ReadTheirTables }
+{}
+
+/// Each block of a function's goto form that raises something raises a class.
+pub fn lowered_forms_raise_classes()
+    ensures { RaiseClasses }
+{}

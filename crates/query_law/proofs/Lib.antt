@@ -1,0 +1,14 @@
+pub mod Sequences
+pub mod Worlds
+pub mod ScopesAlike
+pub mod Terms
+pub mod Works
+pub mod WorkingRows
+pub mod Visits
+pub mod Bodies
+pub mod Branches
+pub mod Turns
+pub mod Finish
+pub mod Raised
+pub mod Theorem
+pub mod Composed
