@@ -5,7 +5,7 @@ use Rattle.std.proofs.lemmas.List.{length-map}
 use Rattle.away_trees.specs.declared.queries.Query.{Query}
 use Rattle.away_trees.specs.declared.schemas.Schema.{Schema}
 use Rattle.away_trees.specs.declared.statements.Function.{Function}
-use Rattle.away_trees.specs.Count.{nodes, weight}
+use Rattle.away_trees.specs.Count.{weight}
 use Rattle.away_trees.specs.Fits.{FitsTable, FitsSchema}
 use Rattle.away_types.specs.declared.slots.Slot.{Slot}
 use Rattle.away_values.specs.declared.types.Ty.{Ty}
@@ -13,6 +13,7 @@ use Rattle.away_values.specs.declared.values.Answer.{Answer}
 use Rattle.away_values.specs.declared.values.Answer.TheVariants as answer
 use Rattle.away_values.specs.declared.values.Value.{Value}
 use Rattle.away_values.specs.Values.{HasType}
+use Rattle.plsql_meaning.specs.Equivalent.{answers, types_of}
 use Rattle.sql_meaning.specs.Context.{Rows}
 use Rattle.sql_meaning.specs.Typed.{AreTyped}
 use Rattle.sql_meaning.specs.Working.{sql}
@@ -21,15 +22,14 @@ use Rattle.block_forms.specs.declared.forms.Goto.{Goto}
 use Rattle.block_forms.specs.declared.forms.Ssa.{Ssa}
 use Rattle.block_forms.specs.Frames.{frame_of}
 use Rattle.block_forms.specs.Machines.{Ran, IsOver}
-use Rattle.block_forms.specs.Runs.{Frame, ssa_runs}
+use Rattle.block_forms.specs.Runs.{ssa_runs}
 use Rattle.call_forms.specs.declared.forms.Anf.{Anf}
 use Rattle.call_forms.specs.declared.forms.Tail.{Tail}
-use Rattle.lowering_law.specs.Law.{form_at, Meets, Keeps}
+use Rattle.lowering_law.specs.Law.{Meets, Keeps}
 use Rattle.query_law.specs.QueryAnswers.{AnswersAs}
 use Rattle.query_law.proofs.Composed.{more_before}
 use Rattle.ssa_check.specs.Naming.{NamedRunsInLockstep}
-use Rattle.equivalence.specs.Accepted.{AcceptedForms}
-use Rattle.equivalence.specs.Equivalent.{answer_at, param_types, Equivalent}
+use Rattle.equivalence.specs.Accepted.{AcceptedForms, EquivalentWith}
 
 zip_long : {X Y : Type 0} (R : X → Y → Type 0) (xs : List X) (ys : List Y) → AllZip R xs ys → length ys ≡ length xs
 zip_long R [] [] h = refl
@@ -51,7 +51,7 @@ enough k (suc w) p =
 
 -- the answers within turns, and the runs of a form that has them
 module _ (w : ℕ) (positive : 0 < w) (f : ℕ → Answer) (runs : ℕ → Ran) (meets : (n : ℕ) → Meets (f n) (runs (suc n * w)) n) (q : Query)
-    (tables : List Rows) (args : List Value) (answers : AnswersAs q tables args runs) where
+    (tables : List Rows) (args : List Value) (law : AnswersAs q tables args runs) where
   over_of : (a : Answer) → a ≢ answer.More → (r : Answer) → r ≡ a → IsOver r
   over_of (answer.Value v) more r e = subst IsOver (sym e) tt
   over_of (answer.Fault c) more r e = subst IsOver (sym e) tt
@@ -68,14 +68,14 @@ module _ (w : ℕ) (positive : 0 < w) (f : ℕ → Answer) (runs : ℕ → Ran) 
   ends n more =
       let same = same_of n (f n) more (meets n) in
       let e : (n + 1) * w + 1 ≡ suc (suc n * w) = omega arith in
-      ap (sql q tables args) e ∙ (answers.ends (suc n * w) (over_of (f n) more (runs (suc n * w)).answer same) ∙ same)
+      ap (sql q tables args) e ∙ (law.ends (suc n * w) (over_of (f n) more (runs (suc n * w)).answer same) ∙ same)
 
   goes_on : (n : ℕ) → f n ≡ answer.More → sql q tables args n ≡ answer.More
   goes_on n more = by (runs (suc n * w)).heads refl (subst (λ a. Meets a (runs (suc n * w)) n) more (meets n))
     where
       by : (h : ℕ) → (runs (suc n * w)).heads ≡ h → suc n ≤ (runs (suc n * w)).heads → sql q tables args n ≡ answer.More
       by zero e p = absurd (omega (arith, e, p))
-      by (suc h) e p = more_before q tables args n h (omega (arith, e, p)) (answers.goes_on (suc n * w) h e)
+      by (suc h) e p = more_before q tables args n h (omega (arith, e, p)) (law.goes_on (suc n * w) h e)
 
   only : (k : ℕ) → sql q tables args k ≢ answer.More → f k ≡ sql q tables args k
   only k more =
@@ -87,29 +87,34 @@ pub equivalent : (s : Schema) (f : Function) (slots : List Slot) (g : Goto) (z :
     → AcceptedForms s f slots g z a r q → Keeps f slots g → NamedRunsInLockstep
     → ((tables : List Rows) (args : List Value) → length tables ≡ length s.tables → length tables < 2 ^ 64
     → AnswersAs q tables args (ssa_runs (frame_of f (length slots) g tables) z args))
-    → Equivalent s f slots q
-equivalent s f slots g z a r q small forms keeps lockstep answers = record {
-  ends = λ tables args n fit typed more. ends (weight f) (weighs f) (answer_at f slots tables args) (runs tables args) (meets tables args typed) q tables args (at tables args fit) n more;
+    → EquivalentWith s f slots q
+equivalent s f slots g z a r q small forms keeps lockstep laws = record {
+  ends = λ tables args n fit typed more.
+      ends (weight f) (weighs f) (own tables args) (runs tables args) (meets tables args typed) q tables args (at tables args fit) n more;
   goes_on = λ tables args n fit typed more.
-      goes_on (weight f) (weighs f) (answer_at f slots tables args) (runs tables args) (meets tables args typed) q tables args (at tables args fit) n more;
-  only = λ tables args k fit typed more. only (weight f) (weighs f) (answer_at f slots tables args) (runs tables args) (meets tables args typed) q tables args (at tables args fit) k more;
+      goes_on (weight f) (weighs f) (own tables args) (runs tables args) (meets tables args typed) q tables args (at tables args fit) n more;
+  only = λ tables args k fit typed more.
+      only (weight f) (weighs f) (own tables args) (runs tables args) (meets tables args typed) q tables args (at tables args fit) k more;
 }
   where
+    own : (tables : List Rows) (args : List Value) → ℕ → Answer
+    own = answers f (map (λ (x : Slot). x.not_null) slots)
+
     runs : (tables : List Rows) (args : List Value) → ℕ → Ran
     runs tables args = ssa_runs (frame_of f (length slots) g tables) z args
 
     at : (tables : List Rows) (args : List Value) → FitsSchema s tables → AnswersAs q tables args (runs tables args)
     at tables args fit =
         let many : length tables ≡ length s.tables = zip_long FitsTable s.tables tables fit in
-        answers tables args many (subst (λ n. n < 2 ^ 64) (sym many) small)
+        laws tables args many (subst (λ n. n < 2 ^ 64) (sym many) small)
 
-    as_many : (args : List Value) → AreTyped (param_types f) args → length args ≡ length f.params
-    as_many args typed = zip_long (λ t v. HasType v t) (param_types f) args typed ∙ length-map f.params (λ (p : List ℕ × Ty). p.1)
+    as_many : (args : List Value) → AreTyped (types_of f) args → length args ≡ length f.params
+    as_many args typed = zip_long (λ t v. HasType v t) (types_of f) args typed ∙ length-map f.params (λ (p : List ℕ × Ty). p.1)
 
-    meets : (tables : List Rows) (args : List Value) → AreTyped (param_types f) args → (n : ℕ)
-        → Meets (answer_at f slots tables args n) (runs tables args (suc n * weight f)) n
+    meets : (tables : List Rows) (args : List Value) → AreTyped (types_of f) args → (n : ℕ)
+        → Meets (own tables args n) (runs tables args (suc n * weight f)) n
     meets tables args typed n =
         let long = as_many args typed in
-        subst (λ (run : Ran). Meets (answer_at f slots tables args n) run n)
+        subst (λ (run : Ran). Meets (own tables args n) run n)
         (lockstep (frame_of f (length slots) g tables) z forms.named args long (suc n * weight f))
         (keeps.answers tables args long n)

@@ -1,2 +1,2 @@
-pub mod Equivalent
 pub mod Accepted
+pub mod Worked

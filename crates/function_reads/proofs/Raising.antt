@@ -1,5 +1,5 @@
 -- In the patterns of all statements what a block raises is a class, and so it is in each goto form of a function.
-use Rattle.std.proofs.Common.{◌≡◌, ℕ, zero, suc, ◌+◌, ◌<◌, ◌≤◌, Bool, true, false, if◌then◌else◌, nat_eq, List, [], ◌∷◌, ◌++◌, length, Option, Some, None, refl, ap, sym, ◌∙◌, subst, arith}
+use Rattle.std.proofs.Common.{◌≡◌, ℕ, ◌+◌, ◌≤◌, Bool, true, false, if◌then◌else◌, nat_eq, List, [], ◌∷◌, ◌++◌, length, Option, Some, None, refl, ap, sym, ◌∙◌, subst, arith}
 use Rattle.std.specs.Prelude.{slice_get}
 use Rattle.std.proofs.lemmas.Bool.{eqb-true}
 use Rattle.std.proofs.lemmas.Option.{same_Some, slice_get_within}
@@ -17,7 +17,7 @@ use Rattle.away_types.specs.declared.slots.Slot.{Slot}
 use Rattle.away_values.specs.declared.types.Ty.{Ty}
 use Rattle.away_values.specs.declared.values.Class.{Class}
 use Rattle.away_values.specs.Classes.{is_class}
-use Rattle.plsql_meaning.specs.Outcomes.{Label, case_not_found, raised_message}
+use Rattle.plsql_meaning.specs.Outcomes.{case_not_found, raised_message}
 use Rattle.plsql_meaning.specs.Statements.{class_of}
 use Rattle.block_forms.specs.declared.forms.Block.{Block}
 use Rattle.block_forms.specs.declared.forms.Goto.{Goto}
@@ -26,7 +26,7 @@ use Rattle.block_forms.specs.declared.places.Numbers.{Numbers}
 use Rattle.block_forms.specs.declared.places.Place.{Place}
 use Rattle.block_forms.specs.Around.{Around}
 use Rattle.block_forms.specs.Laid.{Setting, Laid, LaidArm, laying, laid, first_block, row_parts, decls_parts, assign_parts, arms_parts, branch_parts, lack_parts, else_parts, kind_parts, again_of, default_term, after, with_expr, a_node, decl_size}
-use Rattle.block_forms.specs.Lowered.{Stands, AllStand, owners, sharers, one_of, params_parts, param_parts, all_parts, body_place, setting, Lowered}
+use Rattle.block_forms.specs.Lowered.{AllStand, owners, sharers, one_of, params_parts, all_parts, body_place, setting, Lowered}
 use Rattle.block_forms.specs.Patterns.{Part, own, shared, same, never, set_parts, slot_parts, bound_parts, step_parts, for_parts, leave_parts, no_of}
 use Rattle.block_forms.specs.Places.{Each}
 use Rattle.function_reads.specs.Raising.{RaisesClass}
@@ -122,10 +122,14 @@ module _ (s : Setting) where
 
   arms_fair : (xs : List LaidArm) → ArmsQuiet xs → (p : Place) (around : Around) (next c : ℕ) → AreFair (arms_parts s xs p around next c)
   arms_fair [] h p around next c = tt
-  arms_fair (a ∷ rest) h p around next c =
-      (tt, (tt,
+  arms_fair (a ∷ rest) h p around next c = (
+    tt,
+    (
+      tt,
       fair_append (row_parts s a.body (after p with_expr) around next) (arms_parts s rest (after p a.size) around next (no_of s.goto c))
-      (row_fair a.body h.0 (after p with_expr) around next) (arms_fair rest h.1 (after p a.size) around next (no_of s.goto c))))
+          (row_fair a.body h.0 (after p with_expr) around next) (arms_fair rest h.1 (after p a.size) around next (no_of s.goto c)),
+    ),
+  )
 
   abbrev IsNoneOrClass : Option Class → Type 0
   IsNoneOrClass None = Unit {0}
@@ -191,10 +195,14 @@ params_fair s true result k (p ∷ ps) = (tt, (tt, params_fair s true result (k 
 all_fair : (f : Function) (slots : List Slot) (g : Goto) → AreFair (all_parts f slots g)
 unfolding laid
 all_fair f slots g =
-    let s = setting f slots g in
-    (tt, (refl,
-    fair_append (params_parts s f.strict f.result 0 f.params) ((laid f.body).parts s (body_place f) [] g.finish)
-    (params_fair s f.strict f.result 0 f.params) (stmt_quiet f.body s (body_place f) [] g.finish)))
+    let s = setting f slots g in (
+      tt,
+      (
+        refl,
+        fair_append (params_parts s f.strict f.result 0 f.params) ((laid f.body).parts s (body_place f) [] g.finish)
+            (params_fair s f.strict f.result 0 f.params) (stmt_quiet f.body s (body_place f) [] g.finish),
+      ),
+    )
 
 -- a block that belongs to a pattern, or to some, stands there
 module _ (blocks : List Block) (i : ℕ) (x : Block) (at : slice_get blocks i ≡ Some x) where

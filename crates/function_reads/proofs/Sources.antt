@@ -1,6 +1,5 @@
 -- The expressions of a checked function are over the tables of its schema.
-use Rattle.std.proofs.Common.{◌≡◌, ℕ, zero, suc, ◌<◌, ◌^◌, Bool, true, false, ◌&&◌, nat_lt, List, [], ◌∷◌, ◌++◌, length, Some, refl, sym, subst, lt-ltb}
-use Rattle.std.specs.Prelude.{slice_get}
+use Rattle.std.proofs.Common.{◌≡◌, ℕ, zero, suc, ◌<◌, ◌^◌, true, ◌&&◌, List, [], ◌∷◌, ◌++◌, length, refl, sym, subst, lt-ltb}
 use Rattle.std.specs.List.{list_all}
 use Rattle.std.proofs.lemmas.Option.{same_Some}
 use Rattle.away_trees.specs.declared.queries.Expr.{Expr}
@@ -11,7 +10,6 @@ use Rattle.away_types.specs.declared.slots.Slot.{Slot}
 use Rattle.away_types.specs.CheckedFunctions.{IsChecked}
 use Rattle.away_types.specs.FunctionChecks.{start, entry, body_of, function_note, head_note, types_note, resolved_function, slots_of, asked_in}
 use Rattle.away_types.specs.ResolvedBodies.{resolved_stmt}
-use Rattle.sql_meaning.specs.Meaning.{has_aggregate}
 use Rattle.sql_meaning.specs.Reads as read
 use Rattle.sql_meaning.specs.Reads.{Read, allows, reads, fits}
 use Rattle.block_forms.specs.Expressions.{Sources, sources, fixed_list, expressions}
@@ -26,7 +24,7 @@ use Rattle.function_reads.specs.OverTables.{IsOverTables}
 use Rattle.function_reads.proofs.Asked.{AreSingle, asked_single}
 use Rattle.function_reads.proofs.FixedList.{AreOver, fixed_over}
 use Rattle.function_reads.proofs.Lookups.{IsBelow, tables_below}
-use Rattle.function_reads.proofs.Statements.{SourceBelow, AllBelow, stmt_fine}
+use Rattle.function_reads.proofs.Statements.{AllBelow, stmt_fine}
 
 -- ---- an expression
 

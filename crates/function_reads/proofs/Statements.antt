@@ -1,5 +1,5 @@
 -- In a function whose names are resolved and break no rule, each expression reads tables that are seen in the function alone.
-use Rattle.std.proofs.Common.{◌≡◌, ℕ, true, false, List, [], ◌∷◌, ◌++◌, map, fold, Option, Some, None, option_map, refl, sym, subst, arith}
+use Rattle.std.proofs.Common.{◌≡◌, ℕ, true, false, List, [], ◌∷◌, ◌++◌, map, fold, Option, Some, None, option_map, refl, sym, subst}
 use Rattle.away_trees.specs.declared.queries.Expr.{Expr}
 use Rattle.away_trees.specs.declared.statements.Arm.{Arm}
 use Rattle.away_trees.specs.declared.statements.Decl.{Decl}
@@ -23,7 +23,7 @@ use Rattle.away_types.specs.Statements.{Spot, By, resolving, assigned}
 use Rattle.sql_meaning.specs.Reads.{reads}
 use Rattle.block_forms.specs.Expressions.{Sources, sourcing, in_turn, if_there, default_of, defaults, of_kind, of_else}
 use Rattle.typed_values.specs.Sorts.{Every}
-use Rattle.typed_values.proofs.CleanNotes.{Clean, clean_parts, not_broken}
+use Rattle.typed_values.proofs.CleanNotes.{Clean, clean_parts}
 use Rattle.typed_values.proofs.Lists.{every_append}
 use Rattle.function_reads.proofs.Lookups.{IsBelow, Within}
 use Rattle.function_reads.proofs.Trees.{expr_below}

@@ -13,3 +13,9 @@ pub mod LeadingStatements
 pub mod LeadingLoops
 pub mod Targets
 pub mod WorkedEntries
+pub mod Sums
+pub mod Filled
+pub mod FewParts
+pub mod FewSlots
+pub mod NodesKept
+pub mod FewNames

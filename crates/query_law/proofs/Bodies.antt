@@ -7,19 +7,18 @@ use Rattle.away_values.specs.declared.values.Value.{Value}
 use Rattle.away_values.specs.declared.values.Value.TheVariants as val
 use Rattle.away_values.specs.Operators.{is_true}
 use Rattle.away_values.specs.Results.{Or}
-use Rattle.sql_meaning.specs.Context.{Rows, Frame, Context, inside}
+use Rattle.sql_meaning.specs.Context.{Frame, Context, inside}
 use Rattle.sql_meaning.specs.Trees.{col, null_of}
 use Rattle.sql_meaning.proofs.Returns.{Sees}
 use Rattle.sql_meaning.proofs.RowPlaces.{length_nulls}
 use Rattle.sql_meaning.proofs.SelectRows.{is_null_of, none, more}
-use Rattle.block_forms.specs.declared.forms.Term.{Term}
 use Rattle.call_forms.specs.Bodies.{Body, sets, enters, picks, returns, fails, calls, endless}
 use Rattle.call_forms.specs.Scopes.{Scope, paired}
 use Rattle.call_forms.specs.TailRuns.{row_from}
 use Rattle.call_forms.specs.Template.{Parts, no_column, parts, outside, here, refers, let_of, either, gated, is_not_true, cells, end_at, call_at, text_of}
 use Rattle.query_law.proofs.ScopesAlike.{paired_relates, refers_relates}
 use Rattle.query_law.proofs.Terms.{Holds, Hold, seen, keeps, new_holds, one_more, deeper_holds, let_rows}
-use Rattle.query_law.proofs.Visits.{Visited, gives, raises, with_term, chosen, renewed, walked, rows_of_visit}
+use Rattle.query_law.proofs.Visits.{Visited, gives, with_term, chosen, renewed, walked, rows_of_visit}
 use Rattle.query_law.proofs.WorkingRows.{call_row, end_row, width, all_in, is_reference, are_cells, are_ended, are_called, is_text, IsOneRow, passed_on}
 use Rattle.query_law.proofs.Works.{Works, list_works, beside, item_works, either_of, either_rows}
 use Rattle.query_law.proofs.Worlds.{World, value_in, OverTables}

@@ -1,5 +1,5 @@
 -- Of the branches that stand in the second term one is open: that of the row's label.
-use Rattle.std.proofs.Common.{◌≡◌, ℕ, zero, suc, ◌+◌, ◌<◌, Bool, true, false, not, ◌&&◌, ◌||◌, nat_lt, pos, List, [], ◌∷◌, ◌++◌, get_or, Some, None, Ok, refl, ap, sym, ◌∙◌, arith}
+use Rattle.std.proofs.Common.{◌≡◌, ℕ, zero, suc, ◌+◌, ◌<◌, Bool, true, false, not, ◌&&◌, ◌||◌, nat_lt, pos, List, [], ◌∷◌, ◌++◌, get_or, Some, Ok, refl, ap, ◌∙◌, arith}
 use Rattle.std.specs.Prelude.{slice_get}
 use Rattle.std.proofs.lemmas.Bool.{le-ltb, lt-ltb}
 use Rattle.std.proofs.lemmas.Option.{same_Some}

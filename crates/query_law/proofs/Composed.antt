@@ -11,7 +11,6 @@ use Rattle.away_values.specs.declared.values.Answer.{Answer}
 use Rattle.away_values.specs.declared.values.Answer.TheVariants as answer
 use Rattle.away_values.specs.declared.values.Class.{Class}
 use Rattle.away_values.specs.declared.values.Value.{Value}
-use Rattle.away_values.specs.Classes.{is_class}
 use Rattle.sql_meaning.specs.Context.{Rows}
 use Rattle.sql_meaning.specs.Working.{sql}
 use Rattle.sql_meaning.proofs.Bounds.{answer_stays}
@@ -48,8 +47,8 @@ use Rattle.function_reads.specs.OverTables.{IsOverTables}
 use Rattle.function_reads.specs.Raising as goto
 use Rattle.function_reads.proofs.Raising.{raise_classes}
 use Rattle.function_reads.proofs.Sources.{over_their_tables}
-use Rattle.query_law.specs.Premises.{RaisesClass, RaisesClasses}
 use Rattle.query_law.specs.QueryAnswers.{AnswersAs}
+use Rattle.query_law.proofs.Raised.{RaisesClass, RaisesClasses}
 use Rattle.query_law.proofs.Theorem.{query_law}
 
 -- ---- what is raised, from form to form
@@ -95,8 +94,8 @@ raises : (f : Function) (slots : List Slot) (g : Goto) (z : Ssa) (a : Anf) (n p 
 raises f slots g z a n p lowered named called =
     let of_goto = raise_classes f slots g lowered in
     let of_ssa : Each (λ (y : SsaBlock). goto.RaisesClass y.end) z.blocks =
-        each_partner (λ (x : Block). goto.RaisesClass x.end) (λ (y : SsaBlock). goto.RaisesClass y.end) g.blocks z.blocks named.as_many_blocks
-        (λ i x y at there h. renamed_raises _ x.end y.end (named.blocks i x y at there).end h) of_goto in
+    each_partner (λ (x : Block). goto.RaisesClass x.end) (λ (y : SsaBlock). goto.RaisesClass y.end) g.blocks z.blocks named.as_many_blocks
+    (λ i x y at there h. renamed_raises _ x.end y.end (named.blocks i x y at there).end h) of_goto in
     each_partner (λ (y : SsaBlock). goto.RaisesClass y.end) (λ (x : AnfBlock). RaisesClass x.end) z.blocks a.blocks called.as_many_blocks
     (λ i y x at there h. called_raises z a i y.end x.end (called.blocks i y x at there).end h) of_ssa
 

@@ -1,7 +1,9 @@
 -- Where each block of a normal form raises classes, so does each body.
 use Rattle.std.proofs.Common.{◌≡◌, ℕ, zero, suc, true, length, Option, Some, None, refl}
 use Rattle.std.specs.Prelude.{slice_get}
+use Rattle.away_values.specs.Classes.{is_class}
 use Rattle.block_forms.specs.Forms.{Assignment}
+use Rattle.block_forms.specs.Places.{Each}
 use Rattle.call_forms.specs.declared.forms.Call.{Call}
 use Rattle.call_forms.specs.declared.forms.CallEnd.{CallEnd}
 use Rattle.call_forms.specs.declared.forms.CallEnd.TheVariants.{Go, Pick, Return, Fail}
@@ -10,8 +12,17 @@ use Rattle.call_forms.specs.declared.forms.Anf.{Anf}
 use Rattle.call_forms.specs.declared.forms.Tail.{Tail}
 use Rattle.call_forms.specs.Bodies.{Body, goes_to, end_body, sets_first, block_body, tree, body_of}
 use Rattle.call_forms.specs.Forms.{label_of}
-use Rattle.query_law.specs.Premises.{RaisesClass, RaisesClasses}
 use Rattle.query_law.proofs.Visits.{BodyRaisesClasses}
+
+-- what an end raises is a class
+abbrev pub RaisesClass : CallEnd → Type 0
+RaisesClass (Go c) = Unit {0}
+RaisesClass (Pick t x y) = Unit {0}
+RaisesClass (Return t) = Unit {0}
+RaisesClass (Fail c) = is_class c.code ≡ true
+
+abbrev pub RaisesClasses : Anf → Type 0
+RaisesClasses a = Each (λ (x : AnfBlock). RaisesClass x.end) a.blocks
 
 module _ (a : Anf) (r : Tail) (classes : RaisesClasses a) where
   abbrev AllRaise : (ℕ → Body) → Type 0

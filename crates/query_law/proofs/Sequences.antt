@@ -1,5 +1,5 @@
 -- Results one after the other.
-use Rattle.std.proofs.Common.{◌≡◌, List, [], ◌∷◌, ◌++◌, Ok, Err, refl, ap, append-nil}
+use Rattle.std.proofs.Common.{◌≡◌, List, [], ◌++◌, Ok, Err, refl, ap, append-nil}
 use Rattle.away_values.specs.Results.{Or, and_then, mapped}
 
 -- nothing more is done

@@ -1,5 +1,5 @@
 -- The law of the query of a tail form.
-use Rattle.std.proofs.Common.{◌≡◌, ℕ, zero, suc, ◌+◌, ◌<◌, ◌≤◌, ◌^◌, Bool, true, false, if◌then◌else◌, List, [], ◌∷◌, ◌++◌, length, decimal, get_or, Option, Some, None, Ok, Err, refl, ap, sym, ◌∙◌, subst, arith}
+use Rattle.std.proofs.Common.{◌≡◌, ℕ, zero, suc, ◌+◌, ◌<◌, ◌≤◌, ◌^◌, Bool, true, false, if◌then◌else◌, List, [], ◌∷◌, ◌++◌, length, decimal, get_or, Option, Some, None, Ok, refl, ap, sym, ◌∙◌, subst, arith}
 use Rattle.std.specs.Prelude.{slice_get}
 use Rattle.away_trees.specs.declared.queries.Expr.TheVariants as expr
 use Rattle.away_trees.specs.declared.queries.Expr.TheViews.{roll-Recursive}
@@ -24,7 +24,7 @@ use Rattle.block_forms.specs.declared.forms.Goto.{Goto}
 use Rattle.block_forms.specs.declared.forms.Ssa.{Ssa}
 use Rattle.block_forms.specs.Expressions.{Sources, expressions}
 use Rattle.block_forms.specs.Frames.{frame_of}
-use Rattle.block_forms.specs.Machines.{Move, Machine, counted, then_goes, go, IsOver}
+use Rattle.block_forms.specs.Machines.{Machine, counted, then_goes, go, IsOver}
 use Rattle.block_forms.specs.Places.{Each}
 use Rattle.call_forms.specs.declared.forms.Anf.{Anf}
 use Rattle.call_forms.specs.declared.forms.Tail.{Tail}
@@ -33,13 +33,12 @@ use Rattle.call_forms.specs.TailRuns.{AtLabel, label_visit, heads_label, tail_ma
 use Rattle.call_forms.specs.Template.{start, step, query_of}
 use Rattle.call_forms.specs.Templated.{types_of, Templated}
 use Rattle.function_reads.specs.OverTables.{IsOverTables}
-use Rattle.query_law.specs.Premises.{RaisesClasses}
 use Rattle.query_law.specs.QueryAnswers.{AnswersAs}
 use Rattle.query_law.proofs.Branches.{scope_at, visit_at}
 use Rattle.query_law.proofs.Finish.{AreCalls, one_call_more, last_rows}
-use Rattle.query_law.proofs.Raised.{bodies_raise_classes}
+use Rattle.query_law.proofs.Raised.{RaisesClasses, bodies_raise_classes}
 use Rattle.query_law.proofs.Turns.{turn, turn_call, turn_over, first_rows}
-use Rattle.query_law.proofs.Visits.{Visited, gives, raises, faults, goes_on, stays, walked, move_of, walk_is, rows_of_visit, BodyRaisesClasses, IsFair, fair}
+use Rattle.query_law.proofs.Visits.{Visited, gives, raises, faults, goes_on, stays, move_of, walk_is, rows_of_visit, BodyRaisesClasses, IsFair, fair}
 use Rattle.query_law.proofs.WorkingRows.{call_row, end_row}
 use Rattle.query_law.proofs.Worlds.{World, frame_in, OverTables}
 

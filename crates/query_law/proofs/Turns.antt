@@ -18,7 +18,7 @@ use Rattle.sql_meaning.specs.Meaning.{rows_of_item, rows_of_select}
 use Rattle.sql_meaning.specs.Selects.{product, keep_if}
 use Rattle.sql_meaning.specs.Template.{below}
 use Rattle.sql_meaning.specs.Trees.{col, table, lateral, number, truth, null_of}
-use Rattle.sql_meaning.proofs.Returns.{Sees, turned, sees_tables}
+use Rattle.sql_meaning.proofs.Returns.{turned, sees_tables}
 use Rattle.sql_meaning.proofs.RowPlaces.{nulls_then, last_table}
 use Rattle.sql_meaning.proofs.SelectRows.{Is, Are, is_number, is_truth, is_null_of, is_col, none, more, for_all, fault_of, one_row, no_row, rows_of_table, extended}
 use Rattle.call_forms.specs.Bodies.{body_of}
@@ -27,10 +27,9 @@ use Rattle.call_forms.specs.Scopes.{paired}
 use Rattle.call_forms.specs.TailRuns.{row_from, entry_label, first_row}
 use Rattle.call_forms.specs.Template.{branches, step, start, argument_cells}
 use Rattle.query_law.proofs.Bodies.{wide}
-use Rattle.query_law.proofs.Branches.{scope_at, visit_at, all_rows, none_open, one_open}
+use Rattle.query_law.proofs.Branches.{scope_at, visit_at, none_open, one_open}
 use Rattle.query_law.proofs.ScopesAlike.{paired_relates}
-use Rattle.query_law.proofs.Sequences.{alone}
-use Rattle.query_law.proofs.Visits.{Visited, walked, rows_of_visit}
+use Rattle.query_law.proofs.Visits.{walked, rows_of_visit}
 use Rattle.query_law.proofs.WorkingRows.{call_row, end_row, width, all_in, IsOneRow, are_all}
 use Rattle.query_law.proofs.Works.{all, froms, union_rows}
 use Rattle.query_law.proofs.Worlds.{World, frame_in, OverTables}

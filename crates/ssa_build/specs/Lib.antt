@@ -14,3 +14,4 @@ pub mod Merging
 pub mod Numbers
 pub mod Output
 pub mod Writing
+pub mod Renamings

@@ -1,7 +1,7 @@
 //! The SSA form of a goto form.
 
-ghost use Rattle.std.specs.Prelude.{◌≡◌, ℕ, ◌+◌, ◌*◌, ◌^◌, ◌<◌, ◌≤◌, length, IfOk};
-ghost use Rattle.block_forms.specs.Lowered.{BlockBelow, NoWayTo};
+ghost use Rattle.std.specs.Prelude.{◌≡◌, ◌<◌, length, IfOk};
+ghost use Rattle.block_forms.specs.Lowered.{BlockBelow, Lowered, NoWayTo};
 ghost use Rattle.block_forms.specs.Named.{Named};
 ghost use Rattle.block_forms.specs.Places.{Each};
 ghost use Rattle.block_forms.specs.Leading.{LeadsWithin};
@@ -14,14 +14,19 @@ use crate::joins::merge_joins;
 use crate::layout::Layout;
 use crate::numbers::number_roots;
 use crate::phis::full_joins;
+use crate::renames::Renaming;
 use crate::writing::new_blocks;
 use away_types::CheckedFunction;
 use away_values::NoMemory;
 use block_forms::{Goto, Ssa};
+use lowered_laws::{
+    forms_lead_to_their_blocks, names_of_forms_are_few, only_parameters_are_live_at_the_entry,
+    parameters_have_slots,
+};
 use std::alloc::{AllocError, Global};
 
 /// The SSA form of a goto form with that layout.
-pub fn build_form(alloc: Global, layout: Layout, g: &Goto) -> Result<Ssa, AllocError>
+pub(crate) fn build_form(alloc: Global, layout: Layout, g: &Goto) -> Result<Ssa, AllocError>
     requires is_layout { IsLayout layout }
     requires sized { length g.now.blocks ≡ layout.blocks }
     requires entered { layout.entry ≡ g.now.entry }
@@ -38,25 +43,29 @@ pub fn build_form(alloc: Global, layout: Layout, g: &Goto) -> Result<Ssa, AllocE
     let joins = full_joins(alloc, &full, goto_blocks)?;
     let into = merge_joins(alloc, &full.names.slots, &joins)?;
     let numbering = number_roots(alloc, &full.names.slots, &into)?;
-    let written = new_blocks(alloc, &full, goto_blocks, &into, &numbering.numbers)?;
+    let renaming = Renaming {
+        full: &full,
+        blocks: goto_blocks,
+        into: &into,
+        numbers: &numbering.numbers,
+    };
+    let written = new_blocks(alloc, &renaming)?;
     Ok(Ssa {
         names: numbering.names,
         blocks: written,
     })
 }
 
-/// Names for slots: the SSA form of a goto form at whose entry only parameters are live. It has no trivial φs.
+/// The SSA form of a checked function's goto form. It has no trivial φs.
 pub fn build_ssa(alloc: Global, f: &CheckedFunction, g: &Goto) -> Result<Ssa, NoMemory>
-    requires params_first { length f.now.function.params ≤ length f.now.slots }
-    requires entry { g.now.entry < length g.now.blocks }
-    requires targets { Each (LeadsWithin (length g.now.blocks)) g.now.blocks }
-    requires below { Each (BlockBelow (length f.now.slots)) g.now.blocks }
-    requires no_way_in { Each (NoWayTo g.now.entry) g.now.blocks }
-    requires entry_live { OnlyParametersLive (length f.now.function.params) g.now }
-    requires names_fit { length f.now.slots + length g.now.blocks * (length f.now.slots + 1) < 2 ^ 32 }
+    requires lowered { Lowered f.now.function f.now.slots g.now }
     ensures named { IfOk result (λ z. Named (length f.now.slots) (length f.now.function.params) g.now z) }
     ensures neat { IfOk result (λ z. HasNoTrivial z) }
 {
+    parameters_have_slots(f);
+    forms_lead_to_their_blocks();
+    only_parameters_are_live_at_the_entry(f);
+    names_of_forms_are_few(f);
     let layout = Layout {
         params: f.function.params.len(),
         slots: f.slots.len(),

@@ -15,15 +15,19 @@ use std::alloc::{AllocError, Global};
 
 /// For each slot the blocks where it is live, the names, and for each block the blocks that lead to it.
 #[derive(Drop)]
-pub struct FullForm {
-    pub layout: Layout,
-    pub live: Vec<Items<bool>>,
-    pub names: Names,
-    pub sources: Vec<Items<u32>>,
+pub(crate) struct FullForm {
+    pub(crate) layout: Layout,
+    pub(crate) live: Vec<Items<bool>>,
+    pub(crate) names: Names,
+    pub(crate) sources: Vec<Items<u32>>,
 }
 
 /// The tables of the full form.
-pub fn full_form(alloc: Global, layout: Layout, blocks: &[Block]) -> Result<FullForm, AllocError>
+pub(crate) fn full_form(
+    alloc: Global,
+    layout: Layout,
+    blocks: &[Block],
+) -> Result<FullForm, AllocError>
     requires is_layout { IsLayout layout }
     requires sized { length blocks.now ≡ layout.blocks }
     ensures layout { IfOk result (λ f. f.layout ≡ layout) }
@@ -41,7 +45,7 @@ pub fn full_form(alloc: Global, layout: Layout, blocks: &[Block]) -> Result<Full
 }
 
 /// The name of a slot where a block begins.
-pub fn name_before(full: &FullForm, block: usize, slot: u32) -> u32
+pub(crate) fn name_before(full: &FullForm, block: usize, slot: u32) -> u32
     requires tables { IsSized full.now }
     requires block_in { block < full.now.layout.blocks }
     requires slot_in { slot < full.now.layout.slots }
@@ -55,7 +59,7 @@ pub fn name_before(full: &FullForm, block: usize, slot: u32) -> u32
 }
 
 /// The name that the φ of a slot has in a block, if there is one.
-pub fn phi_name(full: &FullForm, block: usize, slot: usize) -> u32
+pub(crate) fn phi_name(full: &FullForm, block: usize, slot: usize) -> u32
     requires tables { IsSized full.now }
     requires block_in { block < full.now.layout.blocks }
     requires slot_in { slot < full.now.layout.slots }
@@ -65,7 +69,7 @@ pub fn phi_name(full: &FullForm, block: usize, slot: usize) -> u32
 }
 
 /// The name of a slot where a block ends.
-pub fn name_after(full: &FullForm, blocks: &[Block], block: usize, slot: u32) -> u32
+pub(crate) fn name_after(full: &FullForm, blocks: &[Block], block: usize, slot: u32) -> u32
     requires tables { IsSized full.now }
     requires sized { length blocks.now ≡ full.now.layout.blocks }
     requires block_in { block < full.now.layout.blocks }

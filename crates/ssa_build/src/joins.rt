@@ -8,22 +8,22 @@ use std::alloc::{AllocError, Global};
 
 /// A name that joins others; the spare name stands for it where it joins itself alone.
 #[derive(Drop)]
-pub struct Join {
-    pub name: u32,
-    pub spare: u32,
-    pub operands: Items<u32>,
+pub(crate) struct Join {
+    pub(crate) name: u32,
+    pub(crate) spare: u32,
+    pub(crate) operands: Items<u32>,
 }
 
 /// What a join joins besides itself.
 #[derive(Clone, Copy)]
-pub enum Found {
+pub(crate) enum Found {
     Several,
     One(u32),
     Itself,
 }
 
 /// The name that a name is merged into, after so many merges.
-pub fn root(into: &[u32], merges: usize, name: u32) -> u32
+pub(crate) fn root(into: &[u32], merges: usize, name: u32) -> u32
     requires within { IsWithin into.now }
     requires here { name < length into.now }
     ensures { result ≡ walk into.now merges name }
@@ -40,7 +40,7 @@ pub fn root(into: &[u32], merges: usize, name: u32) -> u32
 }
 
 /// What a join joins besides itself, as far as names are merged.
-pub fn joined_names(into: &[u32], merges: usize, join: &Join) -> Found
+pub(crate) fn joined_names(into: &[u32], merges: usize, join: &Join) -> Found
     requires within { IsWithin into.now }
     requires rooted { (n : ℕ) → n < length into.now → IsRoot into.now (walk into.now merges n) }
     requires operands { (k : ℕ) → k < length join.now.operands → get_or join.now.operands k 0 < length into.now }
@@ -67,7 +67,13 @@ pub fn joined_names(into: &[u32], merges: usize, join: &Join) -> Found
 }
 
 /// Merges a join that joins one name only into that name, and says whether it did.
-pub fn settle(slots: &[u32], joins: &[Join], at: usize, into: &mut [u32], merges: usize) -> bool
+pub(crate) fn settle(
+    slots: &[u32],
+    joins: &[Join],
+    at: usize,
+    into: &mut [u32],
+    merges: usize,
+) -> bool
     requires formed { WellFormed slots.now joins.now }
     requires merging { Merging slots.now joins.now into.old merges }
     requires here { at < length joins.now }
@@ -91,7 +97,7 @@ pub fn settle(slots: &[u32], joins: &[Join], at: usize, into: &mut [u32], merges
 }
 
 /// Tries each join once; the answer is the number of merges then.
-pub fn sweep(slots: &[u32], joins: &[Join], into: &mut [u32], merges: usize) -> usize
+pub(crate) fn sweep(slots: &[u32], joins: &[Join], into: &mut [u32], merges: usize) -> usize
     requires formed { WellFormed slots.now joins.now }
     requires merging { Merging slots.now joins.now into.old merges }
     requires room { roots into.old 0 + merges ≤ length into.old }
@@ -107,7 +113,7 @@ pub fn sweep(slots: &[u32], joins: &[Join], into: &mut [u32], merges: usize) -> 
 }
 
 /// Merges joins until none that is left joins one name only.
-pub fn merge_all(slots: &[u32], joins: &[Join], into: &mut [u32]) -> usize
+pub(crate) fn merge_all(slots: &[u32], joins: &[Join], into: &mut [u32]) -> usize
     requires formed { WellFormed slots.now joins.now }
     requires merging { Merging slots.now joins.now into.old 0 }
     requires room { roots into.old 0 ≤ length into.old }
@@ -124,7 +130,7 @@ pub fn merge_all(slots: &[u32], joins: &[Join], into: &mut [u32]) -> usize
 }
 
 /// Each name leads to itself.
-pub fn separate(alloc: Global, count: usize) -> Result<Vec<u32>, AllocError>
+pub(crate) fn separate(alloc: Global, count: usize) -> Result<Vec<u32>, AllocError>
     requires { count < 2 ^ 32 }
     ensures { IfOk result (λ v. (length v.items ≡ count) × ((n : ℕ) → n < count → IsRoot v.items n)) }
 {
@@ -136,7 +142,11 @@ pub fn separate(alloc: Global, count: usize) -> Result<Vec<u32>, AllocError>
 }
 
 /// Each name leads to the one that it is merged into, and no join that is left joins one name only.
-pub fn merge_joins(alloc: Global, slots: &[u32], joins: &[Join]) -> Result<Vec<u32>, AllocError>
+pub(crate) fn merge_joins(
+    alloc: Global,
+    slots: &[u32],
+    joins: &[Join],
+) -> Result<Vec<u32>, AllocError>
     requires formed { WellFormed slots.now joins.now }
     requires short { length slots.now < 2 ^ 32 }
     ensures { IfOk result (λ v. Merged slots.now joins.now v.items) }

@@ -2,9 +2,9 @@
 
 /// How many parameters, slots and blocks there are, and which block is the entry.
 #[derive(Clone, Copy)]
-pub struct Layout {
-    pub params: usize,
-    pub slots: usize,
-    pub blocks: usize,
-    pub entry: usize,
+pub(crate) struct Layout {
+    pub(crate) params: usize,
+    pub(crate) slots: usize,
+    pub(crate) blocks: usize,
+    pub(crate) entry: usize,
 }

@@ -10,6 +10,7 @@ mod names;
 mod numbers;
 mod output;
 mod phis;
+mod renames;
 mod sources;
 mod tables;
 mod writing;

@@ -8,7 +8,7 @@ use sqlite_items::Items;
 use std::alloc::{AllocError, Global};
 
 /// Whether a term reads a slot.
-pub fn reads(term: &Term, slot: u32) -> bool
+pub(crate) fn reads(term: &Term, slot: u32) -> bool
     ensures { result ≡ has term.now.names slot }
 {
     for name in term.names.as_slice() {
@@ -20,7 +20,7 @@ pub fn reads(term: &Term, slot: u32) -> bool
 }
 
 /// Whether a block is marked.
-pub fn is_marked(table: &[bool], block: u32) -> bool
+pub(crate) fn is_marked(table: &[bool], block: u32) -> bool
     ensures { result ≡ marked table.now block }
 {
     let at = block as usize;
@@ -28,7 +28,7 @@ pub fn is_marked(table: &[bool], block: u32) -> bool
 }
 
 /// Whether a slot is live where a block ends.
-pub fn lives_at_end(end: &End, table: &[bool], slot: u32) -> bool
+pub(crate) fn lives_at_end(end: &End, table: &[bool], slot: u32) -> bool
     ensures { result ≡ lives_end end.now table.now slot }
 {
     match end {
@@ -42,7 +42,7 @@ pub fn lives_at_end(end: &End, table: &[bool], slot: u32) -> bool
 }
 
 /// Whether a slot is live where a block begins.
-pub fn lives_at(block: &Block, table: &[bool], slot: u32) -> bool
+pub(crate) fn lives_at(block: &Block, table: &[bool], slot: u32) -> bool
     ensures { result ≡ lives block.now table.now slot }
 {
     match &block.set {
@@ -54,7 +54,7 @@ pub fn lives_at(block: &Block, table: &[bool], slot: u32) -> bool
 }
 
 /// Marks the blocks at which the slot is live by what is marked; the answer is their number.
-pub fn widen(blocks: &[Block], table: &mut [bool], slot: u32) -> usize
+pub(crate) fn widen(blocks: &[Block], table: &mut [bool], slot: u32) -> usize
     requires sized { length table.old ≡ length blocks.now }
     requires only { OnlyLive blocks.now slot table.old }
     ensures { Widened blocks.now slot table.old table.new result }
@@ -72,7 +72,7 @@ pub fn widen(blocks: &[Block], table: &mut [bool], slot: u32) -> usize
 }
 
 /// No block is marked.
-pub fn unmarked_table(alloc: Global, count: usize) -> Result<Vec<bool>, AllocError>
+pub(crate) fn unmarked_table(alloc: Global, count: usize) -> Result<Vec<bool>, AllocError>
     ensures { IfOk result (λ v. (length v.items ≡ count) × ((b : ℕ) → marked v.items b ≡ true → ⊥)) }
 {
     let mut table = Vec::new(alloc);
@@ -83,7 +83,7 @@ pub fn unmarked_table(alloc: Global, count: usize) -> Result<Vec<bool>, AllocErr
 }
 
 /// Marks blocks until all are marked at which the slot is live.
-pub fn widen_all(blocks: &[Block], table: &mut [bool], slot: u32)
+pub(crate) fn widen_all(blocks: &[Block], table: &mut [bool], slot: u32)
     requires sized { length table.old ≡ length blocks.now }
     requires only { OnlyLive blocks.now slot table.old }
     ensures { LiveTable blocks.now slot table.new }
@@ -96,7 +96,11 @@ pub fn widen_all(blocks: &[Block], table: &mut [bool], slot: u32)
 }
 
 /// The blocks at which a slot is live.
-pub fn live_blocks(alloc: Global, blocks: &[Block], slot: u32) -> Result<Items<bool>, AllocError>
+pub(crate) fn live_blocks(
+    alloc: Global,
+    blocks: &[Block],
+    slot: u32,
+) -> Result<Items<bool>, AllocError>
     ensures { IfOk result (λ v. LiveTable blocks.now slot v) }
 {
     let mut table = unmarked_table(alloc, blocks.len())?;

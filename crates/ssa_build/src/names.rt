@@ -14,10 +14,10 @@ use std::alloc::{AllocError, Global};
 
 /// The slot of each name, for each block the names of its φs by slots, and for each block the name that it assigns.
 #[derive(Drop)]
-pub struct Names {
-    pub slots: Vec<u32>,
-    pub phis: Vec<Items<u32>>,
-    pub sets: Vec<u32>,
+pub(crate) struct Names {
+    pub(crate) slots: Vec<u32>,
+    pub(crate) phis: Vec<Items<u32>>,
+    pub(crate) sets: Vec<u32>,
 }
 
 /// Whether a slot has a φ in a block.
@@ -80,7 +80,7 @@ fn push_set(block: &Block, names: &mut Vec<u32>) -> Result<(), AllocError>
 }
 
 /// The names of the full form.
-pub fn full_names(
+pub(crate) fn full_names(
     alloc: Global,
     layout: Layout,
     blocks: &[Block],

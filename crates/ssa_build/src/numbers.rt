@@ -8,13 +8,17 @@ use std::alloc::{AllocError, Global};
 
 /// The new number of each old name, and the slot of each new one.
 #[derive(Drop)]
-pub struct Numbering {
-    pub numbers: Vec<u32>,
-    pub names: Items<u32>,
+pub(crate) struct Numbering {
+    pub(crate) numbers: Vec<u32>,
+    pub(crate) names: Items<u32>,
 }
 
 /// Numbers the names that lead to themselves, in order.
-pub fn number_roots(alloc: Global, slots: &[u32], into: &[u32]) -> Result<Numbering, AllocError>
+pub(crate) fn number_roots(
+    alloc: Global,
+    slots: &[u32],
+    into: &[u32],
+) -> Result<Numbering, AllocError>
     requires sized { length into.now ≡ length slots.now }
     requires short { length slots.now < 2 ^ 32 }
     ensures { IfOk result (λ v. Numbers slots.now into.now v.numbers.items v.names) }

@@ -5,17 +5,18 @@ ghost use Rattle.block_forms.specs.Lowered.{TermBelow};
 ghost use Rattle.ssa_build.specs.FullForms.{IsSized};
 ghost use Rattle.ssa_build.specs.Merging as merging_of;
 ghost use Rattle.ssa_build.specs.Merging.{replacing};
-ghost use Rattle.ssa_build.specs.Output as output_of;
+ghost use Rattle.ssa_build.specs.Renamings as renamed;
 ghost use Rattle.ssa_build.specs.Sources.{sources_of};
 
-use crate::full::{FullForm, name_after, name_before, phi_name};
+use crate::full::{name_after, name_before, phi_name};
 use crate::liveness::is_marked;
-use block_forms::{Block, Phi, Term};
+use crate::renames::Renaming;
+use block_forms::{Phi, Term};
 use sqlite_items::Items;
 use std::alloc::{AllocError, Global};
 
 /// Whether a name is merged into no other.
-pub fn is_end(into: &[u32], name: u32) -> bool
+pub(crate) fn is_end(into: &[u32], name: u32) -> bool
     ensures { result ≡ merging_of.is_end (replacing into.now) name }
 {
     let at = name as usize;
@@ -27,7 +28,7 @@ pub fn is_end(into: &[u32], name: u32) -> bool
 }
 
 /// The new name for an old one.
-pub fn new_name(into: &[u32], numbers: &[u32], name: u32) -> u32
+pub(crate) fn new_name(into: &[u32], numbers: &[u32], name: u32) -> u32
     ensures { result ≡ merging_of.new_name into.now numbers.now name }
 {
     let at = name as usize;
@@ -41,58 +42,43 @@ pub fn new_name(into: &[u32], numbers: &[u32], name: u32) -> u32
 }
 
 /// The new name of a slot where a block begins.
-pub fn new_before(
-    full: &FullForm,
-    blocks: &[Block],
-    into: &[u32],
-    numbers: &[u32],
-    block: usize,
-    slot: u32,
-) -> u32
-    requires tables { IsSized full.now }
-    requires block_in { block < full.now.layout.blocks }
-    requires slot_in { slot < full.now.layout.slots }
-    ensures { result ≡ output_of.new_before full.now blocks.now into.now numbers.now block slot }
+pub(crate) fn new_before(renaming: &Renaming<'_>, block: usize, slot: u32) -> u32
+    requires tables { IsSized renaming.now.full.now }
+    requires block_in { block < renaming.now.full.now.layout.blocks }
+    requires slot_in { slot < renaming.now.full.now.layout.slots }
+    ensures { result ≡ renamed.before renaming.now block slot }
 {
-    new_name(into, numbers, name_before(full, block, slot))
+    let name = name_before(renaming.full, block, slot);
+    new_name(renaming.into, renaming.numbers, name)
 }
 
 /// The new name of a slot where a block ends.
-pub fn new_after(
-    full: &FullForm,
-    blocks: &[Block],
-    into: &[u32],
-    numbers: &[u32],
-    block: usize,
-    slot: u32,
-) -> u32
-    requires tables { IsSized full.now }
-    requires sized { length blocks.now ≡ full.now.layout.blocks }
-    requires block_in { block < full.now.layout.blocks }
-    requires slot_in { slot < full.now.layout.slots }
-    ensures { result ≡ output_of.new_after full.now blocks.now into.now numbers.now block slot }
+pub(crate) fn new_after(renaming: &Renaming<'_>, block: usize, slot: u32) -> u32
+    requires tables { IsSized renaming.now.full.now }
+    requires sized { length renaming.now.blocks.now ≡ renaming.now.full.now.layout.blocks }
+    requires block_in { block < renaming.now.full.now.layout.blocks }
+    requires slot_in { slot < renaming.now.full.now.layout.slots }
+    ensures { result ≡ renamed.after renaming.now block slot }
 {
-    new_name(into, numbers, name_after(full, blocks, block, slot))
+    let name = name_after(renaming.full, renaming.blocks, block, slot);
+    new_name(renaming.into, renaming.numbers, name)
 }
 
 /// A term with the new names that its slots have where a block begins.
-pub fn term_before(
+pub(crate) fn term_before(
     alloc: Global,
-    full: &FullForm,
-    blocks: &[Block],
-    into: &[u32],
-    numbers: &[u32],
+    renaming: &Renaming<'_>,
     block: usize,
     term: &Term,
 ) -> Result<Term, AllocError>
-    requires tables { IsSized full.now }
-    requires block_in { block < full.now.layout.blocks }
-    requires slots_in { TermBelow full.now.layout.slots term.now }
-    ensures { IfOk result (λ t. t ≡ output_of.term_before full.now blocks.now into.now numbers.now block term.now) }
+    requires tables { IsSized renaming.now.full.now }
+    requires block_in { block < renaming.now.full.now.layout.blocks }
+    requires slots_in { TermBelow renaming.now.full.now.layout.slots term.now }
+    ensures { IfOk result (λ t. t ≡ renamed.term_before renaming.now block term.now) }
 {
     let mut names = Items::new(alloc);
     for slot in term.names.as_slice() {
-        names.push(new_before(full, blocks, into, numbers, block, *slot))?;
+        names.push(new_before(renaming, block, *slot))?;
     }
     Ok(Term {
         expr: term.expr,
@@ -101,24 +87,21 @@ pub fn term_before(
 }
 
 /// A term with the new names that its slots have where a block ends.
-pub fn term_after(
+pub(crate) fn term_after(
     alloc: Global,
-    full: &FullForm,
-    blocks: &[Block],
-    into: &[u32],
-    numbers: &[u32],
+    renaming: &Renaming<'_>,
     block: usize,
     term: &Term,
 ) -> Result<Term, AllocError>
-    requires tables { IsSized full.now }
-    requires sized { length blocks.now ≡ full.now.layout.blocks }
-    requires block_in { block < full.now.layout.blocks }
-    requires slots_in { TermBelow full.now.layout.slots term.now }
-    ensures { IfOk result (λ t. t ≡ output_of.term_after full.now blocks.now into.now numbers.now block term.now) }
+    requires tables { IsSized renaming.now.full.now }
+    requires sized { length renaming.now.blocks.now ≡ renaming.now.full.now.layout.blocks }
+    requires block_in { block < renaming.now.full.now.layout.blocks }
+    requires slots_in { TermBelow renaming.now.full.now.layout.slots term.now }
+    ensures { IfOk result (λ t. t ≡ renamed.term_after renaming.now block term.now) }
 {
     let mut names = Items::new(alloc);
     for slot in term.names.as_slice() {
-        names.push(new_after(full, blocks, into, numbers, block, *slot))?;
+        names.push(new_after(renaming, block, *slot))?;
     }
     Ok(Term {
         expr: term.expr,
@@ -127,22 +110,19 @@ pub fn term_after(
 }
 
 /// The new names of the live slots of a block.
-pub fn new_map(
+pub(crate) fn new_map(
     alloc: Global,
-    full: &FullForm,
-    blocks: &[Block],
-    into: &[u32],
-    numbers: &[u32],
+    renaming: &Renaming<'_>,
     block: usize,
 ) -> Result<Items<(u32, u32)>, AllocError>
-    requires tables { IsSized full.now }
-    requires block_in { block < full.now.layout.blocks }
-    ensures { IfOk result (λ v. v ≡ output_of.new_map full.now blocks.now into.now numbers.now block) }
+    requires tables { IsSized renaming.now.full.now }
+    requires block_in { block < renaming.now.full.now.layout.blocks }
+    ensures { IfOk result (λ v. v ≡ renamed.map_of renaming.now block) }
 {
     let mut names = Items::new(alloc);
-    for slot in 0..full.layout.slots {
-        if is_marked(full.live[slot].as_slice(), block as u32) {
-            let name = new_before(full, blocks, into, numbers, block, slot as u32);
+    for slot in 0..renaming.full.layout.slots {
+        if is_marked(renaming.full.live[slot].as_slice(), block as u32) {
+            let name = new_before(renaming, block, slot as u32);
             names.push((slot as u32, name))?;
         }
     }
@@ -150,62 +130,48 @@ pub fn new_map(
 }
 
 /// The operands of a φ.
-pub fn new_operands(
+pub(crate) fn new_operands(
     alloc: Global,
-    full: &FullForm,
-    blocks: &[Block],
-    into: &[u32],
-    numbers: &[u32],
+    renaming: &Renaming<'_>,
     sources: &[u32],
     slot: u32,
 ) -> Result<Items<(u32, u32)>, AllocError>
-    requires tables { IsSized full.now }
-    requires sized { length blocks.now ≡ full.now.layout.blocks }
-    requires sources_in { (k : ℕ) → k < length sources.now → get_or sources.now k 0 < full.now.layout.blocks }
-    requires slot_in { slot < full.now.layout.slots }
-    ensures { IfOk result (λ v. v ≡ map (λ p. (p, output_of.new_after full.now blocks.now into.now numbers.now p slot)) sources.now) }
+    requires tables { IsSized renaming.now.full.now }
+    requires sized { length renaming.now.blocks.now ≡ renaming.now.full.now.layout.blocks }
+    requires sources_in { (k : ℕ) → k < length sources.now → get_or sources.now k 0 < renaming.now.full.now.layout.blocks }
+    requires slot_in { slot < renaming.now.full.now.layout.slots }
+    ensures { IfOk result (λ v. v ≡ map (λ p. (p, renamed.after renaming.now p slot)) sources.now) }
 {
     let mut operands = Items::new(alloc);
     for source in sources {
-        let name = new_after(full, blocks, into, numbers, *source as usize, slot);
+        let name = new_after(renaming, *source as usize, slot);
         operands.push((*source, name))?;
     }
     Ok(operands)
 }
 
 /// The φs of a block that are merged into no other name.
-pub fn new_phis(
+pub(crate) fn new_phis(
     alloc: Global,
-    full: &FullForm,
-    blocks: &[Block],
-    into: &[u32],
-    numbers: &[u32],
+    renaming: &Renaming<'_>,
     sources: &[u32],
     block: usize,
 ) -> Result<Items<Phi>, AllocError>
-    requires tables { IsSized full.now }
-    requires sized { length blocks.now ≡ full.now.layout.blocks }
-    requires sources_in { (k : ℕ) → k < length sources.now → get_or sources.now k 0 < full.now.layout.blocks }
-    requires sources_are { sources.now ≡ sources_of blocks.now block }
-    requires block_in { block < full.now.layout.blocks }
-    ensures { IfOk result (λ v. v ≡ output_of.slot_phis full.now blocks.now into.now numbers.now block) }
+    requires tables { IsSized renaming.now.full.now }
+    requires sized { length renaming.now.blocks.now ≡ renaming.now.full.now.layout.blocks }
+    requires sources_in { (k : ℕ) → k < length sources.now → get_or sources.now k 0 < renaming.now.full.now.layout.blocks }
+    requires sources_are { sources.now ≡ sources_of renaming.now.blocks.now block }
+    requires block_in { block < renaming.now.full.now.layout.blocks }
+    ensures { IfOk result (λ v. v ≡ renamed.slot_phis renaming.now block) }
 {
     let mut phis = Items::new(alloc);
-    for slot in 0..full.layout.slots {
-        if is_marked(full.live[slot].as_slice(), block as u32) {
-            let name = phi_name(full, block, slot);
-            if is_end(into, name) {
+    for slot in 0..renaming.full.layout.slots {
+        if is_marked(renaming.full.live[slot].as_slice(), block as u32) {
+            let name = phi_name(renaming.full, block, slot);
+            if is_end(renaming.into, name) {
                 phis.push(Phi {
-                    name: new_name(into, numbers, name),
-                    operands: new_operands(
-                        alloc,
-                        full,
-                        blocks,
-                        into,
-                        numbers,
-                        sources,
-                        slot as u32,
-                    )?,
+                    name: new_name(renaming.into, renaming.numbers, name),
+                    operands: new_operands(alloc, renaming, sources, slot as u32)?,
                 })?;
             }
         }

@@ -64,7 +64,11 @@ fn push_block_joins(
 }
 
 /// The joins of all blocks.
-pub fn full_joins(alloc: Global, full: &FullForm, blocks: &[Block]) -> Result<Vec<Join>, AllocError>
+pub(crate) fn full_joins(
+    alloc: Global,
+    full: &FullForm,
+    blocks: &[Block],
+) -> Result<Vec<Join>, AllocError>
     requires tables { IsSized full.now }
     requires sized { length blocks.now ≡ full.now.layout.blocks }
     requires sources { AreSources blocks.now (length blocks.now) full.now.sources.items }

@@ -49,7 +49,7 @@ fn no_sources(alloc: Global, blocks: &[Block]) -> Result<Vec<Items<u32>>, AllocE
 }
 
 /// For each block the blocks that lead to it, in order.
-pub fn all_sources(alloc: Global, blocks: &[Block]) -> Result<Vec<Items<u32>>, AllocError>
+pub(crate) fn all_sources(alloc: Global, blocks: &[Block]) -> Result<Vec<Items<u32>>, AllocError>
     requires { length blocks.now < 2 ^ 32 }
     ensures { IfOk result (λ v. AreSources blocks.now (length blocks.now) v.items) }
 {

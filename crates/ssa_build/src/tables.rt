@@ -9,7 +9,7 @@ use sqlite_items::Items;
 use std::alloc::{AllocError, Global};
 
 /// For each slot the blocks at which it is live.
-pub fn live_tables(
+pub(crate) fn live_tables(
     alloc: Global,
     blocks: &[Block],
     slots: u32,

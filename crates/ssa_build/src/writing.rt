@@ -4,12 +4,11 @@ ghost use Rattle.std.specs.Prelude.{◌≡◌, ◌<◌, length, IfOk};
 ghost use Rattle.block_forms.specs.Lowered.{BlockBelow, EndBelow, SetBelow};
 ghost use Rattle.block_forms.specs.Places.{Each};
 ghost use Rattle.ssa_build.specs.FullForms.{IsSized};
-ghost use Rattle.ssa_build.specs.Output as output_of;
+ghost use Rattle.ssa_build.specs.Renamings as renamed;
 ghost use Rattle.ssa_build.specs.Sources.{AreSources};
-ghost use Rattle.ssa_build.specs.Writing.{AreNewBlocks, IsNewBlock};
 
-use crate::full::FullForm;
 use crate::output::{new_map, new_name, new_phis, term_after, term_before};
+use crate::renames::Renaming;
 use block_forms::{Block, End, Phi, SsaBlock, Term};
 use sqlite_items::Items;
 use std::alloc::{AllocError, Global};
@@ -17,23 +16,24 @@ use std::alloc::{AllocError, Global};
 /// An assignment under new names.
 fn new_set(
     alloc: Global,
-    full: &FullForm,
-    blocks: &[Block],
-    into: &[u32],
-    numbers: &[u32],
+    renaming: &Renaming<'_>,
     block: usize,
     held: &Block,
 ) -> Result<Option<(u32, Term)>, AllocError>
-    requires tables { IsSized full.now }
-    requires block_in { block < full.now.layout.blocks }
-    requires below { SetBelow full.now.layout.slots held.now.set }
-    ensures { IfOk result (λ a. a ≡ output_of.new_set full.now blocks.now into.now numbers.now block held.now.set) }
+    requires tables { IsSized renaming.now.full.now }
+    requires block_in { block < renaming.now.full.now.layout.blocks }
+    requires below { SetBelow renaming.now.full.now.layout.slots held.now.set }
+    ensures { IfOk result (λ a. a ≡ renamed.set_of renaming.now block held.now.set) }
 {
     match &held.set {
         None => Ok(None),
         Some((_, value)) => {
-            let name = new_name(into, numbers, full.names.sets[block]);
-            let term = term_before(alloc, full, blocks, into, numbers, block, value)?;
+            let name = new_name(
+                renaming.into,
+                renaming.numbers,
+                renaming.full.names.sets[block],
+            );
+            let term = term_before(alloc, renaming, block, value)?;
             Ok(Some((name, term)))
         }
     }
@@ -42,27 +42,24 @@ fn new_set(
 /// An end under new names.
 fn new_end(
     alloc: Global,
-    full: &FullForm,
-    blocks: &[Block],
-    into: &[u32],
-    numbers: &[u32],
+    renaming: &Renaming<'_>,
     block: usize,
     end: &End,
 ) -> Result<End, AllocError>
-    requires tables { IsSized full.now }
-    requires sized { length blocks.now ≡ full.now.layout.blocks }
-    requires block_in { block < full.now.layout.blocks }
-    requires below { EndBelow full.now.layout.slots end.now }
-    ensures { IfOk result (λ e. e ≡ output_of.new_end full.now blocks.now into.now numbers.now block end.now) }
+    requires tables { IsSized renaming.now.full.now }
+    requires sized { length renaming.now.blocks.now ≡ renaming.now.full.now.layout.blocks }
+    requires block_in { block < renaming.now.full.now.layout.blocks }
+    requires below { EndBelow renaming.now.full.now.layout.slots end.now }
+    ensures { IfOk result (λ e. e ≡ renamed.end_of renaming.now block end.now) }
 {
     match end {
         End::Jump(next) => Ok(End::Jump(*next)),
         End::Branch(test, yes, no) => {
-            let test = term_after(alloc, full, blocks, into, numbers, block, test)?;
+            let test = term_after(alloc, renaming, block, test)?;
             Ok(End::Branch(test, *yes, *no))
         }
         End::Return(value) => {
-            let value = term_after(alloc, full, blocks, into, numbers, block, value)?;
+            let value = term_after(alloc, renaming, block, value)?;
             Ok(End::Return(value))
         }
         End::Fail(class) => Ok(End::Fail(*class)),
@@ -72,46 +69,36 @@ fn new_end(
 /// The φs of a block; the entry has none.
 fn block_phis(
     alloc: Global,
-    full: &FullForm,
-    blocks: &[Block],
-    into: &[u32],
-    numbers: &[u32],
+    renaming: &Renaming<'_>,
     block: usize,
 ) -> Result<Items<Phi>, AllocError>
-    requires tables { IsSized full.now }
-    requires sized { length blocks.now ≡ full.now.layout.blocks }
-    requires sources { AreSources blocks.now (length blocks.now) full.now.sources.items }
-    requires block_in { block < full.now.layout.blocks }
-    ensures { IfOk result (λ v. v ≡ output_of.new_phis full.now blocks.now into.now numbers.now block) }
+    requires tables { IsSized renaming.now.full.now }
+    requires sized { length renaming.now.blocks.now ≡ renaming.now.full.now.layout.blocks }
+    requires sources { AreSources renaming.now.blocks.now (length renaming.now.blocks.now) renaming.now.full.now.sources.items }
+    requires block_in { block < renaming.now.full.now.layout.blocks }
+    ensures { IfOk result (λ v. v ≡ renamed.phis_of renaming.now block) }
 {
-    if block == full.layout.entry {
+    if block == renaming.full.layout.entry {
         return Ok(Items::new(alloc));
     }
-    let sources = full.sources[block].as_slice();
-    new_phis(alloc, full, blocks, into, numbers, sources, block)
+    let sources = renaming.full.sources[block].as_slice();
+    new_phis(alloc, renaming, sources, block)
 }
 
 /// A block under new names.
-fn new_block(
-    alloc: Global,
-    full: &FullForm,
-    blocks: &[Block],
-    into: &[u32],
-    numbers: &[u32],
-    block: usize,
-) -> Result<SsaBlock, AllocError>
-    requires tables { IsSized full.now }
-    requires sized { length blocks.now ≡ full.now.layout.blocks }
-    requires sources { AreSources blocks.now (length blocks.now) full.now.sources.items }
-    requires block_in { block < full.now.layout.blocks }
-    requires below { Each (BlockBelow full.now.layout.slots) blocks.now }
-    ensures { IfOk result (λ y. IsNewBlock full.now blocks.now into.now numbers.now block y) }
+fn new_block(alloc: Global, renaming: &Renaming<'_>, block: usize) -> Result<SsaBlock, AllocError>
+    requires tables { IsSized renaming.now.full.now }
+    requires sized { length renaming.now.blocks.now ≡ renaming.now.full.now.layout.blocks }
+    requires sources { AreSources renaming.now.blocks.now (length renaming.now.blocks.now) renaming.now.full.now.sources.items }
+    requires block_in { block < renaming.now.full.now.layout.blocks }
+    requires below { Each (BlockBelow renaming.now.full.now.layout.slots) renaming.now.blocks.now }
+    ensures { IfOk result (λ y. renamed.IsBlock renaming.now block y) }
 {
-    let held = &blocks[block];
-    let map = new_map(alloc, full, blocks, into, numbers, block)?;
-    let phis = block_phis(alloc, full, blocks, into, numbers, block)?;
-    let set = new_set(alloc, full, blocks, into, numbers, block, held)?;
-    let end = new_end(alloc, full, blocks, into, numbers, block, &held.end)?;
+    let held = &renaming.blocks[block];
+    let map = new_map(alloc, renaming, block)?;
+    let phis = block_phis(alloc, renaming, block)?;
+    let set = new_set(alloc, renaming, block, held)?;
+    let end = new_end(alloc, renaming, block, &held.end)?;
     Ok(SsaBlock {
         map,
         phis,
@@ -121,22 +108,19 @@ fn new_block(
 }
 
 /// All blocks under new names.
-pub fn new_blocks(
+pub(crate) fn new_blocks(
     alloc: Global,
-    full: &FullForm,
-    blocks: &[Block],
-    into: &[u32],
-    numbers: &[u32],
+    renaming: &Renaming<'_>,
 ) -> Result<Items<SsaBlock>, AllocError>
-    requires tables { IsSized full.now }
-    requires sized { length blocks.now ≡ full.now.layout.blocks }
-    requires sources { AreSources blocks.now (length blocks.now) full.now.sources.items }
-    requires below { Each (BlockBelow full.now.layout.slots) blocks.now }
-    ensures { IfOk result (λ ys. AreNewBlocks full.now blocks.now into.now numbers.now full.now.layout.blocks ys) }
+    requires tables { IsSized renaming.now.full.now }
+    requires sized { length renaming.now.blocks.now ≡ renaming.now.full.now.layout.blocks }
+    requires sources { AreSources renaming.now.blocks.now (length renaming.now.blocks.now) renaming.now.full.now.sources.items }
+    requires below { Each (BlockBelow renaming.now.full.now.layout.slots) renaming.now.blocks.now }
+    ensures { IfOk result (λ ys. renamed.AreBlocks renaming.now renaming.now.full.now.layout.blocks ys) }
 {
     let mut written = Items::new(alloc);
-    for block in 0..full.layout.blocks {
-        written.push(new_block(alloc, full, blocks, into, numbers, block)?)?;
+    for block in 0..renaming.full.layout.blocks {
+        written.push(new_block(alloc, renaming, block)?)?;
     }
     Ok(written)
 }

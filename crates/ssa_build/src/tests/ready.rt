@@ -141,7 +141,7 @@ fn others_dead(
 }
 
 /// Whether the form can be built under this layout.
-pub fn is_ready(alloc: Global, layout: Layout, g: &Goto) -> Result<bool, AllocError>
+pub(crate) fn is_ready(alloc: Global, layout: Layout, g: &Goto) -> Result<bool, AllocError>
     ensures is_layout { IfOk result (λ yes. IsTrue yes → IsLayout layout) }
     ensures sized { IfOk result (λ yes. IsTrue yes → length g.now.blocks ≡ layout.blocks) }
     ensures entered { IfOk result (λ yes. IsTrue yes → layout.entry ≡ g.now.entry) }

@@ -8,10 +8,10 @@ use Rattle.ssa_build.proofs.output.new_map.Goals.{then-is_marked+in_ok-push, els
 
 pub loop-slot-preserved : goal.loop-slot-preserved
 loop-slot-preserved c =
-    let full = c.args.full.now in
+    let full = c.args.renaming.now.full.now in
     let b = c.args.block in
     let s = c.loop-slot.slot in
-    let f : ℕ → ℕ × ℕ = λ s. (s, new_before full c.args.blocks.now c.args.into.now c.args.numbers.now b s) in
+    let f : ℕ → ℕ × ℕ = λ s. (s, new_before full c.args.renaming.now.blocks.now c.args.renaming.now.into.now c.args.renaming.now.numbers.now b s) in
     let p : ℕ → Bool = live_in full b in
     let in' : s < length full.live.items = subst (λ v. s < v) (sym c.requires.tables.live) c.loop-slot-test.true in
     let live : p s ≡ c.is_marked.result = live_at full.live.items s b c.index.result.now in' c.index.ensures ∙ sym (c.is_marked.ensures ∙ ap (λ v. marked v b) c.as_slice.ensures) in

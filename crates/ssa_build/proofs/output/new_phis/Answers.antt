@@ -9,12 +9,12 @@ use Rattle.ssa_build.proofs.output.new_phis.Goals.{then-is_marked+then-is_end+in
 
 pub loop-slot-preserved : goal.loop-slot-preserved
 loop-slot-preserved c =
-    let full = c.args.full.now in
-    let g = c.args.blocks.now in
+    let full = c.args.renaming.now.full.now in
+    let g = c.args.renaming.now.blocks.now in
     let b = c.args.block in
     let s = c.loop-slot.slot in
-    let into = c.args.into.now in
-    let numbers = c.args.numbers.now in
+    let into = c.args.renaming.now.into.now in
+    let numbers = c.args.renaming.now.numbers.now in
     let f = new_phi full g into numbers b in
     let live_here : ℕ → Bool = live_in full b in
     let stays : ℕ → Bool = λ s. is_end (replacing into) (phi_name full b s) in

@@ -6,10 +6,10 @@ use Rattle.ssa_build.proofs.writing.new_blocks.Goals as goal
 
 pub loop-block-preserved : goal.loop-block-preserved
 loop-block-preserved c =
-    let f = c.args.full.now in
-    let g = c.args.blocks.now in
-    let into = c.args.into.now in
-    let numbers = c.args.numbers.now in
+    let f = c.args.renaming.now.full.now in
+    let g = c.args.renaming.now.blocks.now in
+    let into = c.args.renaming.now.into.now in
+    let numbers = c.args.renaming.now.numbers.now in
     let n = c.loop-block.block in
     let ys = c.loop-block.written in
     let y = c.in_ok-new_block.field-0 in

@@ -1,0 +1,9 @@
+mod Lists
+mod Marking
+mod Spreading
+mod Names
+mod Slots
+mod Blocks
+mod UsefulForm
+mod CalledForm
+mod Shortness

@@ -1,0 +1,15 @@
+-- The normal form by tables of live slots.
+use Rattle.std.specs.Prelude.{◌<◌, Bool, List, length}
+use Rattle.block_forms.specs.declared.forms.Goto.{Goto}
+use Rattle.block_forms.specs.declared.forms.Ssa.{Ssa}
+use Rattle.block_forms.specs.Places.{Each}
+use Rattle.call_forms.specs.declared.forms.Anf.{Anf}
+use Rattle.anf_build.specs.Passing.{AreBlocksOf}
+use Rattle.anf_build.specs.Tables.{AreLiveTables}
+
+-- the blocks of a form by some tables of live slots, which have each slot that a name has
+pub record IsNormalForm (g : Goto) (z : Ssa) (a : Anf) : Type 0 where
+  pub tables : List (List Bool)
+  pub slots_in : Each (λ s. s < length tables) z.names
+  pub are_live : AreLiveTables g.blocks tables
+  pub blocks : AreBlocksOf tables g.blocks z.blocks a.blocks

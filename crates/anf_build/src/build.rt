@@ -1,0 +1,56 @@
+//! The normal form of an SSA form.
+
+ghost use Rattle.std.specs.Prelude.{◌≡◌, ℕ, length, IfOk};
+ghost use Rattle.call_forms.specs.Called.{Called};
+ghost use Rattle.call_forms.specs.Useful.{UsefulParameters};
+ghost use Rattle.anf_build.specs.NormalForm.{IsNormalForm};
+ghost use Rattle.anf_build.specs.Passing.{AreBlocksOf};
+ghost use Rattle.anf_build.specs.Premises.{IsNamed};
+ghost use Rattle.anf_build.specs.Short.{SsaWithin, AnfWithin};
+
+use crate::calls::block_of;
+use crate::tables::{live_tables, slots_of};
+use away_values::NoMemory;
+use block_forms::{Block, Goto, Ssa, SsaBlock};
+use call_forms::{Anf, AnfBlock};
+use sqlite_items::Items;
+use std::alloc::{AllocError, Global};
+
+/// The blocks of the normal form.
+fn all_blocks(
+    alloc: Global,
+    tables: &[Items<bool>],
+    from: &[Block],
+    blocks: &[SsaBlock],
+) -> Result<Items<AnfBlock>, AllocError>
+    requires as_many { length from.now ≡ length blocks.now }
+    ensures { IfOk result (λ xs. AreBlocksOf tables.now from.now blocks.now xs) }
+{
+    let mut made = Items::new(alloc);
+    for at in 0..blocks.len() {
+        made.push(block_of(alloc, tables, blocks, at, &from[at], &blocks[at])?)?;
+    }
+    Ok(made)
+}
+
+/// The normal form, by tables of live slots.
+pub(crate) fn normal_form(alloc: Global, g: &Goto, s: &Ssa) -> Result<Anf, AllocError>
+    requires as_many { length g.now.blocks ≡ length s.now.blocks }
+    ensures { IfOk result (λ a. IsNormalForm g.now s.now a) }
+{
+    let from = g.blocks.as_slice();
+    let tables = live_tables(alloc, from, slots_of(s.names.as_slice()))?;
+    let blocks = all_blocks(alloc, tables.as_slice(), from, s.blocks.as_slice())?;
+    Ok(Anf { blocks })
+}
+
+/// Calls for ways: the normal form of an SSA form. The parameters of a block are the names of slots that are read before they are set on some way
+/// from there.
+pub fn to_calls(alloc: Global, g: &Goto, s: &Ssa) -> Result<Anf, NoMemory>
+    requires named { IsNamed g.now s.now }
+    ensures called { IfOk result (λ a. Called g.now s.now a) }
+    ensures useful { IfOk result (λ a. UsefulParameters a) }
+    ensures short { IfOk result (λ a. (n : ℕ) → SsaWithin n s.now → AnfWithin n a) }
+{
+    Ok(normal_form(alloc, g, s)?)
+}

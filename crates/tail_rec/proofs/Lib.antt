@@ -1,0 +1,14 @@
+pub mod Lists
+pub mod Counts
+pub mod OneCaller
+pub mod Steps
+pub mod Walks
+pub mod Walking
+pub mod Labelled
+pub mod Deep
+pub mod LabelsFit
+pub mod Widths
+pub mod Placing
+pub mod Rooms
+pub mod PlacedLoop
+pub mod ColumnsFit

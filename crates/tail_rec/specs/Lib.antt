@@ -1,0 +1,4 @@
+pub mod Callers
+pub mod Walk
+pub mod Columns
+pub mod TailForm
