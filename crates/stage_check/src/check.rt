@@ -1,9 +1,9 @@
 //! The checks of all stages.
 
-ghost use Rattle.std.specs.Prelude.{◌≡◌, List, map, length, IfOk};
+ghost use Rattle.std.specs.Prelude.{◌≡◌, IfOk};
 ghost use Rattle.away_trees.specs.declared.statements.Function.{Function};
 ghost use Rattle.away_types.specs.CheckedFunctions.{IsChecked};
-ghost use Rattle.equivalence.specs.Equivalent.{Equivalent};
+ghost use Rattle.equivalence.specs.Accepted.{EquivalentWith};
 ghost use Rattle.stage_check.specs.declared.verdict.Verdict.TheVariants.{Accepted};
 ghost use Rattle.stage_check.specs.Verdicts.{Judges, between};
 
