@@ -1,8 +1,8 @@
 -- What is written for a part of a certificate spells that part again, where its own parts do.
-use Rattle.std.proofs.Common.{◌≡◌, ℕ, List, [], ◌∷◌, Option, Some, None, refl}
+use Rattle.std.proofs.Common.{◌≡◌, ℕ, List, Some, refl}
 use Rattle.block_forms.specs.declared.forms.End.TheVariants.{Jump, Branch, Return, Fail}
 use Rattle.call_forms.specs.declared.forms.CallEnd.TheVariants as calls
-use Rattle.cert_json.specs.Forms.{Class, Term, End, Block, Phi, SsaBlock, Call, CallEnd, AnfBlock}
+use Rattle.cert_json.specs.Forms.{Class, Term, Block, Phi, SsaBlock, Call, AnfBlock}
 use Rattle.cert_json.specs.Spellings.{class_in, four_in, list_in, many, number_in, pair_in, three_in, two_in}
 use Rattle.cert_json.specs.Ends.{assignment_in, branch_in, call_end_in, call_end_of, call_in, end_in, end_of, headed, pick_in, set_in, term_in}
 use Rattle.cert_json.specs.Blocks.{anf_block_in, block_in, phi_in, ssa_block_in}

@@ -1,13 +1,13 @@
 -- A certificate's value is shallow, and it has no float.
-use Rattle.std.proofs.Common.{◌≡◌, ℕ, zero, suc, ◌≤◌, max, Bool, true, false, ◌||◌, List, [], ◌∷◌, map, Option, Some, None, cond, refl, arith, rules}
-use Rattle.serde_json.specs.Data.{Data, null, boolean, number, string, array, object, Items, no_items, item, Members, no_members, member, depth, items_depth, members_depth}
+use Rattle.std.proofs.Common.{◌≡◌, ℕ, suc, ◌≤◌, Bool, true, false, ◌||◌, List, [], ◌∷◌, map, Option, Some, None, cond, refl, arith}
+use Rattle.serde_json.specs.Data.{Data, null, boolean, string, array, object, Items, no_items, item, Members, no_members, member, depth, items_depth, members_depth}
 use Rattle.serde_json.specs.Read.{max_depth}
 use Rattle.serde_json.specs.View.{items_of}
 use Rattle.serde_json.specs.Written.{has_float, items_have_float, members_have_float}
 use Rattle.block_forms.specs.declared.forms.End.TheVariants.{Jump, Branch, Return, Fail}
 use Rattle.call_forms.specs.declared.forms.CallEnd.TheVariants as calls
 use Rattle.cert_json.specs.declared.cert.Cert.{Cert}
-use Rattle.cert_json.specs.Forms.{Class, Ty, Term, End, Block, Goto, Phi, SsaBlock, Ssa, Call, CallEnd, AnfBlock, Anf, Tail}
+use Rattle.cert_json.specs.Forms.{Class, Ty, Term, End, Block, Goto, Phi, SsaBlock, Ssa, CallEnd, AnfBlock, Anf}
 use Rattle.cert_json.specs.Spellings.{is_code}
 use Rattle.cert_json.specs.Written.{anf_block_data, anf_data, block_data, call_end_data, cert_data, class_data, end_data, goto_data, many_data, number_data, pair_data, phi_data, set_data, ssa_block_data, ssa_data, type_data}
 

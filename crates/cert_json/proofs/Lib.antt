@@ -4,3 +4,4 @@ pub mod Codes
 pub mod Again
 pub mod FormsAgain
 pub mod Flat
+pub mod FieldByField

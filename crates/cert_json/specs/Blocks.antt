@@ -1,5 +1,5 @@
 -- How JSON spells blocks.
-use Rattle.std.specs.Prelude.{ℕ, List, Option, Some, None}
+use Rattle.std.specs.Prelude.{Option, Some}
 use Rattle.serde_json.specs.Data.{Data}
 use Rattle.serde_json.specs.Find.{as_bool}
 use Rattle.cert_json.specs.Forms.{Block, Phi, SsaBlock, AnfBlock}

@@ -6,3 +6,4 @@ pub mod Certificates
 pub mod Given
 pub mod Written
 pub mod Writable
+pub mod FirstLaws

@@ -1,11 +1,11 @@
 -- What a certificate may spell: classes of five digits or upper-case letters, and columns of the types that have a name in certificates.
-use Rattle.std.specs.Prelude.{◌≡◌, ℕ, true, List, Option, Some, None}
+use Rattle.std.specs.Prelude.{◌≡◌, true}
 use Rattle.std.specs.List.{AllByRecursion}
 use Rattle.away_values.specs.declared.types.Ty.TheVariants as ty
 use Rattle.block_forms.specs.declared.forms.End.TheVariants.{Jump, Branch, Return, Fail}
 use Rattle.call_forms.specs.declared.forms.CallEnd.TheVariants as calls
 use Rattle.cert_json.specs.declared.cert.Cert.{Cert}
-use Rattle.cert_json.specs.Forms.{Class, Ty, Term, End, Block, SsaBlock, CallEnd, AnfBlock}
+use Rattle.cert_json.specs.Forms.{Class, Ty, End, CallEnd}
 use Rattle.cert_json.specs.Spellings.{is_code}
 
 abbrev pub HasCode : Class → Type 0

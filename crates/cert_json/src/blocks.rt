@@ -1,16 +1,15 @@
 //! Blocks from JSON.
 
-ghost use Rattle.std.specs.Prelude.{◌≡◌};
 ghost use Rattle.serde_json.specs.View.{view};
 ghost use Rattle.cert_json.specs.Given.{Gives};
 ghost use Rattle.cert_json.specs.Blocks.{anf_block_in, block_in, phi_in, ssa_block_in};
 
 use crate::decode::{Decode, number};
 use crate::ends::{call_end, end, set};
-use block_forms::{Block, Phi, SsaBlock};
-use call_forms::AnfBlock;
 use crate::misfit::Misfit;
 use crate::parts::{four, three, truth, two};
+use block_forms::{Block, Phi, SsaBlock};
+use call_forms::AnfBlock;
 use serde_json::Value;
 use sqlite_items::Items;
 use std::alloc::Global;

@@ -10,9 +10,9 @@ ghost use Rattle.cert_json.specs.Writable.{CallEndHasCode, EndHasCode, HasCode};
 ghost use Rattle.cert_json.specs.Written.{call_end_data, end_data, fail_data, return_data, set_data};
 
 use crate::encode::{class, list, number, numbers};
+use away_values::Class;
 use block_forms::{End, Term};
 use call_forms::{Call, CallEnd};
-use away_values::Class;
 use serde_json::Value;
 use std::alloc::{AllocError, Global};
 

@@ -1,16 +1,16 @@
 //! Assignments and the ends of blocks from JSON.
 
-ghost use Rattle.std.specs.Prelude.{◌≡◌, map};
+ghost use Rattle.std.specs.Prelude.{map};
 ghost use Rattle.serde_json.specs.View.{view};
 ghost use Rattle.cert_json.specs.Given.{Gives};
 ghost use Rattle.cert_json.specs.Ends.{assignment_in, branch_in, call_end_in, call_end_of, call_in, end_in, end_of, fail_in, go_in, jump_in, pick_in, return_in, set_in, term_in};
 
 use crate::decode::{Decode, number};
-use block_forms::{End, Term};
-use call_forms::{Call, CallEnd};
 use crate::misfit::Misfit;
 use crate::parts::{class, headed, three};
 use away_values::Class;
+use block_forms::{End, Term};
+use call_forms::{Call, CallEnd};
 use serde_json::Value;
 use sqlite_items::Items;
 use std::alloc::Global;

@@ -1,6 +1,6 @@
 //! The parts of a JSON value: the items of a list, and words.
 
-ghost use Rattle.std.specs.Prelude.{◌≡◌, map, length, bytes_eq, codes};
+ghost use Rattle.std.specs.Prelude.{◌≡◌, map, length};
 ghost use Rattle.std.specs.List.{list_all};
 ghost use Rattle.serde_json.specs.Find.{as_bool, as_str};
 ghost use Rattle.serde_json.specs.View.{view};

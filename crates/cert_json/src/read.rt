@@ -1,6 +1,6 @@
 //! Certificates from bytes.
 
-ghost use Rattle.std.specs.Prelude.{◌≡◌, IfOk, IfErr, option_map, option_and_then, codes};
+ghost use Rattle.std.specs.Prelude.{◌≡◌, IfOk, IfErr, option_map, option_and_then};
 ghost use Rattle.serde_json.specs.Find.{get};
 ghost use Rattle.serde_json.specs.View.{view};
 ghost use Rattle.cert_json.specs.Given.{Tells};
@@ -8,10 +8,10 @@ ghost use Rattle.cert_json.specs.Certificates.{Reads, Refuses, anf_in, cert_in, 
 
 use crate::cert::{Cert, CertField, CertRefusal};
 use crate::decode::Decode;
-use block_forms::{Block, Goto, Ssa, SsaBlock};
-use call_forms::{Anf, AnfBlock, Tail};
 use crate::misfit::Misfit;
 use away_values::Ty;
+use block_forms::{Block, Goto, Ssa, SsaBlock};
+use call_forms::{Anf, AnfBlock, Tail};
 use serde_json::Value;
 use sqlite_items::Items;
 use std::alloc::Global;

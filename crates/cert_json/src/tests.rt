@@ -5,7 +5,8 @@ use std::alloc::{AllocError, Global};
 use std::test::Fail;
 
 // a function of one test: `IF a > 0 THEN RETURN 1; END IF; RETURN 2;`
-static SIGN: &str = "{\"goto\":{\"entry\":0,\"end\":4,\"nodes\":[1,1,1,1,2,3],\"blocks\":[[false,null,[\"jump\",1]],[\
+static SIGN: &str =
+    "{\"goto\":{\"entry\":0,\"end\":4,\"nodes\":[1,1,1,1,2,3],\"blocks\":[[false,null,[\"jump\",1]],[\
     false,null,[\"branch\",0,[0],2,3]],[false,null,[\"return\",1,[]]],[false,null,[\"return\",2,[]]]\
     ,[false,null,[\"fail\",\"2F005\"]]]},\"ssa\":{\"names\":[0],\"blocks\":[[[[0,0]],[],null,[\"jump\
     \",1]],[[[0,0]],[],null,[\"branch\",0,[0],2,3]],[[],[],null,[\"return\",1,[]]],[[],[],null,[\"re\
@@ -15,7 +16,8 @@ static SIGN: &str = "{\"goto\":{\"entry\":0,\"end\":4,\"nodes\":[1,1,1,1,2,3],\"
     [0],[0]]}";
 
 // the same, with the names in their order
-static SORTED: &str = "{\"anf\":{\"blocks\":[[[0],null,[\"call\",1,[0]]],[[0],null,[\"if\",0,[0],2,[],3,[]]],[[],null,[\
+static SORTED: &str =
+    "{\"anf\":{\"blocks\":[[[0],null,[\"call\",1,[0]]],[[0],null,[\"if\",0,[0],2,[],3,[]]],[[],null,[\
     \"return\",1,[]]],[[],null,[\"return\",2,[]]],[[],null,[\"fail\",\"2F005\"]]]},\"columns\":[\"bi\
     gint\"],\"goto\":{\"blocks\":[[false,null,[\"jump\",1]],[false,null,[\"branch\",0,[0],2,3]],[fal\
     se,null,[\"return\",1,[]]],[false,null,[\"return\",2,[]]],[false,null,[\"fail\",\"2F005\"]]],\"e\
@@ -25,7 +27,8 @@ static SORTED: &str = "{\"anf\":{\"blocks\":[[[0],null,[\"call\",1,[0]]],[[0],nu
     s\":[0]}}";
 
 // a loop, and each part of a certificate at least once
-static LOOP: &str = "{\"anf\":{\"blocks\":[[[0],null,[\"call\",1,[0]]],[[0],[1,14,[0]],[\"call\",2,[1,0]]],[[2,0],nul\
+static LOOP: &str =
+    "{\"anf\":{\"blocks\":[[[0],null,[\"call\",1,[0]]],[[0],[1,14,[0]],[\"call\",2,[1,0]]],[[2,0],nul\
     l,[\"if\",0,[2,0],3,[2,0],4,[2]]],[[2,0],[3,12,[2]],[\"call\",2,[3,0]]],[[2],null,[\"return\",1,\
     [2]]],[[],null,[\"fail\",\"ZZZZZ\"]]]},\"columns\":[\"bigint\",\"boolean\",\"text\"],\"goto\":{\
     \"blocks\":[[false,null,[\"jump\",1]],[false,[0,14,[1]],[\"jump\",2]],[true,null,[\"branch\",0,[\
@@ -66,41 +69,105 @@ static EDITS: [(&str, &str, CertField); 44] = [
     ("\"entry\":0", "\"entry\":1.0", CertField::GotoEntry),
     ("\"entry\":0", "\"entry\":1e3", CertField::GotoEntry),
     ("\"entry\":0", "\"entry\":\"0\"", CertField::GotoEntry),
-    ("\"entry\":0", "\"entry\":18446744073709551616", CertField::GotoEntry),
+    (
+        "\"entry\":0",
+        "\"entry\":18446744073709551616",
+        CertField::GotoEntry,
+    ),
     ("\"entry\":0,\"end\":4", "\"entry\":0", CertField::GotoEnd),
     ("\"end\":4", "\"end\":null", CertField::GotoEnd),
     ("\"nodes\":[1,", "\"nodes\":[null,", CertField::GotoNodes),
-    ("\"nodes\":[1,1,1,1,2,3]", "\"nodes\":{}", CertField::GotoNodes),
-    ("[false,null,[\"jump\",1]]", "[0,null,[\"jump\",1]]", CertField::GotoBlocks),
-    ("[false,null,[\"jump\",1]]", "[false,[\"jump\",1]]", CertField::GotoBlocks),
-    ("[false,null,[\"jump\",1]]", "[false,null,[\"jump\",1],0]", CertField::GotoBlocks),
-    ("[false,null,[\"jump\",1]]", "[false,[0,1],[\"jump\",1]]", CertField::GotoBlocks),
-    ("[false,null,[\"jump\",1]]", "[false,false,[\"jump\",1]]", CertField::GotoBlocks),
+    (
+        "\"nodes\":[1,1,1,1,2,3]",
+        "\"nodes\":{}",
+        CertField::GotoNodes,
+    ),
+    (
+        "[false,null,[\"jump\",1]]",
+        "[0,null,[\"jump\",1]]",
+        CertField::GotoBlocks,
+    ),
+    (
+        "[false,null,[\"jump\",1]]",
+        "[false,[\"jump\",1]]",
+        CertField::GotoBlocks,
+    ),
+    (
+        "[false,null,[\"jump\",1]]",
+        "[false,null,[\"jump\",1],0]",
+        CertField::GotoBlocks,
+    ),
+    (
+        "[false,null,[\"jump\",1]]",
+        "[false,[0,1],[\"jump\",1]]",
+        CertField::GotoBlocks,
+    ),
+    (
+        "[false,null,[\"jump\",1]]",
+        "[false,false,[\"jump\",1]]",
+        CertField::GotoBlocks,
+    ),
     ("[\"jump\",1]", "[\"jump\"]", CertField::GotoBlocks),
     ("[\"jump\",1]", "[\"Jump\",1]", CertField::GotoBlocks),
     ("[\"jump\",1]", "[\"call\",1,[]]", CertField::GotoBlocks),
     ("[\"jump\",1]", "[]", CertField::GotoBlocks),
-    ("[\"branch\",0,[0],2,3]", "[\"branch\",0,[0],2]", CertField::GotoBlocks),
-    ("[\"return\",1,[]]", "[\"return\",1,0]", CertField::GotoBlocks),
+    (
+        "[\"branch\",0,[0],2,3]",
+        "[\"branch\",0,[0],2]",
+        CertField::GotoBlocks,
+    ),
+    (
+        "[\"return\",1,[]]",
+        "[\"return\",1,0]",
+        CertField::GotoBlocks,
+    ),
     ("\"2F005\"", "\"2f005\"", CertField::GotoBlocks),
     ("\"2F005\"", "\"2F00\"", CertField::GotoBlocks),
     ("\"2F005\"", "\"2F0050\"", CertField::GotoBlocks),
     ("\"ssa\":{", "\"s\":{", CertField::SsaNames),
     ("\"names\":[0]", "\"names\":[[0]]", CertField::SsaNames),
-    ("\"blocks\":[[[[0,0]],[],null,[\"jump\",1]]", "\"blocks\":[[[[0]],[],null,[\"jump\",1]]", CertField::SsaBlocks),
-    ("\"blocks\":[[[[0,0]],[],null,[\"jump\",1]]", "\"blocks\":[[[[0,0]],[0],null,[\"jump\",1]]", CertField::SsaBlocks),
-    ("\"blocks\":[[[[0,0]],[],null,[\"jump\",1]]", "\"blocks\":[[[[0,0]],[[0]],null,[\"jump\",1]]", CertField::SsaBlocks),
-    ("\"blocks\":[[[[0,0]],[],null,[\"jump\",1]]", "\"blocks\":[[[[0,0]],[],[\"jump\",1]]", CertField::SsaBlocks),
+    (
+        "\"blocks\":[[[[0,0]],[],null,[\"jump\",1]]",
+        "\"blocks\":[[[[0]],[],null,[\"jump\",1]]",
+        CertField::SsaBlocks,
+    ),
+    (
+        "\"blocks\":[[[[0,0]],[],null,[\"jump\",1]]",
+        "\"blocks\":[[[[0,0]],[0],null,[\"jump\",1]]",
+        CertField::SsaBlocks,
+    ),
+    (
+        "\"blocks\":[[[[0,0]],[],null,[\"jump\",1]]",
+        "\"blocks\":[[[[0,0]],[[0]],null,[\"jump\",1]]",
+        CertField::SsaBlocks,
+    ),
+    (
+        "\"blocks\":[[[[0,0]],[],null,[\"jump\",1]]",
+        "\"blocks\":[[[[0,0]],[],[\"jump\",1]]",
+        CertField::SsaBlocks,
+    ),
     ("\"anf\":{", "\"a\":{", CertField::AnfBlocks),
     ("[\"call\",1,[0]]", "[\"jump\",1]", CertField::AnfBlocks),
     ("[\"call\",1,[0]]", "[\"call\",1]", CertField::AnfBlocks),
-    ("[\"if\",0,[0],2,[],3,[]]", "[\"if\",0,[0],2,[],3]", CertField::AnfBlocks),
-    ("[\"if\",0,[0],2,[],3,[]]", "[\"branch\",0,[0],2,3]", CertField::AnfBlocks),
+    (
+        "[\"if\",0,[0],2,[],3,[]]",
+        "[\"if\",0,[0],2,[],3]",
+        CertField::AnfBlocks,
+    ),
+    (
+        "[\"if\",0,[0],2,[],3,[]]",
+        "[\"branch\",0,[0],2,3]",
+        CertField::AnfBlocks,
+    ),
     ("\"labels\"", "\"label\"", CertField::Labels),
     ("\"labels\":[3,", "\"labels\":[true,", CertField::Labels),
     ("\"bigint\"", "\"integer\"", CertField::Columns),
     ("\"bigint\"", "\"BIGINT\"", CertField::Columns),
-    ("\"columns\":[\"bigint\"]", "\"columns\":\"bigint\"", CertField::Columns),
+    (
+        "\"columns\":[\"bigint\"]",
+        "\"columns\":\"bigint\"",
+        CertField::Columns,
+    ),
     ("\"places\":[[],", "\"places\":[0,", CertField::Places),
     (",\"places\"", ",\"spaces\"", CertField::Places),
 ];
@@ -115,7 +182,10 @@ fn the_first_field_without_its_shape_is_told(rt: HostRuntime) -> Result<(), Fail
         );
     }
     for text in ["{}", "[]", "null", "7", "{\"goto\":[]}"] {
-        assert!(rt; refusal(rt.alloc(), text) == Some(CertRefusal::Field(CertField::GotoEntry)), "{text}");
+        assert!(rt;
+            refusal(rt.alloc(), text) == Some(CertRefusal::Field(CertField::GotoEntry)),
+            "{text}"
+        );
     }
     Ok(())
 }
@@ -123,7 +193,10 @@ fn the_first_field_without_its_shape_is_told(rt: HostRuntime) -> Result<(), Fail
 #[test]
 fn what_is_no_json_is_told(rt: HostRuntime) -> Result<(), Fail> {
     for text in ["", "{", "{}{}", "{\"goto\":}", "'"] {
-        assert!(rt; refusal(rt.alloc(), text) == Some(CertRefusal::NotJson), "{text}");
+        assert!(rt;
+            refusal(rt.alloc(), text) == Some(CertRefusal::NotJson),
+            "{text}"
+        );
     }
     let bytes = SIGN.as_bytes();
     let cut = read_cert(rt.alloc(), &bytes[..bytes.len() - 1]);

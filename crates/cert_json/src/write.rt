@@ -10,9 +10,9 @@ ghost use Rattle.cert_json.specs.Written.{anf_data, cert_data, goto_data, ssa_da
 
 use crate::cert::Cert;
 use crate::encode::{Encode, lists, number, numbers};
+use away_values::NoMemory;
 use block_forms::{Goto, Ssa};
 use call_forms::Anf;
-use away_values::NoMemory;
 use serde_json::{Value, json};
 use std::alloc::{AllocError, Global};
 

@@ -1,7 +1,4 @@
-use Rattle.std.proofs.Common.{Some, sym, ◌∙◌}
-use Rattle.cert_json.specs.Writable.{HasCode}
-use Rattle.cert_json.specs.Spellings.{class_in}
-use Rattle.cert_json.specs.Written.{class_data}
+use Rattle.std.proofs.Common.{sym, ◌∙◌}
 use Rattle.cert_json.proofs.Codes.{class_again, code_is_text, whenever}
 use Rattle.cert_json.proofs.encode.class.Goals as goal
 
