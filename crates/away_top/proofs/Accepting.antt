@@ -79,8 +79,7 @@ module _ {D : Type 0} (F : Files D) where
       (λ bytes. (silent_refusal cert (RefusesCert bytes), λ w. tt)) from_query in
       let certified = cert_read q.middle c.middle cert c.given c.first in
       let end = subst (λ c'. IsJudgedSo tables called question c' status output) certified.is c.rest.how in
-      let all = good tables judged.bytes judged.called question certified.certificate.cert status output done end in
-      (
+      let all = good tables judged.bytes judged.called question certified.certificate.cert status output done end in (
         record {
           schema_bytes = read.bytes;
           holds_schema = read.are_its;

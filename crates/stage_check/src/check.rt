@@ -27,7 +27,7 @@ pub fn check_all(
     c: &Cert,
 ) -> Result<Verdict, NoMemory>
     ensures exact { IfOk result (Judges (between s.now.schema f.now.function f.now.slots c.now q.now.query)) }
-    ensures equivalent { IfOk result (λ v. v ≡ Accepted → (written : Function) → IsChecked s.now.schema written f.now.function f.now.slots → Equivalent s.now.schema f.now.function f.now.slots q.now.query) }
+    ensures equivalent { IfOk result (λ v. v ≡ Accepted → (written : Function) → IsChecked s.now.schema written f.now.function f.now.slots → EquivalentWith s.now.schema f.now.function f.now.slots q.now.query) }
 {
     accepted_forms_are_equivalent(f);
     if !check_lowered(f, &c.goto) {

@@ -6,4 +6,3 @@ mod verdict;
 
 pub use check::check_all;
 pub use verdict::{Relation, Verdict};
-
