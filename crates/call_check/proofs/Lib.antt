@@ -1,3 +1,4 @@
 pub mod Phis
 pub mod SameLists
 pub mod Counting
+pub mod Seeking

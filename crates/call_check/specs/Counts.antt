@@ -10,9 +10,9 @@ times (x ∷ xs) b = one_of (nat_eq x b) + times xs b
 -- the table has the count of each number below n
 pub record CountsOf (n : ℕ) (count : ℕ → ℕ) (table : List ℕ) : Type 0 where
   pub sized : length table ≡ n
-  pub each : (b : ℕ) → b < n → get_or table b 0 ≡ min 2 (count b)
+  pub each : (b : ℕ) → b < n → min 2 (get_or table b 0) ≡ min 2 (count b)
 
 -- one table after the other, where b was counted once more
 pub record CountedOnce (b : ℕ) (before after : List ℕ) : Type 0 where
   pub sized : length after ≡ length before
-  pub each : (c : ℕ) → c < length before → get_or after c 0 ≡ min 2 (get_or before c 0 + one_of (nat_eq b c))
+  pub each : (c : ℕ) → c < length before → min 2 (get_or after c 0) ≡ min 2 (get_or before c 0 + one_of (nat_eq b c))

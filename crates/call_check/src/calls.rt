@@ -22,12 +22,12 @@ fn passes_names(phis: &[Phi], b: usize, params: &[u32], args: &[u32]) -> bool
         .all(|(name, taken)| takes(phis, b, *name, *taken))
 }
 
-fn passes(b: usize, y: Option<&SsaBlock>, x: Option<&AnfBlock>, args: &[u32]) -> bool
-    ensures { IsTrue result ↔ Passes b y x args.now }
+fn passes(b: usize, ys: &[SsaBlock], xs: &[AnfBlock], c: u32, args: &[u32]) -> bool
+    ensures { IsTrue result ↔ Passes b (slice_get ys.now c) (slice_get xs.now c) args.now }
 {
-    match y {
+    match ys.get(c as usize) {
         None => false,
-        Some(y) => match x {
+        Some(y) => match xs.get(c as usize) {
             None => false,
             Some(x) => passes_names(y.phis.as_slice(), b, x.params.as_slice(), args),
         },
@@ -43,8 +43,9 @@ fn is_call_of(s: &Ssa, a: &Anf, b: usize, c: u32, call: &Call) -> bool
     }
     passes(
         b,
-        s.blocks.as_slice().get(c as usize),
-        a.blocks.as_slice().get(c as usize),
+        s.blocks.as_slice(),
+        a.blocks.as_slice(),
+        c,
         call.args.as_slice(),
     )
 }

@@ -51,28 +51,19 @@ fn is_typed(slots: &[Slot], names: &[u32], columns: &[Ty], p: u32, c: u32) -> bo
     has_type(type_of_name(slots, names, p), column_at(columns, c))
 }
 
-fn all_typed(
-    slots: &[Slot],
-    names: &[u32],
-    columns: &[Ty],
-    params: &[u32],
-    places: &[u32],
-) -> bool
+fn all_typed(slots: &[Slot], names: &[u32], columns: &[Ty], params: &[u32], places: &[u32]) -> bool
+    requires { length params.now ≡ length places.now }
     ensures { IsTrue result ↔ EachPair (λ i p c. HasType (type_of_name slots.now names.now p) (slice_get columns.now c)) params.now places.now }
 {
-    params
-        .iter()
-        .zip(places)
-        .all(|(p, c)| is_typed(slots, names, columns, *p, *c))
+    for i in 0..params.len() {
+        if !is_typed(slots, names, columns, params[i], places[i]) {
+            return false;
+        }
+    }
+    true
 }
 
-fn places_of(
-    slots: &[Slot],
-    names: &[u32],
-    columns: &[Ty],
-    params: &[u32],
-    places: &[u32],
-) -> bool
+fn places_of(slots: &[Slot], names: &[u32], columns: &[Ty], params: &[u32], places: &[u32]) -> bool
     ensures { IsTrue result ↔ PlacesOf slots.now names.now columns.now params.now places.now }
 {
     if places.len() != params.len() {
@@ -88,12 +79,13 @@ fn places_at(
     slots: &[Slot],
     names: &[u32],
     columns: &[Ty],
-    block: Option<&AnfBlock>,
+    blocks: &[AnfBlock],
+    label: u32,
     places: &[u32],
 ) -> bool
-    ensures { IsTrue result ↔ PlacesAt slots.now names.now columns.now block places.now }
+    ensures { IsTrue result ↔ PlacesAt slots.now names.now columns.now (slice_get blocks.now label) places.now }
 {
-    match block {
+    match blocks.get(label as usize) {
         None => false,
         Some(block) => places_of(slots, names, columns, block.params.as_slice(), places),
     }
@@ -116,7 +108,8 @@ pub(crate) fn all_places(
             slots,
             names,
             columns,
-            blocks.get(labels[i] as usize),
+            blocks,
+            labels[i],
             places[i].as_slice(),
         ) {
             return false;

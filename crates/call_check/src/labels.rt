@@ -1,6 +1,6 @@
 //! The checks of labels, over tables of how often blocks are labels and are called.
 
-ghost use Rattle.std.specs.Prelude.{◌≡◌, ℕ, ◌+◌, ◌<◌, ◌≤◌, ◌↔◌, IsTrue, IfOk, List, None, Option, length, get_or, min, replicate, slice_get};
+ghost use Rattle.std.specs.Prelude.{◌≡◌, ℕ, ◌+◌, ◌<◌, ◌≤◌, ◌↔◌, IsTrue, IfOk, List, None, Option, length, get_or, min, slice_get};
 ghost use Rattle.block_forms.specs.Places.{Each};
 ghost use Rattle.call_forms.specs.Forms.{label_of};
 ghost use Rattle.block_forms.specs.Runs.{is_head};
@@ -13,7 +13,7 @@ use std::alloc::{AllocError, Global};
 
 /// No number is counted.
 fn no_counts(alloc: Global, n: usize) -> Result<Vec<u8>, AllocError>
-    ensures { IfOk result (λ table. table.items ≡ replicate n 0) }
+    ensures { IfOk result (λ table. CountsOf n (λ b. 0) table.items) }
 {
     let mut table = Vec::new(alloc);
     for _number in 0..n {
@@ -57,7 +57,7 @@ pub(crate) fn label_counts(
 /// Counts the calls of an end.
 fn count_calls(table: &mut [u8], end: &CallEnd)
     ensures sized { length table.new ≡ length table.old }
-    ensures each { (b : ℕ) → b < length table.old → get_or table.new b 0 ≡ min 2 (get_or table.old b 0 + end_calls b end.now) }
+    ensures each { (b : ℕ) → b < length table.old → min 2 (get_or table.new b 0) ≡ min 2 (get_or table.old b 0 + end_calls b end.now) }
 {
     match end {
         CallEnd::Go(call) => count(table, call.target),

@@ -28,12 +28,7 @@ impl<'a> Stage for CallStage<'a> {
 
     ghost relation = { λ s x y. Called s.goto.now x.ssa.now y.anf.now };
 
-    fn check(
-        &self,
-        alloc: Global,
-        src: &SsaForm<'a>,
-        dst: &AnfForm<'a>,
-    ) -> Result<bool, NoMemory> {
+    fn check(&self, alloc: Global, src: &SsaForm<'a>, dst: &AnfForm<'a>) -> Result<bool, NoMemory> {
         check_called(alloc, self.goto, src.ssa, dst.anf)
     }
 

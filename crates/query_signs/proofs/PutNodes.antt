@@ -1,7 +1,6 @@
 -- The signs of each node, by those of its parts as the code puts them.
 use Rattle.std.proofs.Common.{◌≡◌, ℕ, Bool, List, [], ◌∷◌, map, Option, Some, None, option_map, refl, sym, ap, ◌∙◌}
 use Rattle.away_values.specs.declared.operators.ChainOp.{ChainOp}
-use Rattle.away_values.specs.declared.operators.CmpOp.{CmpOp}
 use Rattle.away_trees.specs.declared.queries.Expr.{Expr}
 use Rattle.away_trees.specs.declared.queries.Expr.TheVariants as expr
 use Rattle.away_trees.specs.declared.queries.Expr.TheViews.{roll-Select, roll-Recursive, roll-Query, out-Select, out-Recursive, out-Query, roll-out-Select, roll-out-Recursive, roll-out-Query}
@@ -117,7 +116,7 @@ module _ (m : Manner) where
   abbrev pub K : List Key → Put
   K keys = node kind.Order (row (λ x. key_of (shaping m) x) keys)
 
-  abbrev behind : Option Expr → List Key → Option Expr → Put
+  abbrev pub behind : Option Expr → List Key → Option Expr → Put
   behind filter order limit rest = O kind.Filter filter (K order (O kind.Limit limit (sign.Leave ∷ rest)))
 
   list_put : (list : List Item) (rest : Signs) → node kind.List (row itself (map (λ x. item_of (shaping m) x) list)) rest ≡ L list rest
@@ -154,17 +153,30 @@ both_put m Whole list from rest =
 both_put m Reading list from rest =
     list_put m list (node kind.From (row itself (map (λ x. from_of (shaping m) x) from)) rest) ∙ ap (λ z. L m list z) (from_put m from rest)
 
+pub rolled_select : (m : Manner) (list : List Item) (from : List FromItem) (filter : Option Expr) (order : List Key) (limit : Option Expr) (rest : Signs)
+    → sign.Enter ∷ list_and_from m (L m list) (F m from) (behind m filter order limit rest)
+    ≡ select_of (shaping m) (roll-Select (record { list = list; from = from; filter = filter; order = order; limit = limit })) rest
+rolled_select m list from filter order limit rest =
+    sym
+    (ap (λ p. p rest) (eq.of_select (shaping m) list from filter order limit)
+    ∙ ((λ i. sign.Enter ∷ list_and_from m (node kind.List (row itself (map (λ x. item_of (shaping m) x) list))) (node kind.From (row itself (map (λ x. from_of (shaping m) x) from))) (behind_put m filter order limit rest i))
+    ∙ ap (λ z. sign.Enter ∷ z) (both_put m m list from (behind m filter order limit rest))))
+
 pub select_is : (m : Manner) (s : Select) (order : List Key) → order ≡ (out-Select s).order → (rest : Signs)
     → sign.Enter ∷ list_and_from m (L m (out-Select s).list) (F m (out-Select s).from) (behind m (out-Select s).filter order (out-Select s).limit rest)
     ≡ select_of (shaping m) s rest
 select_is m s order g rest =
     let v = out-Select s in
     (λ i. sign.Enter ∷ list_and_from m (L m v.list) (F m v.from) (behind m v.filter (g i) v.limit rest))
-    ∙ sym
-    (ap (λ s. select_of (shaping m) s rest) (sym (roll-out-Select s))
-    ∙ (ap (λ p. p rest) (eq.of_select (shaping m) v.list v.from v.filter v.order v.limit)
-    ∙ ((λ i. sign.Enter ∷ list_and_from m (node kind.List (row itself (map (λ x. item_of (shaping m) x) v.list))) (node kind.From (row itself (map (λ x. from_of (shaping m) x) v.from))) (behind_put m v.filter v.order v.limit rest i))
-    ∙ ap (λ z. sign.Enter ∷ z) (both_put m m v.list v.from (behind m v.filter v.order v.limit rest)))))
+    ∙ (rolled_select m v.list v.from v.filter v.order v.limit rest ∙ ap (λ s. select_of (shaping m) s rest) (roll-out-Select s))
+
+pub rolled_recursive : (m : Manner) (name : List ℕ) (columns : List (List ℕ)) (first : List Select) (second : Select) (rest : Signs)
+    → sign.Open kind.Recursive ∷ sign.Open kind.First ∷ row (λ s. select_of (shaping m) s) first (sign.Close ∷ select_of (shaping m) second (sign.Close ∷ rest))
+    ≡ recursive_of (shaping m) (roll-Recursive (record { name = name; columns = columns; first = first; second = second })) rest
+rolled_recursive m name columns first second rest =
+    let behind = sign.Close ∷ select_of (shaping m) second (sign.Close ∷ rest) in
+    ap (λ z. sign.Open kind.Recursive ∷ sign.Open kind.First ∷ z) (sym (row_map itself (λ s. select_of (shaping m) s) first behind))
+    ∙ sym (ap (λ f. f rest) (eq.of_recursive (shaping m) name columns first second))
 
 pub recursive_is : (m : Manner) (r : Recursive) (first : List Select) → first ≡ (out-Recursive r).first → (rest : Signs)
     → sign.Open kind.Recursive ∷ sign.Open kind.First ∷ row (λ s. select_of (shaping m) s) first (sign.Close ∷ select_of (shaping m) (out-Recursive r).second (sign.Close ∷ rest))
@@ -190,3 +202,16 @@ query_is m q selects e rest =
     ∙ (ap (λ z. sign.Open kind.Query ∷ sign.Open kind.With ∷ with_put m v.recursive (sign.Close ∷ z)) (sym (row_map itself (λ s. select_of (shaping m) s) v.selects (sign.Close ∷ rest)))
     ∙ (ap (λ z. sign.Open kind.Query ∷ sign.Open kind.With ∷ z) (sym (with_is m v.recursive (sign.Close ∷ row itself (map (λ s. select_of (shaping m) s) v.selects) (sign.Close ∷ rest))))
     ∙ sym (ap (λ q. query_of (shaping m) q rest) (sym (roll-out-Query q)) ∙ ap (λ f. f rest) (eq.query_roll (shaping m) v.recursive v.selects))))
+
+-- ---- a query of its parts
+
+abbrev pub with_puts : Option Recursive → Put
+with_puts = with_put Whole
+
+pub rolled_query : (r : Option Recursive) (selects : List Select) (rest : Signs)
+    → sign.Open kind.Query ∷ sign.Open kind.With ∷ with_puts r (sign.Close ∷ row (λ s. select_of (shaping Whole) s) selects (sign.Close ∷ rest))
+    ≡ query_of (shaping Whole) (roll-Query (record { recursive = r; selects = selects })) rest
+rolled_query r selects rest =
+    ap (λ z. sign.Open kind.Query ∷ sign.Open kind.With ∷ with_puts r (sign.Close ∷ z)) (sym (row_map itself (λ s. select_of (shaping Whole) s) selects (sign.Close ∷ rest)))
+    ∙ (ap (λ z. sign.Open kind.Query ∷ sign.Open kind.With ∷ z) (sym (with_is Whole r (sign.Close ∷ row itself (map (λ s. select_of (shaping Whole) s) selects) (sign.Close ∷ rest))))
+    ∙ sym (ap (λ f. f rest) (eq.query_roll (shaping Whole) r selects)))

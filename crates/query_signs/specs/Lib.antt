@@ -1,1 +1,4 @@
 pub mod Signs
+pub mod Telling
+pub mod Placing
+pub mod SlotsRead

@@ -328,7 +328,13 @@ pub fn tail(
 /// The tail form of an example: each block of the first is a label but the last, and of the second the entry and the loop.
 pub fn tail_of(rt: &(impl Abort + AllocGlobal), example: Example, edit: &mut Edit) -> Tail {
     match example {
-        Example::Sign => tail(rt, &[3, 2, 1, 0], &[Ty::Bigint], &[&[], &[], &[0], &[0]], edit),
+        Example::Sign => tail(
+            rt,
+            &[3, 2, 1, 0],
+            &[Ty::Bigint],
+            &[&[], &[], &[0], &[0]],
+            edit,
+        ),
         Example::Loop => tail(
             rt,
             &[0, 2],

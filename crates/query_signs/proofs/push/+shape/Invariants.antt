@@ -1,4 +1,3 @@
-use Rattle.std.proofs.Common.{drop}
 use Rattle.away_trees.specs.Algebra.{expr_of, item_of, from_of, key_of, select_of}
 use Rattle.query_signs.specs.Signs.{shaping, link_put, arm_put}
 use Rattle.query_signs.proofs.Putting.{RowLeads}
