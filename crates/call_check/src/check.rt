@@ -5,6 +5,7 @@ ghost use Rattle.block_forms.specs.Places.{Each, EachPair};
 ghost use Rattle.call_forms.specs.Called.{ParametersOf, ReadsOwn, BlockCalled, Called};
 ghost use Rattle.call_forms.specs.Columned.{Columned};
 ghost use Rattle.call_forms.specs.Merged.{Merged};
+ghost use Rattle.call_forms.specs.Templated.{Templated};
 
 use crate::calls::{block_called, entry_parameters};
 use crate::columns::all_places;
