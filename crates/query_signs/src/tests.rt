@@ -21,23 +21,6 @@ fn worded(rt: &(impl Abort + AllocGlobal), text: &str) -> Word {
     }
 }
 
-/// How many of the signs are of each sort: first ones, ends, selects, texts and names.
-fn counts(signs: &[Sign]) -> [usize; 5] {
-    let mut found = [0, 0, 0, 0, 0];
-    for sign in signs {
-        let sort = match sign {
-            Sign::Open(_) => 0,
-            Sign::Close => 1,
-            Sign::Enter => 2,
-            Sign::Leave => 2,
-            Sign::Text(_) => 3,
-            Sign::Name(_) => 4,
-        };
-        found[sort] += 1;
-    }
-    found
-}
-
 fn kinds(rt: &(impl Abort + AllocGlobal), signs: &[Sign]) -> Vec<Kind> {
     let mut found = Vec::new(rt.alloc());
     for sign in signs {
@@ -91,7 +74,7 @@ fn a_sum_is_its_first_term_and_its_links(rt: HostRuntime) {
     let first = Boxed::new(rt.alloc(), Expr::Slot(3)).expect(&rt, "memory");
     let sum = Expr::Chain(first, links);
     let signs = expr_signs(rt.alloc(), Manner::Whole, &sum).expect(&rt, "memory");
-    assert_eq!(rt; counts(signs.as_slice()), [4, 4, 0, 0, 0]);
+    assert_eq!(rt; signs.len(), 8);
     assert_eq!(rt;
         kinds(&rt, signs.as_slice()).as_slice(),
         [
@@ -109,7 +92,7 @@ fn a_text_stands_in_its_node(rt: HostRuntime) {
     let inner = Boxed::new(rt.alloc(), Expr::Str(worded(&rt, "ab"))).expect(&rt, "memory");
     let cast = Expr::Cast(inner, Ty::Text);
     let signs = expr_signs(rt.alloc(), Manner::Reading, &cast).expect(&rt, "memory");
-    assert_eq!(rt; counts(signs.as_slice()), [2, 2, 0, 1, 0]);
+    assert_eq!(rt; signs.len(), 5);
 }
 
 #[test]
@@ -121,7 +104,7 @@ fn from_comes_first_in_a_whole_query(rt: HostRuntime) {
     };
     let query = select(&rt, Expr::Column(column), "t");
     let signs = query_signs(rt.alloc(), &query).expect(&rt, "memory");
-    assert_eq!(rt; counts(signs.as_slice()), [9, 9, 2, 0, 1]);
+    assert_eq!(rt; signs.len(), 21);
     assert_eq!(rt;
         kinds(&rt, signs.as_slice()).as_slice(),
         [
@@ -169,5 +152,5 @@ fn a_long_list_has_a_sign_for_each(rt: HostRuntime) {
     }
     let call = Expr::Call(named(&rt, "coalesce"), list);
     let signs = expr_signs(rt.alloc(), Manner::Whole, &call).expect(&rt, "memory");
-    assert_eq!(rt; counts(signs.as_slice()), [20_001, 20_001, 0, 0, 1]);
+    assert_eq!(rt; signs.len(), 40_003);
 }
