@@ -17,7 +17,7 @@ use Rattle.away_top.specs.Acceptance.{Accepts, IsAccepted}
 use Rattle.away_top.specs.Answer.{Delivers}
 use Rattle.away_top.specs.Certificates.{IsCert, RefusesCert, cert_course}
 use Rattle.away_top.specs.CheckCourse.{IsJudgedSo, check_course, with_function, with_query, with_schema}
-use Rattle.away_top.specs.Commands.{course}
+use Rattle.away_top.specs.Commands.{course, other_command}
 use Rattle.away_top.specs.Course.{ends}
 use Rattle.away_top.specs.Files.{Callable, callable_of, function_course, schema_course}
 use Rattle.away_top.specs.Lines.{line}
@@ -99,6 +99,11 @@ module _ {D : Type 0} (F : Files D) where
         all.output_is,
       )
 
+of_check : {D : Type 0} (F : Files D) (old new : D) (schema func query cert text : List ℕ) (end : End ⊥)
+    → Follows F old (course (codes "check" ∷ schema ∷ func ∷ query ∷ cert ∷ []) text) new end → Follows F old (check_course schema func query cert) new end
+unfolding other_command
+of_check F old new schema func query cert text end h = h
+
 module _ {D K : Type 0} (F : Files D) (S : Sink K) (old new : D) (before after : K) (result : Status) where
   pub accepts : (words : List (List ℕ)) (text : List ℕ) (end : End ⊥) → Follows F old (course words text) new end → Delivers S before after result end → result ≡ Done
       → Accepts (F.held old) (S.written before) (S.written after) words
@@ -106,5 +111,6 @@ module _ {D K : Type 0} (F : Files D) (S : Sink K) (old new : D) (before after :
   accepts words text (goes_on never) h d done = absurd never
   accepts words text (ended status output) h (inr broken) done = absurd (let wrong : WriteFault ≡ Done = sym broken.status_is ∙ done in cc)
   accepts words text (ended status output) h (inl whole) done = λ schema func query cert is.
-      let found = accepted F old new schema func query cert status output (sym whole.status_is ∙ done) (subst (λ ws. Follows F old (course ws text) new (ended status output)) is h) in
+      let follows = of_check F old new schema func query cert text (ended status output) (subst (λ ws. Follows F old (course ws text) new (ended status output)) is h) in
+      let found = accepted F old new schema func query cert status output (sym whole.status_is ∙ done) follows in
       (found.0, subst (λ o. Appends (S.written before) (S.written after) o) found.1 whole.written)
