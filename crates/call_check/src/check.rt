@@ -5,14 +5,13 @@ ghost use Rattle.block_forms.specs.Places.{Each, EachPair};
 ghost use Rattle.call_forms.specs.Called.{ParametersOf, ReadsOwn, BlockCalled, Called};
 ghost use Rattle.call_forms.specs.Columned.{Columned};
 ghost use Rattle.call_forms.specs.Merged.{Merged};
-ghost use Rattle.call_forms.specs.Templated.{Templated};
 
 use crate::calls::{block_called, entry_parameters};
 use crate::columns::all_places;
 use crate::labels::{all_call_blocks, all_once, call_counts, label_counts, others_merge};
 use crate::numbers::{all_below, stands_in};
 use crate::reads::{has_parameters, reads_own};
-use away_types::{CheckedQuery, CheckedFunction, Slot};
+use away_types::{CheckedFunction, Slot};
 use away_values::NoMemory;
 use block_forms::{Goto, Ssa, SsaBlock};
 use call_forms::{Anf, AnfBlock, Tail};
@@ -109,11 +108,4 @@ pub fn check_columned(f: &CheckedFunction, s: &Ssa, a: &Anf, t: &Tail) -> bool
     ensures { IsTrue result ↔ Columned f.now.slots s.now a.now t.now }
 {
     is_columned(f.slots.as_slice(), s, a, t)
-}
-
-/// A stand-in.
-pub fn check_templated(alloc: Global, f: &CheckedFunction, g: &Goto, s: &Ssa, a: &Anf, t: &Tail, tables: usize, q: &CheckedQuery) -> Result<bool, NoMemory>
-    ensures { IfOk result (λ yes. IsTrue yes ↔ Templated f.now.function f.now.slots tables g.now s.now a.now t.now q.now.query) }
-{
-    Err(NoMemory)
 }

@@ -11,7 +11,7 @@ mod same;
 mod sources;
 mod stages;
 
-pub use check::{check_called, check_columned, check_merged, check_templated};
+pub use check::{check_called, check_columned, check_merged};
 pub use stages::{CallStage, MergeStage};
 
 #[cfg(test)]
