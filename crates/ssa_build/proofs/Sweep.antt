@@ -2,7 +2,7 @@
 use Rattle.std.proofs.Common.{◌≡◌, ◌⊎◌, ℕ, suc, ◌+◌, ◌<◌, ◌≤◌, Bool, true, false, List, [], ◌∷◌, length, slice_get, Some, refl, sym, subst, inl, inr, arith, nat_eq}
 use Rattle.std.proofs.lemmas.Option.{slice_get_within}
 use Rattle.ssa_build.specs.declared.joins.Join.{Join}
-use Rattle.ssa_build.specs.Joins.{IsReduced, Merging, Settled, Swept, Tried, one_if, roots}
+use Rattle.ssa_build.specs.Joins.{IsReduced, Merging, Settled, Swept, one_if, roots}
 use Rattle.ssa_build.proofs.Lists.{compared}
 
 abbrev pub Sweeping : List ℕ → List Join → List ℕ → List ℕ → ℕ → ℕ → ℕ → Type 0
@@ -34,31 +34,6 @@ swept slots joins old into merges count at le so = record { merging = so.0; coun
 -- a sweep that merges nothing was the last
 pub swept_last : (slots : List ℕ) (joins : List Join) (old new : List ℕ) (merges after : ℕ) → Swept slots joins old new merges after → after ≡ merges → Swept slots joins new new merges merges
 swept_last slots joins old new merges after s e = record { merging = subst (λ v. Merging slots joins new v) e s.merging; counted = refl; more = omega arith; reduced = λ same i j h. s.reduced e i j h }
-
--- ---- tries in another order
-
-abbrev pub Trying : List ℕ → List Join → List ℕ → List ℕ → ℕ → ℕ → Type 0
-Trying slots joins old into merges count = Merging slots joins into count × (roots into 0 + count ≡ roots old 0 + merges) × (merges ≤ count)
-
-pub tried_once : (slots : List ℕ) (joins : List Join) (old into : List ℕ) (merges count at : ℕ) → Trying slots joins old into merges count → (new : List ℕ) (b : Bool) → b ≡ true
-    → Settled slots joins at into new count b → (after : ℕ) → after ≡ count + 1 → Trying slots joins old new merges after
-tried_once slots joins old into merges count at so new b e s after is =
-    let s' : Settled slots joins at into new count true = subst (λ v. Settled slots joins at into new count v) e s in
-    (subst (λ v. Merging slots joins new v) (let q : suc count ≡ after = omega (arith, is) in q) s'.0, omega (arith, so.1, s'.1, is), omega (arith, so.2, is))
-
-pub tried_not : (slots : List ℕ) (joins : List Join) (old into : List ℕ) (merges count at : ℕ) → Trying slots joins old into merges count → (new : List ℕ) (b : Bool) → b ≡ false
-    → Settled slots joins at into new count b → (after : ℕ) → after ≡ count → Trying slots joins old new merges after
-tried_not slots joins old into merges count at so new b e s after is =
-    let s' : Settled slots joins at into new count false = subst (λ v. Settled slots joins at into new count v) e s in
-    subst (λ v. Trying slots joins old v merges after) (sym s'.0) (subst (λ v. Trying slots joins old into merges v) (sym is) so)
-
--- two sweeps that merge nothing were the last
-pub swept_twice : (slots : List ℕ) (joins : List Join) (old middle new : List ℕ) (merges back after : ℕ) → Tried slots joins old middle merges back → Swept slots joins middle new back after
-    → after ≡ merges → Swept slots joins new new merges merges
-swept_twice slots joins old middle new merges back after t s e =
-    let back_is : back ≡ merges = omega (arith, t.more, s.more, e) in
-    let same : after ≡ back = omega (arith, back_is, e) in
-    subst (λ v. Swept slots joins new new v v) back_is (swept_last slots joins middle new back after s same)
 
 pub roots_most : (into : List ℕ) (i : ℕ) → roots into i ≤ length into
 roots_most [] i = omega arith

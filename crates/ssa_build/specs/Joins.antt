@@ -64,12 +64,6 @@ abbrev pub Settled : List ℕ → List Join → ℕ → List ℕ → List ℕ �
 Settled slots joins at old new merges false = (new ≡ old) × ((j : Join) → slice_get joins at ≡ Some j → IsReduced old merges j)
 Settled slots joins at old new merges true = Merging slots joins new (suc merges) × (suc (roots new 0) ≡ roots old 0)
 
--- what tries at joins do, whichever they are
-pub record Tried (slots : List ℕ) (joins : List Join) (old new : List ℕ) (merges after : ℕ) : Type 0 where
-  pub merging : Merging slots joins new after
-  pub counted : roots new 0 + after ≡ roots old 0 + merges
-  pub more : merges ≤ after
-
 -- what a try at each join does
 pub record Swept (slots : List ℕ) (joins : List Join) (old new : List ℕ) (merges after : ℕ) : Type 0 where
   pub merging : Merging slots joins new after

@@ -1,7 +1,7 @@
 //! Joins that join one name only are merged into it.
 
 ghost use Rattle.std.specs.Prelude.{◌≡◌, ℕ, ◌+◌, ◌^◌, ◌<◌, ◌≤◌, length, get_or, IfOk};
-ghost use Rattle.ssa_build.specs.Joins.{IsRoot, IsWithin, Merged, Merging, Settled, Swept, Tells, Tried, WellFormed, roots, walk};
+ghost use Rattle.ssa_build.specs.Joins.{IsRoot, IsWithin, Merged, Merging, Settled, Swept, Tells, WellFormed, roots, walk};
 
 use sqlite_items::Items;
 use std::alloc::{AllocError, Global};
@@ -112,23 +112,6 @@ pub(crate) fn sweep(slots: &[u32], joins: &[Join], into: &mut [u32], merges: usi
     count
 }
 
-/// Tries each join once, the last first; the answer is the number of merges then. Joins stand in the order of their blocks, and what is merged in a loop's
-/// blocks is often merged in those of the loop around it then.
-pub(crate) fn sweep_back(slots: &[u32], joins: &[Join], into: &mut [u32], merges: usize) -> usize
-    requires formed { WellFormed slots.now joins.now }
-    requires merging { Merging slots.now joins.now into.old merges }
-    requires room { roots into.old 0 + merges ≤ length into.old }
-    ensures { Tried slots.now joins.now into.old into.new merges result }
-{
-    let mut count = merges;
-    for step in 0..joins.len() {
-        if settle(slots, joins, joins.len() - 1 - step, into, count) {
-            count += 1;
-        }
-    }
-    count
-}
-
 /// Merges joins until none that is left joins one name only.
 pub(crate) fn merge_all(slots: &[u32], joins: &[Join], into: &mut [u32]) -> usize
     requires formed { WellFormed slots.now joins.now }
@@ -138,8 +121,7 @@ pub(crate) fn merge_all(slots: &[u32], joins: &[Join], into: &mut [u32]) -> usiz
 {
     let mut merges = 0;
     loop {
-        let back = sweep_back(slots, joins, into, merges);
-        let after = sweep(slots, joins, into, back);
+        let after = sweep(slots, joins, into, merges);
         if after == merges {
             return merges;
         }
