@@ -7,7 +7,7 @@ use crate::tests::trees::{
     Given, answering, arithmetic, call, column, comparison, counting, item, key, lateral, literal,
     none, one, outer_column, query, select, table, tables, value, with,
 };
-use crate::{Frames, eval_expr, query_length, run_query};
+use crate::{Frames, eval_expr, query_length, rows, run_query};
 use away_trees::{Expr, Query, Select};
 use away_values::{Answer, CmpOp, IntOp, OpError, Tables, Ty, Value};
 use sqlite_items::Items;
@@ -166,6 +166,20 @@ fn recursion(rt: HostRuntime) {
     assert!(rt;
         query_length(rt.alloc(), &plain, &none_at_all, &[], 7).expect(&rt, "memory") == Some(0)
     );
+}
+
+#[test]
+fn rows_before_an_answer(rt: HostRuntime) {
+    let none_at_all = tables(&rt, &[]);
+    let q = counting(&rt, 5);
+    assert!(rt; matches!(rows(rt.alloc(), &q, &none_at_all, &[], 4), Ok(None)));
+    let Ok(Some(list)) = rows(rt.alloc(), &q, &none_at_all, &[], 5) else {
+        rt.abort();
+    };
+    assert!(rt; list.len() == 1, "one row is left of the last step");
+    for row in list.as_slice() {
+        assert!(rt; row.len() == 2, "a value and a class");
+    }
 }
 
 /// Each iteration takes the same time, whatever came before.
