@@ -11,3 +11,6 @@ mod writer;
 
 pub use laws::the_tree_is_the_templates;
 pub use template::template_tree;
+
+#[cfg(test)]
+mod tests;

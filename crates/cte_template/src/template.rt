@@ -25,8 +25,8 @@ use call_forms::{Anf, Tail};
 use sqlite_items::Items;
 use std::alloc::Global;
 use template_parts::{
-    Known, add, after, alone, col, equal, not, null, number, only, row_names, select, subquery, sum,
-    truth, working,
+    Known, add, after, alone, col, equal, not, null, number, only, row_names, select, subquery,
+    sum, truth, working,
 };
 
 /// Whether the row is at the label with this number.

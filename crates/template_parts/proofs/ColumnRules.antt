@@ -1,11 +1,9 @@
 -- The column beside a slot, along the loop that finds it.
-use Rattle.std.proofs.Common.{◌≡◌, ℕ, zero, suc, ◌+◌, ◌<◌, ◌≤◌, if◌then◌else◌, List, [], ◌∷◌, length, drop, get_or, refl, sym, ap, ◌∙◌, arith}
+use Rattle.std.proofs.Common.{◌≡◌, ℕ, zero, suc, ◌+◌, ◌<◌, ◌≤◌, if◌then◌else◌, List, [], ◌∷◌, length, drop, get_or, refl, ap, ◌∙◌, arith}
 use Rattle.std.specs.Prelude.{nat_eq}
 use Rattle.std.proofs.lemmas.List.{drop_more}
 use Rattle.away_trees.specs.declared.queries.Col.{Col}
 use Rattle.template_parts.specs.Columns.{column_beside}
-use Rattle.template_parts.specs.Placing.{column_at}
-use Rattle.template_parts.specs.declared.placing.Leaves.{Leaves}
 
 dropped : {X : Type 0} (xs : List X) (i : ℕ) → length xs ≤ i → drop i xs ≡ []
 dropped [] zero h = refl
@@ -32,9 +30,12 @@ beside_short ss cs d n i h = ap (λ zs. column_beside (drop i ss) zs d n) (dropp
 pub beside_end : (ss : List ℕ) (cs : List Col) (d : Col) (n i : ℕ) → length ss ≤ i → column_beside (drop i ss) (drop i cs) d n ≡ d
 beside_end ss cs d n i h = ap (λ zs. column_beside zs (drop i cs) d n) (dropped ss i h) ∙ no_slots (drop i cs) d n
 
-pub beside_step : (ss : List ℕ) (cs : List Col) (d e : Col) (n i k : ℕ) → i < length ss → i < length cs
-    → column_beside (drop i ss) (drop i cs) d n ≡ (if nat_eq (get_or ss i k) n then get_or cs i e else column_beside (drop (i + 1) ss) (drop (i + 1) cs) d n)
-beside_step ss cs d e n i k g h =
-    (λ z. column_beside (drop_more ss i k g z) (drop_more cs i e h z) d n) ∙ first_slot (get_or ss i k) (drop (i + 1) ss) (get_or cs i e) (drop (i + 1) cs) d n
+abbrev zeros : Col
+zeros = record { level = 0; item = 0; column = 0 }
+
+pub beside_step : (ss : List ℕ) (cs : List Col) (d : Col) (n i : ℕ) → i < length ss → i < length cs
+    → column_beside (drop i ss) (drop i cs) d n ≡ (if nat_eq (get_or ss i 0) n then get_or cs i zeros else column_beside (drop (i + 1) ss) (drop (i + 1) cs) d n)
+beside_step ss cs d n i g h =
+    (λ z. column_beside (drop_more ss i 0 g z) (drop_more cs i zeros h z) d n) ∙ first_slot (get_or ss i 0) (drop (i + 1) ss) (get_or cs i zeros) (drop (i + 1) cs) d n
 
 pub ruleset beside_rules = (beside_short, beside_end, beside_step)

@@ -226,7 +226,7 @@ in_query ref d q =
 
 -- ---- columns, and whole expressions
 
-column_is : (l : Leaves) (slot : ℕ) → column_at l slot ≡ column_beside l.slots.now l.columns.now l.other slot
+pub column_is : (l : Leaves) (slot : ℕ) → column_at l slot ≡ column_beside l.slots.now l.columns.now l.other slot
 unfolding column_at
 column_is l slot = refl
 

@@ -22,27 +22,28 @@ struct Leaves<'a> {
     other: Col,
 }
 
-/// The column of a slot.
+/// The column beside the first slot that is this one.
 #[tactic(auto, using(crate::proofs::ColumnRules::beside_rules))]
-fn column_at(leaves: &Leaves<'_>, slot: u32) -> Col
-    ensures { result ≡ spec.column_at leaves.now slot }
+fn beside(slots: &[u32], columns: &[Col], other: Col, slot: u32) -> Col
+    ensures { result ≡ column_beside slots.now columns.now other slot }
 {
-    for i in 0..leaves.slots.len() {
-        if i >= leaves.columns.len() {
-            return leaves.other;
+    for i in 0..slots.len() {
+        if i >= columns.len() {
+            return other;
         }
-        if leaves.slots[i] == slot {
-            return leaves.columns[i];
+        if slots[i] == slot {
+            return columns[i];
         }
     }
-    leaves.other
+    other
 }
 
 /// The column of a slot, inside so many selects of the expression.
+#[tactic(auto, using(crate::proofs::PlacingRules::column_is))]
 fn column_of(leaves: &Leaves<'_>, inside: usize, slot: u32) -> Result<Col, NoMemory>
     ensures { IfOk result (λ c. c ≡ further inside (spec.column_at leaves.now slot)) }
 {
-    let column = column_at(leaves, slot);
+    let column = beside(leaves.slots, leaves.columns, leaves.other, slot);
     let level = small(sum(column.level as usize, inside)?)?;
     Ok(Col { level, ..column })
 }
@@ -74,12 +75,7 @@ fn copied_name(alloc: Global, name: &Option<Name>) -> Result<Option<Name>, NoMem
 
 #[cycle(placing)]
 #[tactic(auto, using(crate::proofs::PlacingRules::placing_rules))]
-fn place_expr(
-    value: &Expr,
-    alloc: Global,
-    leaves: &Leaves<'_>,
-    d: usize,
-) -> Result<Expr, NoMemory>
+fn place_expr(value: &Expr, alloc: Global, leaves: &Leaves<'_>, d: usize) -> Result<Expr, NoMemory>
     ensures { IfOk result (λ e. e ≡ spec.expr_in (spec.column_at leaves.now) d value.now) }
 {
     match value {
@@ -402,13 +398,7 @@ fn place_query(
 
 /// An expression of a function as it stands in the query: the columns stand for its slots, in the order in which it reads them, and another for what has
 /// no column. Each literal is under a cast; a lone NULL is under one to the type that the place asks for.
-pub fn place(
-    alloc: Global,
-    ty: Ty,
-    e: &Expr,
-    columns: &[Col],
-    other: Col,
-) -> Result<Expr, NoMemory>
+pub fn place(alloc: Global, ty: Ty, e: &Expr, columns: &[Col], other: Col) -> Result<Expr, NoMemory>
     ensures { IfOk result (λ x. x ≡ placed_at ty (column_beside (slots_of e.now) columns.now other) e.now) }
 {
     if matches!(e, Expr::Null) {

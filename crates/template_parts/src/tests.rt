@@ -98,10 +98,19 @@ fn items_of_a_branch_have_aliases(rt: HostRuntime) {
     let fault = class_text(rt.alloc(), Class { code: *b"22012" }).expect(&rt, "memory");
     assert_eq!(rt; cast_to(&fault), Some(Ty::Text));
     let mut list = only(rt.alloc(), fault).expect(&rt, "memory");
-    add(&mut list, null(rt.alloc(), Ty::Bigint).expect(&rt, "memory")).expect(&rt, "memory");
+    add(
+        &mut list,
+        null(rt.alloc(), Ty::Bigint).expect(&rt, "memory"),
+    )
+    .expect(&rt, "memory");
     assert_eq!(rt; list.len(), 2);
     let first = select(rt.alloc(), list, Items::new(rt.alloc()), None);
-    let second = select(rt.alloc(), Items::new(rt.alloc()), Items::new(rt.alloc()), None);
+    let second = select(
+        rt.alloc(),
+        Items::new(rt.alloc()),
+        Items::new(rt.alloc()),
+        None,
+    );
     let both = either_as(rt.alloc(), 4, 2, first, second).expect(&rt, "memory");
     assert_eq!(rt; selects(&both), 2);
     assert_eq!(rt; both.columns.len(), 6);

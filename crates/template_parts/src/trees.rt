@@ -152,11 +152,7 @@ pub fn subquery(alloc: Global, selects: Items<Select>) -> Result<Boxed<Query>, N
 }
 
 /// The working table, alone.
-pub fn working(
-    alloc: Global,
-    tables: usize,
-    columns: usize,
-) -> Result<Items<FromItem>, NoMemory>
+pub fn working(alloc: Global, tables: usize, columns: usize) -> Result<Items<FromItem>, NoMemory>
     ensures { IfOk result (λ list. list ≡ spec.working tables columns ∷ []) }
 {
     let mut names = Items::new(alloc);

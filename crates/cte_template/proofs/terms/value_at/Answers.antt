@@ -31,5 +31,5 @@ returns c =
     ok_by c.place.result (λ x. x ≡ placed_at c.args.ty (column_beside (slots_of e) c.as_slice-2.result.now c.in_ok-other.other) e)
     (λ x. x ≡ walks.value_at m c.args.depth places c.args.ty c.args.term.now)
     (λ x h. h ∙ value_some m c.args.depth c.in_ok-inside.inside places c.args.ty c.args.term.now e c.as_slice-2.result.now c.in_ok-other.other there c.in_ok-inside.ensures
-      (c.as_slice-2.ensures ∙ (c.in_ok-columns.ensures ∙ ap (map (walks.column_at c.in_ok-inside.inside places)) c.as_slice.ensures))
-      (c.in_ok-other.ensures ∙ ap (seen c.in_ok-inside.inside) c.nowhere.ensures)) c.place.ensures
+    (c.as_slice-2.ensures ∙ (c.in_ok-columns.ensures ∙ ap (map (walks.column_at c.in_ok-inside.inside places)) c.as_slice.ensures))
+    (c.in_ok-other.ensures ∙ ap (seen c.in_ok-inside.inside) c.nowhere.ensures)) c.place.ensures
