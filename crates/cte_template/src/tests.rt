@@ -156,14 +156,18 @@ fn selects(item: &FromItem) -> &[Select] {
     }
 }
 
-fn item_at(rt: &(impl Abort + AllocGlobal), select: &Select, place: usize) -> &FromItem {
+fn item_at<'a>(
+    rt: &(impl Abort + AllocGlobal),
+    select: &'a Select,
+    place: usize,
+) -> &'a FromItem {
     match select.from.as_slice().get(place) {
         None => rt.abort(),
         Some(item) => item,
     }
 }
 
-fn branch(rt: &(impl Abort + AllocGlobal), q: &Query, label: usize) -> &Select {
+fn branch<'a>(rt: &(impl Abort + AllocGlobal), q: &'a Query, label: usize) -> &'a Select {
     let Some(working_table) = &q.recursive else {
         rt.abort()
     };
