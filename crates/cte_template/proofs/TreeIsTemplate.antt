@@ -26,7 +26,7 @@ use Rattle.sql_meaning.specs.Template.{gate, let_item, last}
 use Rattle.sql_meaning.specs.Trees.{col, item, select, table_by, lateral, truth, number, null_of}
 use Rattle.cte_template.specs.Making.{Making}
 use Rattle.template_parts.specs.Names.{table_name, step_name, row_names}
-use Rattle.cte_template.specs.Places.{nowhere, first_of, row_place, seen, stands, beside, at_name}
+use Rattle.cte_template.specs.Places.{nowhere, first_of, row_place, stands}
 use Rattle.cte_template.specs.Tree as t
 use Rattle.template_parts.specs.Trees.{gate_as, let_as, either_as, working}
 use Rattle.cte_template.specs.Walks.{Walked, selected, walk, value_at, let_at, all_columns}
