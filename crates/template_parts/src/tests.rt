@@ -19,6 +19,14 @@ fn column(e: &Expr) -> Option<Col> {
     }
 }
 
+/// The columns on both sides of a comparison.
+fn sides(e: &Expr) -> (Option<Col>, Option<Col>) {
+    match e {
+        Expr::Compare(_, left, right) => (column(left.get()), column(right.get())),
+        _ => (None, None),
+    }
+}
+
 fn cast_to(e: &Expr) -> Option<Ty> {
     match e {
         Expr::Cast(_, ty) => Some(*ty),
@@ -86,13 +94,7 @@ fn columns_stand_for_slots(rt: HostRuntime) {
     let right = Boxed::new(rt.alloc(), Expr::Slot(3)).expect(&rt, "memory");
     let e = Expr::Compare(CmpOp::Gt, left, right);
     let placed = place(rt.alloc(), Ty::Boolean, &e, &[FIRST], OTHER).expect(&rt, "memory");
-    match placed {
-        Expr::Compare(_, left, right) => {
-            assert_eq!(rt; column(left.get()), Some(FIRST));
-            assert_eq!(rt; column(right.get()), Some(OTHER));
-        }
-        _ => assert!(rt; false, "a comparison"),
-    }
+    assert_eq!(rt; sides(&placed), (Some(FIRST), Some(OTHER)));
     let none = place(rt.alloc(), Ty::Text, &Expr::Null, &[], OTHER).expect(&rt, "memory");
     assert_eq!(rt; cast_to(&none), Some(Ty::Text));
 }
