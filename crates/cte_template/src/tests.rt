@@ -156,11 +156,7 @@ fn selects(item: &FromItem) -> &[Select] {
     }
 }
 
-fn item_at<'a>(
-    rt: &(impl Abort + AllocGlobal),
-    select: &'a Select,
-    place: usize,
-) -> &'a FromItem {
+fn item_at<'a>(rt: &(impl Abort + AllocGlobal), select: &'a Select, place: usize) -> &'a FromItem {
     match select.from.as_slice().get(place) {
         None => rt.abort(),
         Some(item) => item,
