@@ -1,0 +1,6 @@
+pub mod Places
+pub mod Making
+pub mod Walks
+pub mod Steps
+pub mod Tree
+pub mod Laws
