@@ -15,8 +15,8 @@ pub record ListedTo (table : List Expr) (i : ℕ) (list : List Entry) : Type 0 w
   pub each : EachPair (λ i e y. EntryOf e y) table list
 
 length_more : (list : List Entry) (y : Entry) → length (list ++ y ∷ []) ≡ length list + 1
-length_more [] y = refl
-length_more (z ∷ list) y = ap suc (length_more list y)
+length_more [] y = let e : 1 ≡ 0 + 1 = omega arith in e
+length_more (z ∷ list) y = ap suc (length_more list y) ∙ (let e : suc (length list + 1) ≡ suc (length list) + 1 = omega arith in e)
 
 -- an element of the longer list: the last, or one of those before
 each_more : (P : ℕ → Entry → Type 0) (ys : List Entry) (y : Entry) → ((j : ℕ) (w : Entry) → slice_get ys j ≡ Some w → P j w) → P (length ys) y
@@ -29,7 +29,7 @@ each_more P (v ∷ ys) y h last (suc j) w t = each_more (λ j w. P (suc j) w) ys
 pub none_listed : (table : List Expr) → ListedTo table 0 []
 none_listed table = record { as_many = refl; each = λ j e y t u. absurd (none_there j y u) }
   where
-    none_there : (j : ℕ) (y : Entry) → slice_get {A = Entry} [] j ≡ Some y → ⊥
+    none_there : (j : ℕ) (y : Entry) → slice_get {X = Entry} [] j ≡ Some y → ⊥
     none_there zero y u = cc
     none_there (suc j) y u = cc
 

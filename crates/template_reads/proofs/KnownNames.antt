@@ -10,7 +10,7 @@ use Rattle.template_reads.specs.declared.scope.Scope as code
 use Rattle.template_reads.specs.References.{lookup, Set, found_behind, found_in, one_more, founds, with_set, names_of}
 
 -- no place of an empty list has a number
-none_there : (i n : ℕ) → slice_get {A = ℕ} [] i ≡ Some n → ⊥
+none_there : (i n : ℕ) → slice_get {X = ℕ} [] i ≡ Some n → ⊥
 none_there zero n e = cc
 none_there (suc i) n e = cc
 
