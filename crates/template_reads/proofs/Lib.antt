@@ -1,1 +1,5 @@
 pub mod OneByOne
+pub mod OneByOneWhere
+pub mod SameKind
+pub mod TextOfClass
+pub mod TreeSigns
