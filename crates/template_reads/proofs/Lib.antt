@@ -10,3 +10,6 @@ pub mod PlacedInOrder
 pub mod LetPut
 pub mod FirstOccurrences
 pub mod EntriesInOrder
+pub mod SameKind
+pub mod TextOfClass
+pub mod TreeSigns
