@@ -1,10 +1,11 @@
 -- The signs of an expression with columns for its slots, one after the other.
-use Rattle.std.proofs.Common.{◌≡◌, ℕ, ℤ, Bool, zero, suc, ◌+◌, ◌-◌, ◌<◌, ◌≤◌, List, [], ◌∷◌, ◌++◌, length, get_or, drop, Option, Some, None, refl, sym, ap, ◌∙◌, arith}
+use Rattle.std.proofs.Common.{◌≡◌, ℕ, ℤ, Bool, zero, suc, ◌+◌, ◌-◌, ◌<◌, ◌≤◌, List, [], ◌∷◌, ◌++◌, length, get_or, drop, Option, Some, None, refl, sym, ap, ◌∙◌, subst, arith}
 use Rattle.away_trees.specs.declared.queries.Expr.{Expr}
 use Rattle.away_trees.specs.declared.queries.Expr.TheVariants as expr
 use Rattle.away_trees.specs.declared.queries.Col.{Col}
 use Rattle.away_values.specs.declared.types.Ty.{Ty}
-use Rattle.sql_meaning.specs.Placed.{placed, placed_at}
+use Rattle.away_values.specs.declared.types.Ty.TheVariants as ty
+use Rattle.sql_meaning.specs.Placed.{further, placed, placed_at}
 use Rattle.query_signs.specs.declared.signs.Kind.{Kind}
 use Rattle.query_signs.specs.declared.signs.Kind.TheVariants as kind
 use Rattle.query_signs.specs.declared.signs.Manner.TheVariants.{Whole}
@@ -18,7 +19,7 @@ use Rattle.template_reads.specs.declared.scope.Ref.{Ref}
 use Rattle.template_reads.specs.Placing.{slot_column, slot_column_in, depth_behind, placed_sign_put}
 use Rattle.template_reads.specs.Puts.{expr_put}
 use Rattle.template_reads.specs.Read.{Reads}
-use Rattle.template_reads.specs.References.{lookup, ref_or}
+use Rattle.template_reads.specs.References.{lookup, col_at, ref_or}
 use Rattle.template_reads.proofs.ListPlaces.{drop_from, drop_past}
 use Rattle.template_reads.proofs.OneByOne.{then_reads, as_reads}
 use Rattle.template_reads.proofs.PutsAppend.{puts_append}
@@ -31,6 +32,24 @@ stays ref d (kind.Int n) slot int bool str rest = absurd (int n refl)
 stays ref d (kind.Bool v) slot int bool str rest = absurd (bool v refl)
 stays ref d kind.Str slot int bool str rest = absurd (str refl)
 stays ref d k slot int bool str rest = refl
+
+pub slot_stands : (depth : Depth) (slots : List ℕ) (refs : List Ref) (k : Kind) (i : ℕ) (r : Ref) → k ≡ kind.Slot i → r ≡ ref_or (lookup slots refs i) → (rest : Signs)
+    → sign.Open (kind.Column (further depth.within (col_at depth.out r))) ∷ rest ≡ placed_kind (slot_column_in depth slots refs) 0 k rest
+slot_stands depth slots refs k i r is found rest =
+    ap (λ l. sign.Open (kind.Column (record { level = l; item = r.item; column = r.column })) ∷ rest) (let q : suc depth.out - r.from + depth.within ≡ (suc depth.out - r.from + depth.within) + 0 = omega arith in q)
+    ∙ (ap (λ r. placed_kind (λ i. further depth.within (col_at depth.out r)) 0 (kind.Slot i) rest) found
+    ∙ ap (λ k. placed_kind (slot_column_in depth slots refs) 0 k rest) (sym is))
+
+pub number_stands : (ref : ℕ → Col) (k : Kind) (n : ℤ) → k ≡ kind.Int n → (rest : Signs)
+    → sign.Open (kind.Cast ty.Bigint) ∷ sign.Open k ∷ sign.Close ∷ rest ≡ placed_kind ref 0 k rest
+number_stands ref k n is rest = subst (λ k. sign.Open (kind.Cast ty.Bigint) ∷ sign.Open k ∷ sign.Close ∷ rest ≡ placed_kind ref 0 k rest) (sym is) refl
+
+pub truth_stands : (ref : ℕ → Col) (k : Kind) (v : Bool) → k ≡ kind.Bool v → (rest : Signs)
+    → sign.Open (kind.Cast ty.Boolean) ∷ sign.Open k ∷ sign.Close ∷ rest ≡ placed_kind ref 0 k rest
+truth_stands ref k v is rest = subst (λ k. sign.Open (kind.Cast ty.Boolean) ∷ sign.Open k ∷ sign.Close ∷ rest ≡ placed_kind ref 0 k rest) (sym is) refl
+
+pub text_stands : (ref : ℕ → Col) (k : Kind) → k ≡ kind.Str → (rest : Signs) → sign.Open (kind.Cast ty.Text) ∷ sign.Open k ∷ rest ≡ placed_kind ref 0 k rest
+text_stands ref k is rest = subst (λ k. sign.Open (kind.Cast ty.Text) ∷ sign.Open k ∷ rest ≡ placed_kind ref 0 k rest) (sym is) refl
 
 kind_append : (ref : ℕ → Col) (d : ℕ) (k : Kind) (rest more : Signs) → placed_kind ref d k (rest ++ more) ≡ placed_kind ref d k rest ++ more
 kind_append ref d (kind.Slot i) rest more = refl

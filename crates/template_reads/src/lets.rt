@@ -162,8 +162,9 @@ fn placed(
     let mut at = at;
     let mut depth = Depth { out, within: 1 };
     for i in 0..of.len() {
-        at = placed_sign(signs, at, &of[i], slots, refs, depth);
-        depth = next_depth(&of[i], depth);
+        let next = &of[i];
+        at = placed_sign(signs, at, next, slots, refs, depth);
+        depth = next_depth(next, depth);
     }
     at
 }
