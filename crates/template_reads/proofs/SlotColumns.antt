@@ -28,7 +28,7 @@ module _ (s : code.Scope) (out : ℕ) where
   paired_columns [] names refs e i = nothing out
   paired_columns (k ∷ slots) [] [] e i = nothing out
   paired_columns (k ∷ slots) [] (r ∷ refs) e i = absurd (let q : [] ≡ r ∷ refs = same_Some [] (r ∷ refs) e in cc)
-  paired_columns (k ∷ slots) (n ∷ names) refs e i = by (found_in s n) refl (founds s names) refl e
+  paired_columns (k ∷ slots) (n ∷ names) refs e i = by (λ rs q. paired_columns slots names rs q i) (found_in s n) refl (founds s names) refl e
     where
       here : (r : Ref) (rs : List Ref) → found_in s n ≡ Some r
           → paired (outside (refs_of out s)) (deeper (no_column out)) slots names i ≡ slot_column out slots rs i
@@ -38,12 +38,13 @@ module _ (s : code.Scope) (out : ℕ) where
       here r rs p next true = ap (λ o. deeper (col_at out (ref_or o))) p
       here r rs p next false = next
 
-      by : (o : Option Ref) → found_in s n ≡ o → (os : Option (List Ref)) → founds s names ≡ os → one_more o os ≡ Some refs
+      by : ((rs : List Ref) → founds s names ≡ Some rs → paired (outside (refs_of out s)) (deeper (no_column out)) slots names i ≡ slot_column out slots rs i)
+          → (o : Option Ref) → found_in s n ≡ o → (os : Option (List Ref)) → founds s names ≡ os → one_more o os ≡ Some refs
           → paired (outside (refs_of out s)) (deeper (no_column out)) (k ∷ slots) (n ∷ names) i ≡ slot_column out (k ∷ slots) refs i
-      by None p os q e = absurd (cc)
-      by (Some r) p None q e = absurd (cc)
-      by (Some r) p (Some rs) q e =
-          here r rs p (paired_columns slots names rs q i) (nat_eq k i) ∙ ap (λ l. slot_column out (k ∷ slots) l i) (same_Some (r ∷ rs) refs e)
+      by next None p os q e = absurd (cc)
+      by next (Some r) p None q e = absurd (cc)
+      by next (Some r) p (Some rs) q e =
+          here r rs p (next rs q) (nat_eq k i) ∙ ap (λ l. slot_column out (k ∷ slots) l i) (same_Some (r ∷ rs) refs e)
 
   pub let_is : (table : List Expr) (ty : Ty) (t : Term) (slots : List ℕ) (refs : List Ref) → slots ≡ slots_of (get_or table t.expr expr.Null)
       → founds s t.names ≡ Some refs
