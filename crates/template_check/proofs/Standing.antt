@@ -62,20 +62,27 @@ as_many_found s [] refs e = ap length (found_none s refs e)
 as_many_found s (n ∷ ns) refs e =
     let both = found_both s n ns refs e in ap length both.all ∙ ap suc (as_many_found s ns both.others both.behind)
 
+-- a column that no row has
+nothing_there : (out : ℕ) → col_at out no_ref ≡ no_column out
+nothing_there out = λ i. record { level = level i; item = 1; column = 0 }
+  where
+    level : suc out - 0 ≡ suc out
+    level = omega arith
+
+chosen : {X Y : Type 0} (f : X → Y) (t : Bool) (a b : X) {c d : Y} → f a ≡ c → f b ≡ d → f (cond t a b) ≡ cond t c d
+chosen f true a b h k = h
+chosen f false a b h k = k
+
 -- the parameters of a block stand for what is passed
 pub passed : (s : code.Scope) (out : ℕ) (params args : List ℕ) (refs : List Ref) (i : ℕ) → founds s args ≡ Some refs
     → col_at out (ref_or (lookup params refs i)) ≡ paired (refs_of out s) (no_column out) params args i
-passed s out [] args refs i e = refl
-passed s out (p ∷ ps) [] refs i e = ap (λ rs. col_at out (ref_or (lookup (p ∷ ps) rs i))) (found_none s refs e)
+passed s out [] args refs i e = nothing_there out
+passed s out (p ∷ ps) [] refs i e = ap (λ rs. col_at out (ref_or (lookup (p ∷ ps) rs i))) (found_none s refs e) ∙ nothing_there out
 passed s out (p ∷ ps) (n ∷ ns) refs i e =
     let both = found_both s n ns refs e in
     ap (λ rs. col_at out (ref_or (lookup (p ∷ ps) rs i))) both.all
-    ∙ by (nat_eq p i) (ap (λ r. col_at out (ref_or r)) (sym both.found)) (passed s out ps ns both.others i both.behind)
-  where
-    by : (t : Bool) {a b : Option Ref} {c d : Col} → col_at out (ref_or a) ≡ c → col_at out (ref_or b) ≡ d
-        → col_at out (ref_or (cond t a b)) ≡ cond t c d
-    by true h k = h
-    by false h k = k
+    ∙ chosen (λ r. col_at out (ref_or r)) (nat_eq p i) (Some both.one) (lookup ps both.others i)
+      (ap (λ r. col_at out (ref_or r)) (sym both.found)) (passed s out ps ns both.others i both.behind)
 
 -- the row of a called label has what is passed
 passed_cell : (s : code.Scope) (out : ℕ) (t : Ty) (places args : List ℕ) (refs : List Ref) (i : ℕ) → founds s args ≡ Some refs
@@ -85,11 +92,8 @@ passed_cell s out t (p ∷ ps) [] refs i e = ap (λ rs. cell out (lookup (p ∷ 
 passed_cell s out t (p ∷ ps) (n ∷ ns) refs i e =
     let both = found_both s n ns refs e in
     ap (λ rs. cell out (lookup (p ∷ ps) rs i) t) both.all
-    ∙ by (nat_eq p i) (ap (λ r. expr.Column (col_at out (ref_or r))) (sym both.found)) (passed_cell s out t ps ns both.others i both.behind)
-  where
-    by : (q : Bool) {a b : Option Ref} {c d : Expr} → cell out a t ≡ c → cell out b t ≡ d → cell out (cond q a b) t ≡ cond q c d
-    by true h k = h
-    by false h k = k
+    ∙ chosen (λ r. cell out r t) (nat_eq p i) (Some both.one) (lookup ps both.others i)
+      (ap (λ r. expr.Column (col_at out (ref_or r))) (sym both.found)) (passed_cell s out t ps ns both.others i both.behind)
 
 pub passed_cells : (s : code.Scope) (out i : ℕ) (places args : List ℕ) (refs : List Ref) (columns : List Ty) → founds s args ≡ Some refs
     → cells_at out i places refs columns ≡ cells i (refs_of out s) places args columns
@@ -101,20 +105,19 @@ passed_cells s out i places args refs (t ∷ ts) e =
 
 pub row_columns : (params places : List ℕ) (i : ℕ)
     → col_at 0 (ref_or (lookup params (label_refs params places) i)) ≡ paired of_row (no_column 0) params places i
-row_columns [] places i = refl
-row_columns (p ∷ ps) [] i = by (nat_eq p i) (row_columns ps [] i) (nothing ps)
+row_columns [] places i = nothing_there 0
+row_columns (p ∷ ps) [] i =
+    chosen (λ r. col_at 0 (ref_or r)) (nat_eq p i) (Some no_ref) (lookup ps (label_refs ps []) i) (nothing_there 0) (row_columns ps [] i ∙ nothing ps)
+    ∙ either_way (nat_eq p i)
   where
     nothing : (ps : List ℕ) → paired of_row (no_column 0) ps [] i ≡ no_column 0
     nothing [] = refl
     nothing (p ∷ ps) = refl
-    by : (t : Bool) {b : Option Ref} {d : Col} → col_at 0 (ref_or b) ≡ d → d ≡ no_column 0 → col_at 0 (ref_or (cond t (Some no_ref) b)) ≡ no_column 0
-    by true h k = refl
-    by false h k = h ∙ k
-row_columns (p ∷ ps) (c ∷ cs) i = by (nat_eq p i) (row_columns ps cs i)
-  where
-    by : (t : Bool) {b : Option Ref} {d : Col} → col_at 0 (ref_or b) ≡ d → col_at 0 (ref_or (cond t (Some (row_ref (Some c))) b)) ≡ cond t (of_row c) d
-    by true h = refl
-    by false h = h
+    either_way : (t : Bool) → cond t (no_column 0) (no_column 0) ≡ no_column 0
+    either_way true = refl
+    either_way false = refl
+row_columns (p ∷ ps) (c ∷ cs) i =
+    chosen (λ r. col_at 0 (ref_or r)) (nat_eq p i) (Some (row_ref (Some c))) (lookup ps (label_refs ps cs) i) refl (row_columns ps cs i)
 
 pub as_many_columns : (params places : List ℕ) → length (label_refs params places) ≡ length params
 as_many_columns [] places = refl
@@ -123,17 +126,20 @@ as_many_columns (p ∷ ps) (c ∷ cs) = ap suc (as_many_columns ps cs)
 
 -- ---- what is in sight
 
-each_more : {X : Type 0} {P : X → Type 0} (x : X) (xs : List X) → P x → Each P xs → Each P (x ∷ xs)
-each_more {P = P} x xs h each zero y e = subst P (same_Some x y e) h
-each_more {P = P} x xs h each (suc i) y e = each i y e
+each_more : {X : Type 0} (P : X → Type 0) (x : X) (xs : List X) → P x → Each P xs → Each P (x ∷ xs)
+each_more P x xs h each zero y e = subst P (same_Some x y e) h
+each_more P x xs h each (suc i) y e = each i y e
 
-each_none : {X : Type 0} {P : X → Type 0} → Each P []
-each_none i y e = absurd (cc)
+each_none : {X : Type 0} (P : X → Type 0) → Each P []
+each_none P i y e = absurd (cc)
+
+abbrev IsWithin : ℕ → Ref → Type 0
+IsWithin depth r = r.from ≤ suc depth
 
 pub rows_in_sight : (params places : List ℕ) → InSight 0 None (label_refs params places)
-rows_in_sight [] places = each_none
-rows_in_sight (p ∷ ps) [] = each_more no_ref (label_refs ps []) (omega arith) (rows_in_sight ps [])
-rows_in_sight (p ∷ ps) (c ∷ cs) = each_more (row_ref (Some c)) (label_refs ps cs) (omega arith) (rows_in_sight ps cs)
+rows_in_sight [] places = each_none (IsWithin 0)
+rows_in_sight (p ∷ ps) [] = each_more (IsWithin 0) no_ref (label_refs ps []) (omega arith) (rows_in_sight ps [])
+rows_in_sight (p ∷ ps) (c ∷ cs) = each_more (IsWithin 0) (row_ref (Some c)) (label_refs ps cs) (omega arith) (rows_in_sight ps cs)
 
 looked_up : (P : Ref → Type 0) (keys : List ℕ) (refs : List Ref) (k : ℕ) (r : Ref) → Each P refs → lookup keys refs k ≡ Some r → P r
 looked_up P [] refs k r each e = absurd (cc)
@@ -155,11 +161,11 @@ found_in_sight depth (Some s) names refs n r sight e = by (nat_eq s.0 n) e
 
 pub passed_in_sight : (depth : ℕ) (s : code.Scope) (args : List ℕ) (refs : List Ref) → InSight depth s.set s.refs → founds s args ≡ Some refs
     → InSight depth None refs
-passed_in_sight depth s [] refs sight e = subst (InSight depth None) (sym (found_none s refs e)) each_none
+passed_in_sight depth s [] refs sight e = subst (InSight depth None) (sym (found_none s refs e)) (each_none (IsWithin depth))
 passed_in_sight depth s (n ∷ ns) refs sight e =
     let both = found_both s n ns refs e in
     subst (InSight depth None) (sym both.all)
-    (each_more both.one both.others (found_in_sight depth s.set s.names.now s.refs n both.one sight both.found) (passed_in_sight depth s ns both.others sight both.behind))
+    (each_more (IsWithin depth) both.one both.others (found_in_sight depth s.set s.names.now s.refs n both.one sight both.found) (passed_in_sight depth s ns both.others sight both.behind))
 
 -- ---- one select further in
 

@@ -10,7 +10,7 @@ use Rattle.block_forms.specs.declared.forms.Term.{Term}
 use Rattle.call_forms.specs.declared.forms.AnfBlock.{AnfBlock}
 use Rattle.call_forms.specs.declared.forms.Call.{Call}
 use Rattle.call_forms.specs.declared.forms.CallEnd.{CallEnd}
-use Rattle.call_forms.specs.Bodies.{Body, sets, enters, picks, returns, fails, calls, endless, goes_to, goes, end_body, sets_first, block_body, tree}
+use Rattle.call_forms.specs.Bodies.{Body, sets, enters, picks, returns, fails, calls, endless, goes_to, goes, end_body, sets_first, block_body, tree, body_of}
 use Rattle.call_forms.specs.Called.{Among}
 use Rattle.call_forms.specs.Forms.{params_of, label_of}
 use Rattle.call_forms.specs.Scopes.{paired}
@@ -30,7 +30,7 @@ use Rattle.template_reads.specs.Puts.{body_put, exprs_put, from_put, select_put,
 use Rattle.template_reads.specs.Read.{Reads, ReadsWhere}
 use Rattle.template_reads.specs.References.{lookup, refs_of, names_of, with_set, found_behind, founds, col_at, ref_or}
 use Rattle.template_reads.specs.Rows.{call_list, cells_at, value_list, fault_list}
-use Rattle.template_reads.proofs.OneByOne.{then_reads, as_reads}
+use Rattle.template_reads.proofs.OneByOne.{then_reads, as_reads, no_place}
 use Rattle.template_reads.proofs.OneByOneWhere.{then_where, reads_then_where, where_then_reads, where_holds, nowhere, no_place_where, as_where}
 use Rattle.template_check.specs.Labels.{label_refs}
 use Rattle.template_check.specs.Walks.{GivenOf, Sound, Fresh, BodyRead, WalkRead, StepRead, ArmRead, BranchRead, anf_of, types_in, further_blocks, parts_at, parts_put, inner_walk, arm_select, pick_body, entered_body, called_body, branch_of, HasBranch}
@@ -150,21 +150,13 @@ module _ (table : List Expr) (g : code.Given) where
   pub after_arm : (w : walk.Walk) (by : Gate) (x : Body) (from start at to : Option ℕ) → Sound g w
       → Reads (open_put by) g.signs.now from start → BodyRead table g (inner_walk w start) x at → Reads no_filter_put g.signs.now at to
       → ArmRead table g w by x from to
-  after_arm w by x from start at to sound open body end =
+  after_arm w by x from start at to sound begun body end =
       let refs : (k : ℕ) → refs_of (w.depth + 1) w.scope k ≡ outside (refs_of w.depth w.scope) k = seen_outside w.depth w.scope sound.in_sight in
       as_where (λ h. h, λ h. h)
       (λ h r.
         (λ i. open_put by (parts_put (at_place (plus_one w.depth i) (λ k. refs k i) 1 x) (no_filter_put r)))
         ∙ gated_put by (at_place (suc w.depth) (outside (refs_of w.depth w.scope)) 1 x) r)
-      (reads_then_where open (where_then_reads body end))
-
-  pub no_test : (w : walk.Walk) (t : Term) (x y : Body)
-      → ReadsWhere (HasReferences table (names_of w.scope) t) (from_put (let_at table w.depth (refs_of w.depth w.scope) ty.Boolean t)) g.signs.now w.at None
-      → BodyRead table g w (picks t x y) None
-  no_test w t x y item = record { told = λ rest. (
-    λ e. absurd (let q : None ≡ Some _ = (item.told _).0 (e.0.0, e.1) in cc),
-    λ e. absurd (cc),
-  ) }
+      (reads_then_where begun (where_then_reads body end))
 
   pub after_picking : (w : walk.Walk) (t : Term) (x y : Body) (i j k l m n o to : Option ℕ)
       → ReadsWhere (HasReferences table (names_of w.scope) t) (from_put (let_at table w.depth (refs_of w.depth w.scope) ty.Boolean t)) g.signs.now w.at i
@@ -176,7 +168,7 @@ module _ (table : List Expr) (g : code.Given) where
       → Reads (exprs_put (map (col 0 (w.items + 1)) (below (length g.tail.now.columns + 4)))) g.signs.now n o
       → Reads (λ rest. sign.Close ∷ rest) g.signs.now o to
       → BodyRead table g w (picks t x y) to
-  after_picking w t x y i j k l m n o to item open yes no behind list row close =
+  after_picking w t x y i j k l m n o to item begun one other behind list row close =
       let width : length g.tail.now.columns + 4 ≡ suc (suc (suc (suc (length g.tail.now.columns)))) = omega arith in
       let first = arm_select table g w (gate.Yes w.items) x in
       let second = arm_select table g w (gate.No w.items) y in
@@ -185,7 +177,15 @@ module _ (table : List Expr) (g : code.Given) where
         let test = let_at table w.depth (refs_of w.depth w.scope) ty.Boolean t in
         ap (from_put test) (either_put first second (sign.Close ∷ sign.Open kind.List ∷ exprs_put (map (col 0 (w.items + 1)) (below (length g.tail.now.columns + 4))) (sign.Close ∷ r)))
         ∙ (λ i. from_put test (from_put (either first second) (sign.Close ∷ sign.Open kind.List ∷ exprs_put (map (col 0 (plus_one w.items i)) (below (width i))) (sign.Close ∷ r)))))
-      (then_where item (reads_then_where open (then_where yes (where_then_reads no (then_reads behind (then_reads list (then_reads row close)))))))
+      (then_where item (reads_then_where begun (then_where one (where_then_reads other (then_reads behind (then_reads list (then_reads row close)))))))
+
+  -- nothing is read behind a test that isn't there
+  pub no_test : (w : walk.Walk) (t : Term) (x y : Body)
+      → ReadsWhere (HasReferences table (names_of w.scope) t) (from_put (let_at table w.depth (refs_of w.depth w.scope) ty.Boolean t)) g.signs.now w.at None
+      → BodyRead table g w (picks t x y) None
+  no_test w t x y item =
+      after_picking w t x y None None None None None None None None item
+      (no_place refl) (no_place_where refl) (no_place_where refl) (no_place refl) (no_place refl) (no_place refl) (no_place refl)
 
   -- ---- blocks
 
@@ -226,4 +226,15 @@ module _ (table : List Expr) (g : code.Given) where
       → w.items ≡ 1 → w.depth ≡ 0 → w.fuel ≡ length g.blocks.now → w.block ≡ block
       → Reads (open_put (gate.Label label)) g.signs.now from w.at → WalkRead table g w end → Reads no_filter_put g.signs.now end to
       → BranchRead table g label block from to
-  after_branch label block w places from to end fresh refs params at_places items depth fuel of open read close = {}0
+  after_branch label block w places from to end fresh refs params stand items depth fuel of begun read close =
+      let own : names_of w.scope ≡ params_of (slice_get g.blocks.now block) = ap (λ s. with_set s w.scope.names.now) fresh ∙ params in
+      let whole : further_blocks g w w.block ≡ body_of (anf_of g) g.tail.now block = λ i. tree (anf_of g) g.tail.now (fuel i) (of i) in
+      let columns : (k : ℕ) → refs_of w.depth w.scope k ≡ paired of_row (no_column 0) (params_of (slice_get g.blocks.now block)) (get_or g.tail.now.places label []) k =
+          λ k. (λ i. col_at (depth i) (ref_or (found_behind (fresh i) (lookup w.scope.names.now (refs i) k) k)))
+          ∙ row_columns w.scope.names.now places k ∙ (λ i. paired of_row (no_column 0) (params i) (stand i) k) in
+      as_where
+      (λ h. subst (λ x. x) (λ i. HasTree table (own i) (whole i)) h, λ h. subst (λ x. x) (sym (λ i. HasTree table (own i) (whole i))) h)
+      (λ h r.
+        (λ i. open_put (gate.Label label) (parts_put (at_place (depth i) (λ k. columns k i) (items i) (whole i)) (no_filter_put r)))
+        ∙ gated_put (gate.Label label) (at_place 0 (paired of_row (no_column 0) (params_of (slice_get g.blocks.now block)) (get_or g.tail.now.places label [])) 1 (body_of (anf_of g) g.tail.now block)) r)
+      (reads_then_where begun (where_then_reads read close))
