@@ -6,8 +6,9 @@ mod forms;
 use crate::check::check_templated;
 use crate::tests::edits::Edit;
 use crate::tests::forms::{Example, anf, goto, ssa, tail_of};
-use away_types::{CheckedFunction, CheckedSchema, check_function, check_query, check_schema};
-use call_forms::Tail;
+use away_types::{CheckedFunction, CheckedQuery, CheckedSchema, check_function, check_query, check_schema};
+use block_forms::{Goto, Ssa};
+use call_forms::{Anf, Tail};
 use plsql_parse::read_function;
 use sql_text::{read_query, read_schema};
 use std::process::Abort;
@@ -87,6 +88,59 @@ fn text(rt: &(impl Abort + AllocGlobal), place: usize, piece: &str) -> Vec<u8> {
     text
 }
 
+fn query(
+    rt: &(impl Abort + AllocGlobal),
+    schema: &CheckedSchema,
+    place: usize,
+    piece: &str,
+) -> CheckedQuery {
+    let text = text(rt, place, piece);
+    let Ok(query) = read_query(rt.alloc(), &text) else {
+        rt.abort();
+    };
+    let Ok(query) = check_query(rt.alloc(), schema, query) else {
+        rt.abort();
+    };
+    query
+}
+
+/// The forms below the tail form.
+#[derive(Drop)]
+struct LowerForms {
+    goto: Goto,
+    ssa: Ssa,
+    anf: Anf,
+}
+
+fn lower_forms(rt: &(impl Abort + AllocGlobal)) -> LowerForms {
+    LowerForms {
+        goto: goto(rt, Example::Sign, &mut Edit::none()),
+        ssa: ssa(rt, Example::Sign, &mut Edit::none()),
+        anf: anf(rt, Example::Sign, &mut Edit::none()),
+    }
+}
+
+fn is_accepted(
+    rt: &(impl Abort + AllocGlobal),
+    function: &CheckedFunction,
+    query: &CheckedQuery,
+    tail: &Tail,
+    tables: usize,
+) -> bool {
+    let forms = lower_forms(rt);
+    check_templated(
+        rt.alloc(),
+        function,
+        &forms.goto,
+        &forms.ssa,
+        &forms.anf,
+        tail,
+        query,
+        tables,
+    )
+    .expect(rt, "memory")
+}
+
 fn accepts(
     rt: &(impl Abort + AllocGlobal),
     place: usize,
@@ -96,27 +150,8 @@ fn accepts(
 ) -> bool {
     let schema = schema(rt);
     let function = function(rt, &schema);
-    let text = text(rt, place, piece);
-    let Ok(query) = read_query(rt.alloc(), &text) else {
-        rt.abort();
-    };
-    let Ok(query) = check_query(rt.alloc(), &schema, query) else {
-        rt.abort();
-    };
-    let goto = goto(rt, Example::Sign, &mut Edit::none());
-    let ssa = ssa(rt, Example::Sign, &mut Edit::none());
-    let anf = anf(rt, Example::Sign, &mut Edit::none());
-    check_templated(
-        rt.alloc(),
-        &function,
-        &goto,
-        &ssa,
-        &anf,
-        tail,
-        &query,
-        tables,
-    )
-    .expect(rt, "memory")
+    let query = query(rt, &schema, place, piece);
+    is_accepted(rt, &function, &query, tail, tables)
 }
 
 #[test]
