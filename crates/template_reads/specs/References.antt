@@ -1,5 +1,5 @@
 -- The columns that a walk's names stand for.
-use Rattle.std.specs.Prelude.{◌≡◌, ℕ, zero, suc, ◌∸◌, List, [], ◌∷◌, Option, Some, None, if◌then◌else◌, nat_eq}
+use Rattle.std.specs.Prelude.{◌≡◌, ℕ, zero, suc, ◌-◌, List, [], ◌∷◌, Option, Some, None, if◌then◌else◌, nat_eq}
 use Rattle.away_trees.specs.declared.queries.Col.{Col}
 use Rattle.call_forms.specs.Scopes as call
 use Rattle.template_reads.specs.declared.scope.Ref.{Ref}
@@ -13,7 +13,7 @@ lookup (x ∷ keys) (v ∷ values) k = if nat_eq x k then Some v else lookup key
 
 -- the reference as a column, seen from a select that `out` selects of the branch enclose
 abbrev pub col_at : ℕ → Ref → Col
-col_at out r = record { level = suc out ∸ r.from; item = r.item; column = r.column }
+col_at out r = record { level = suc out - r.from; item = r.item; column = r.column }
 
 -- a column that no row has
 abbrev pub no_ref : Ref
