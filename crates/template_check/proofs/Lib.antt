@@ -1,0 +1,4 @@
+pub mod Known
+pub mod Shapes
+pub mod Standing
+pub mod Walking

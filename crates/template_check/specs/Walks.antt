@@ -6,7 +6,7 @@ use Rattle.away_values.specs.declared.types.Ty.{Ty}
 use Rattle.block_forms.specs.Places.{Each}
 use Rattle.call_forms.specs.declared.forms.Anf.{Anf}
 use Rattle.call_forms.specs.declared.forms.Tail.{Tail}
-use Rattle.call_forms.specs.Bodies.{Body, picks, tree, goes, body_of}
+use Rattle.call_forms.specs.Bodies.{Body, enters, picks, calls, tree, goes, body_of}
 use Rattle.call_forms.specs.declared.forms.Call.{Call}
 use Rattle.block_forms.specs.declared.forms.Term.{Term}
 use Rattle.call_forms.specs.Columned.{type_of_name}
@@ -82,16 +82,38 @@ abbrev pub StepRead : List Expr → code.Given → walk.Walk → Body → walks.
 StepRead table g w x (step.Ends to) = BodyRead table g w x to
 StepRead table g w x (step.Goes next) = (to : Option ℕ) → WalkRead table g next to → BodyRead table g w x to
 
--- the walk that goes on, if one does, is sound
-abbrev pub GoesSoundly : code.Given → walks.Step → Type 0
-GoesSoundly g (step.Ends to) = Unit {0}
-GoesSoundly g (step.Goes next) = Sound g next
+-- no name is assigned yet in the block
+abbrev pub Fresh : walk.Walk → Type 0
+Fresh w = w.scope.set ≡ None
+
+-- a walk goes on with a block, and so many may follow
+pub record Enters (g : code.Given) (fuel : ℕ) (w : walk.Walk) : Type 0 where
+  pub sound : Sound g w
+  pub fresh : Fresh w
+  pub as_many : w.fuel ≡ fuel
+
+-- if a walk goes on
+abbrev pub GoesSoundly : code.Given → ℕ → walks.Step → Type 0
+GoesSoundly g fuel (step.Ends to) = Unit {0}
+GoesSoundly g fuel (step.Goes next) = Enters g fuel next
+
+-- what a call of a block that is no label has of its walk
+abbrev pub entered_body : code.Given → walk.Walk → Call → Body
+entered_body g w call = enters (params_of (slice_get g.blocks.now call.target)) call.args (further_blocks g w call.target)
+
+-- the call of a label, counted from 0
+abbrev pub called_body : code.Given → ℕ → Call → Body
+called_body g label call = calls label (get_or g.tail.now.places label []) call.args
+
+-- the same walk, one select further in, with no item to the left but the gate
+abbrev pub inner_walk : walk.Walk → Option ℕ → walk.Walk
+inner_walk w at = record w { at = at; items = 1; depth = w.depth + 1 }
 
 -- a test and its two calls
 abbrev pub pick_body : code.Given → walk.Walk → Term → Call → Call → Body
-pick_body g w t yes no =
+pick_body g w t first second =
     let next = goes (anf_of g) g.tail.now (further_blocks g w) in
-    picks t (next yes) (next no)
+    picks t (next first) (next second)
 
 -- an arm of a test: the select of a call's body behind its gate, one select further in
 abbrev pub arm_select : List Expr → code.Given → walk.Walk → Gate → Body → Select

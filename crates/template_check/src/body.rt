@@ -1,23 +1,22 @@
 //! The walk over a label's blocks beside its branch.
 
-ghost use Rattle.std.specs.Prelude.{◌≡◌, ◌<◌, ◌+◌, ◌≤◌, IfOk, List, Option, suc, slice_get, get_or, length, []};
+ghost use Rattle.std.specs.Prelude.{◌≡◌, ◌<◌, ◌+◌, ◌≤◌, IfOk, List, suc, Some, length};
 ghost use Rattle.away_trees.specs.declared.queries.Expr.{Expr};
 ghost use Rattle.call_forms.specs.Bodies as bodies;
-ghost use Rattle.call_forms.specs.Forms.{params_of};
 ghost use Rattle.template_check.specs.Walks as spec;
-ghost use Rattle.template_check.specs.Walks.{GivenOf, LabelsOf, Sound, StepRead, GoesSoundly, BodyRead, WalkRead, BranchRead};
+ghost use Rattle.template_check.specs.Walks.{GivenOf, Sound, StepRead, GoesSoundly, ArmRead, BodyRead, WalkRead, BranchRead};
 
-use crate::arms::pick;
-use crate::labels::{label_of, label_refs, params_of, places_of, type_of_name};
+use crate::labels::{label_refs, params_of, places_of};
+use crate::steps::{assign, fail_end, go, return_end};
 use away_types::Slot;
-use away_values::{Class, NoMemory, Ty};
+use away_values::{NoMemory, Ty};
 use block_forms::Term;
 use call_forms::{AnfBlock, Call, CallEnd, Tail};
 use query_signs::Sign;
 use sqlite_items::Items;
 use std::alloc::Global;
 use template_reads::{
-    Entries, Gate, Ref, Scope, call_row, close, end_of_body, fault_row, find_all, open_body, term, to_list, value_row,
+    Entries, Gate, Scope, all_of, close, close_lateral, end_of_body, open_body, open_lateral, term, to_list,
 };
 
 /// What a walk reads: the query's signs, the expressions, the types, the forms, and the label of each block.
@@ -52,116 +51,85 @@ pub(crate) enum Step<'a> {
     Ends(Option<usize>),
 }
 
-/// The item of a block's assignment, after which its name stands for it.
-fn assign<'a>(
-    alloc: Global,
-    g: &Given<'a>,
-    w: Walk<'a>,
-    n: u32,
-    t: &Term,
-) -> Result<Walk<'a>, NoMemory>
-    requires { Sound g.now w }
-    requires { w.items + w.fuel ≤ length g.now.blocks.now }
-    ensures { IfOk result (λ next. Sound g.now next) }
-    ensures { IfOk result (λ next. (table : List Expr) → GivenOf table g.now → (x : bodies.Body) (to : Option ℕ)
-        → BodyRead table g.now next x to → BodyRead table g.now w (bodies.sets n t.now x) to) }
+/// The walk at the beginning of a test's arm, one select further in.
+fn inner<'a>(alloc: Global, w: &Walk<'a>, at: Option<usize>) -> Result<Walk<'a>, NoMemory>
+    requires { w.now.depth < 18446744073709551615 }
+    ensures { IfOk result (λ next. next ≡ spec.inner_walk w.now at) }
 {
-    let ty = type_of_name(g.slots, g.names, n);
-    let at = term(alloc, g.signs, w.at, g.entries, &w.scope, t, ty, w.depth)?;
-    let here = Ref {
-        from: w.depth + 1,
-        item: w.items,
-        column: 0,
-    };
     Ok(Walk {
         block: w.block,
         at,
-        items: w.items + 1,
-        depth: w.depth,
+        items: 1,
+        depth: w.depth + 1,
         fuel: w.fuel,
         scope: Scope {
-            set: Some((n, here)),
+            set: w.scope.set,
             names: w.scope.names,
-            refs: w.scope.refs,
+            refs: Items::from_slice(alloc, w.scope.refs.as_slice())?,
         },
     })
 }
 
-/// A call of a label is a row; a call of another block goes on with its names.
-pub(crate) fn go<'a>(alloc: Global, g: &Given<'a>, w: Walk<'a>, call: &Call) -> Result<Step<'a>, NoMemory>
-    requires { Sound g.now w }
-    ensures { IfOk result (λ s. GoesSoundly g.now s) }
-    ensures { IfOk result (λ s. (table : List Expr) → GivenOf table g.now
-        → StepRead table g.now w (bodies.goes (spec.anf_of g.now) g.now.tail.now (spec.further_blocks g.now w) call.now) s) }
+/// One arm of a test: a body behind its gate.
+#[cycle(walk)]
+fn arm<'a>(
+    alloc: Global,
+    g: &Given<'a>,
+    w: &Walk<'a>,
+    at: Option<usize>,
+    by: Gate,
+    call: &Call,
+) -> Result<Option<usize>, NoMemory>
+    requires sound { Sound g.now w.now }
+    requires further { w.now.depth + suc w.now.fuel ≤ length g.now.blocks.now }
+    ensures { IfOk result (λ to. (table : List Expr) → GivenOf table g.now
+        → ArmRead table g.now w.now by (bodies.goes (spec.anf_of g.now) g.now.tail.now (spec.further_blocks g.now w.now) call.now) at to) }
 {
-    let Some(refs) = find_all(alloc, &w.scope, call.args.as_slice())? else {
-        return Ok(Step::Ends(None));
-    };
-    match label_of(g, call.target) {
-        None => Ok(enter_block(g, w, call, refs)),
-        Some(label) => Ok(Step::Ends(call_end(g, &w, label, call, refs.as_slice()))),
+    let next = inner(alloc, w, open_body(g.signs, at, by))?;
+    match go(alloc, g, next, call)? {
+        Step::Ends(at) => Ok(end_of_body(g.signs, at)),
+        Step::Goes(next) => {
+            let at = body(alloc, g, next)?;
+            Ok(end_of_body(g.signs, at))
+        }
     }
 }
 
-/// A block that is no label: its parameters stand for what is passed.
-fn enter_block<'a>(g: &Given<'a>, w: Walk<'a>, call: &Call, refs: Items<Ref>) -> Step<'a> {
-    let params = params_of(g, call.target);
-    if call.args.len() != params.len() {
-        return Step::Ends(None);
-    }
-    Step::Goes(Walk {
-        block: call.target,
-        at: w.at,
-        items: w.items,
-        depth: w.depth,
-        fuel: w.fuel,
-        scope: Scope {
-            set: None,
-            names: params,
-            refs,
-        },
-    })
-}
-
-fn call_end(g: &Given<'_>, w: &Walk<'_>, label: usize, call: &Call, refs: &[Ref]) -> Option<usize> {
-    let places = places_of(g, label);
-    if call.args.len() != places.len() {
-        return None;
-    }
-    let at = to_list(g.signs, w.at);
-    let columns = g.tail.columns.as_slice();
-    close(
-        g.signs,
-        call_row(g.signs, at, label, places, refs, columns, g.result, w.depth),
-    )
-}
-
-fn return_end(alloc: Global, g: &Given<'_>, w: &Walk<'_>, t: &Term) -> Result<Option<usize>, NoMemory>
-    requires { Sound g.now w.now }
-    ensures { IfOk result (λ to. (table : List Expr) → GivenOf table g.now → BodyRead table g.now w.now (bodies.returns t.now) to) }
+/// A test and its two bodies, behind which the row of their item is the list.
+#[cycle(walk)]
+fn pick<'a>(
+    alloc: Global,
+    g: &Given<'a>,
+    w: &Walk<'a>,
+    t: &Term,
+    yes: &Call,
+    no: &Call,
+) -> Result<Option<usize>, NoMemory>
+    requires sound { Sound g.now w.now }
+    requires further { w.now.depth + suc w.now.fuel ≤ length g.now.blocks.now }
+    ensures { IfOk result (λ to. (table : List Expr) → GivenOf table g.now
+        → BodyRead table g.now w.now (spec.pick_body g.now w.now t.now yes.now no.now) to) }
 {
-    let at = term(alloc, g.signs, w.at, g.entries, &w.scope, t, g.result, w.depth)?;
-    let at = to_list(g.signs, at);
-    let at = value_row(g.signs, at, w.items, g.tail.columns.as_slice());
+    let at = term(alloc, g.signs, w.at, g.entries, &w.scope, t, Ty::Boolean, w.depth)?;
+    if at.is_none() {
+        return Ok(None);
+    }
+    let at = open_lateral(g.signs, at);
+    let at = arm(alloc, g, w, at, Gate::Yes(w.items), yes)?;
+    let at = arm(alloc, g, w, at, Gate::No(w.items), no)?;
+    let at = to_list(g.signs, close_lateral(g.signs, at));
+    let at = all_of(g.signs, at, w.items + 1, g.tail.columns.len() + 4);
     Ok(close(g.signs, at))
-}
-
-fn fail_end(g: &Given<'_>, w: &Walk<'_>, class: Class) -> Option<usize>
-    ensures { (table : List Expr) → BodyRead table g.now w.now (bodies.fails class) result }
-{
-    let at = to_list(g.signs, w.at);
-    let at = fault_row(g.signs, at, class, g.tail.columns.as_slice(), g.result);
-    close(g.signs, at)
 }
 
 /// The end of a block.
 #[cycle(walk)]
 fn end<'a>(alloc: Global, g: &Given<'a>, w: Walk<'a>, end: &CallEnd) -> Result<Step<'a>, NoMemory>
-    requires { Sound g.now w }
-    requires { w.depth + suc w.fuel ≤ length g.now.blocks.now }
-    ensures { IfOk result (λ s. GoesSoundly g.now s) }
-    ensures { IfOk result (λ s. (table : List Expr) → GivenOf table g.now
-        → StepRead table g.now w (bodies.end_body (spec.anf_of g.now) g.now.tail.now (spec.further_blocks g.now w) end.now) s) }
+    requires sound { Sound g.now w }
+    requires further { w.depth + suc w.fuel ≤ length g.now.blocks.now }
+    ensures sound { IfOk result (λ s. GoesSoundly g.now w.entry.fuel s) }
+    ensures read { IfOk result (λ s. (table : List Expr) → GivenOf table g.now
+        → StepRead table g.now w.entry (bodies.end_body (spec.anf_of g.now) g.now.tail.now (spec.further_blocks g.now w.entry) end.now) s) }
 {
     match end {
         CallEnd::Go(call) => go(alloc, g, w, call),
@@ -174,12 +142,13 @@ fn end<'a>(alloc: Global, g: &Given<'a>, w: Walk<'a>, end: &CallEnd) -> Result<S
 /// One block: its assignment and its end.
 #[cycle(walk)]
 fn block<'a>(alloc: Global, g: &Given<'a>, w: Walk<'a>, x: &AnfBlock) -> Result<Step<'a>, NoMemory>
-    requires { Sound g.now w }
-    requires { w.depth + suc w.fuel ≤ length g.now.blocks.now }
-    requires { w.items + w.fuel ≤ length g.now.blocks.now }
-    ensures { IfOk result (λ s. GoesSoundly g.now s) }
-    ensures { IfOk result (λ s. (table : List Expr) → GivenOf table g.now
-        → StepRead table g.now w (bodies.block_body (spec.anf_of g.now) g.now.tail.now (spec.further_blocks g.now w) (Some x.now)) s) }
+    requires sound { Sound g.now w }
+    requires fresh { spec.Fresh w }
+    requires further { w.depth + suc w.fuel ≤ length g.now.blocks.now }
+    requires room { w.items + w.fuel ≤ length g.now.blocks.now }
+    ensures sound { IfOk result (λ s. GoesSoundly g.now w.entry.fuel s) }
+    ensures read { IfOk result (λ s. (table : List Expr) → GivenOf table g.now
+        → StepRead table g.now w.entry (bodies.block_body (spec.anf_of g.now) g.now.tail.now (spec.further_blocks g.now w.entry) (Some x.now)) s) }
 {
     match &x.set {
         None => end(alloc, g, w, &x.end),
@@ -192,9 +161,10 @@ fn block<'a>(alloc: Global, g: &Given<'a>, w: Walk<'a>, x: &AnfBlock) -> Result<
 
 /// The items and the list from a block on, through as many blocks as may follow: the place behind the list.
 #[cycle(walk)]
-pub(crate) fn body<'a>(alloc: Global, g: &Given<'a>, start: Walk<'a>) -> Result<Option<usize>, NoMemory>
-    requires { Sound g.now start }
-    ensures { IfOk result (λ to. (table : List Expr) → GivenOf table g.now → WalkRead table g.now start to) }
+fn body<'a>(alloc: Global, g: &Given<'a>, start: Walk<'a>) -> Result<Option<usize>, NoMemory>
+    requires sound { Sound g.now start }
+    requires fresh { spec.Fresh start }
+    ensures { IfOk result (λ to. (table : List Expr) → GivenOf table g.now → WalkRead table g.now start.entry to) }
 {
     let mut w = start;
     loop {

@@ -1,10 +1,10 @@
 //! The check that a query is that of a tail form.
 #![tactic(auto)]
 
-mod arms;
 mod body;
 mod check;
 mod labels;
+mod steps;
 mod whole;
 
 pub use check::check_templated;

@@ -1,6 +1,6 @@
 //! The items that give a term's value.
 
-ghost use Rattle.std.specs.Prelude.{◌≡◌, ◌↔◌, ◌+◌, IsTrue, IfOk, List, length, suc, ◌∷◌, ◌++◌};
+ghost use Rattle.std.specs.Prelude.{◌≡◌, ◌↔◌, ◌+◌, ◌<◌, IsTrue, IfOk, List, length, suc, ◌∷◌, ◌++◌};
 ghost use Rattle.away_trees.specs.declared.queries.Expr.{Expr};
 ghost use Rattle.away_trees.specs.declared.queries.Expr.TheVariants as expr;
 ghost use Rattle.call_forms.specs.Templated.{HasReferences};
@@ -82,11 +82,11 @@ fn slot_ref(slots: &[u32], refs: &[Ref], slot: u32) -> Ref
 }
 
 /// The first sign of a literal's cast, and of the literal.
-fn open_literal(signs: &[Sign], at: Option<usize>, ty: Ty, kind: Kind) -> Option<usize>
-    ensures { Reads (λ rest. sign.Open (kind.Cast ty) ∷ sign.Open kind ∷ rest) signs.now at result }
+fn open_literal(signs: &[Sign], at: Option<usize>, ty: Ty, literal: Kind) -> Option<usize>
+    ensures { Reads (λ rest. sign.Open (kind.Cast ty) ∷ sign.Open literal ∷ rest) signs.now at result }
 {
     let at = open(signs, at, Kind::Cast(ty));
-    open(signs, at, kind)
+    open(signs, at, literal)
 }
 
 /// The first sign of a node, where a slot is its column and a literal has its cast. Behind a number or a truth the literal's own end follows.
@@ -162,8 +162,9 @@ fn placed(
     let mut at = at;
     let mut depth = Depth { out, within: 1 };
     for i in 0..of.len() {
-        at = placed_sign(signs, at, &of[i], slots, refs, depth);
-        depth = next_depth(&of[i], depth);
+        let next = &of[i];
+        at = placed_sign(signs, at, next, slots, refs, depth);
+        depth = next_depth(next, depth);
     }
     at
 }
