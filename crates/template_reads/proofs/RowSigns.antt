@@ -1,5 +1,5 @@
 -- The signs of the rows that bodies give.
-use Rattle.std.proofs.Common.{◌≡◌, ℕ, zero, suc, true, false, pos, ◌+◌, ◌<◌, ◌≤◌, List, [], ◌∷◌, ◌++◌, length, get_or, drop, map, Option, refl, sym, ap, ◌∙◌, arith}
+use Rattle.std.proofs.Common.{◌≡◌, ℕ, suc, true, false, pos, ◌+◌, ◌<◌, ◌≤◌, List, [], ◌∷◌, ◌++◌, length, get_or, drop, map, Option, refl, sym, ap, ◌∙◌, arith}
 use Rattle.std.proofs.lemmas.List.{drop_more}
 use Rattle.away_trees.specs.declared.queries.Expr.{Expr}
 use Rattle.away_values.specs.declared.types.Ty.{Ty}

@@ -7,6 +7,6 @@ use Rattle.template_reads.proofs.TreeSigns.{is_signs}
 use Rattle.template_reads.proofs.parts.condition.Goals as goal
 
 pub returns-in-No : goal.returns-in-No
-returns-in-No c = 
+returns-in-No c =
     as_reads (λ rest. is_signs (col 2 c.in-No.item 0) test.True true rest ∙ ap (λ g. expr_put (condition g) rest) (sym c.in-No.is))
     (then_reads c.open-at.ensures (then_reads c.column-in-No.ensures c.close.ensures))

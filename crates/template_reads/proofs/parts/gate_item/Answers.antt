@@ -6,7 +6,7 @@ use Rattle.template_reads.proofs.TreeSigns.{select_signs, one_signs}
 use Rattle.template_reads.proofs.parts.gate_item.Goals as goal
 
 pub returns : goal.returns
-returns c = 
+returns c =
     let s = select (truth true ∷ []) [] (Some (condition c.args.gate)) in
     as_reads (λ rest. ap lateral_put (select_signs (truth true ∷ []) [] (Some (condition c.args.gate)) (lateral_end_put rest)) ∙ one_signs s rest)
     (then_reads c.open_lateral.ensures (then_reads c.enter-at.ensures (then_reads c.empty.ensures (then_reads c.open-at.ensures (then_reads c.truth.ensures (then_reads c.close-at.ensures (then_reads c.open.ensures (then_reads c.condition-at.ensures (then_reads c.close.ensures (then_reads c.rest_of_select-at.ensures c.close_lateral.ensures))))))))))
