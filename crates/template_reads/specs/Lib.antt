@@ -4,3 +4,4 @@ pub mod References
 pub mod Rows
 pub mod Entries
 pub mod Placing
+pub mod Occurrences

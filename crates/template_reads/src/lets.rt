@@ -1,6 +1,6 @@
 //! The items that give a term's value.
 
-ghost use Rattle.std.specs.Prelude.{◌≡◌, ◌↔◌, ◌+◌, IsTrue, IfOk, List, length, suc, ◌∷◌, ◌++◌};
+ghost use Rattle.std.specs.Prelude.{◌≡◌, ◌↔◌, ◌+◌, ◌<◌, IsTrue, IfOk, List, length, suc, ◌∷◌, ◌++◌};
 ghost use Rattle.away_trees.specs.declared.queries.Expr.{Expr};
 ghost use Rattle.away_trees.specs.declared.queries.Expr.TheVariants as expr;
 ghost use Rattle.call_forms.specs.Templated.{HasReferences};
@@ -51,13 +51,24 @@ fn open_ref(signs: &[Sign], at: Option<usize>, found: Ref, depth: Depth) -> Opti
         return None;
     }
     match &signs[place] {
-        Sign::Open(Kind::Column(c)) => { if is_ref(*c, found, depth) { Some(place + 1) } else { None } }
+        Sign::Open(Kind::Column(c)) => {
+            if is_ref(*c, found, depth) {
+                Some(place + 1)
+            } else {
+                None
+            }
+        }
         _ => None,
     }
 }
 
 /// The reference as a column, in a select so deep.
-pub(crate) fn reference(signs: &[Sign], at: Option<usize>, found: Ref, depth: usize) -> Option<usize>
+pub(crate) fn reference(
+    signs: &[Sign],
+    at: Option<usize>,
+    found: Ref,
+    depth: usize,
+) -> Option<usize>
     ensures { Reads (expr_put (expr.Column (col_at depth found))) signs.now at result }
 {
     let depth = Depth {
@@ -82,11 +93,11 @@ fn slot_ref(slots: &[u32], refs: &[Ref], slot: u32) -> Ref
 }
 
 /// The first sign of a literal's cast, and of the literal.
-fn open_literal(signs: &[Sign], at: Option<usize>, ty: Ty, kind: Kind) -> Option<usize>
-    ensures { Reads (λ rest. sign.Open (kind.Cast ty) ∷ sign.Open kind ∷ rest) signs.now at result }
+fn open_literal(signs: &[Sign], at: Option<usize>, ty: Ty, literal: Kind) -> Option<usize>
+    ensures { Reads (λ rest. sign.Open (kind.Cast ty) ∷ sign.Open literal ∷ rest) signs.now at result }
 {
     let at = open(signs, at, Kind::Cast(ty));
-    open(signs, at, kind)
+    open(signs, at, literal)
 }
 
 /// The first sign of a node, where a slot is its column and a literal has its cast. Behind a number or a truth the literal's own end follows.
@@ -121,7 +132,11 @@ fn next_depth(sign: &Sign, depth: Depth) -> Depth
         },
         Sign::Leave => Depth {
             out: depth.out,
-            within: if depth.within > 1 { depth.within - 1 } else { 1 },
+            within: if depth.within > 1 {
+                depth.within - 1
+            } else {
+                1
+            },
         },
         _ => depth,
     }
@@ -162,8 +177,9 @@ fn placed(
     let mut at = at;
     let mut depth = Depth { out, within: 1 };
     for i in 0..of.len() {
-        at = placed_sign(signs, at, &of[i], slots, refs, depth);
-        depth = next_depth(&of[i], depth);
+        let next = &of[i];
+        at = placed_sign(signs, at, next, slots, refs, depth);
+        depth = next_depth(next, depth);
     }
     at
 }
@@ -182,7 +198,14 @@ fn expression(
     if entry.is_null {
         return null_of(signs, at, ty);
     }
-    placed(signs, at, entry.signs.as_slice(), entry.slots.as_slice(), refs, out)
+    placed(
+        signs,
+        at,
+        entry.signs.as_slice(),
+        entry.slots.as_slice(),
+        refs,
+        out,
+    )
 }
 
 /// `LATERAL (SELECT e)`

@@ -37,7 +37,9 @@ pub enum Wanted<'a> {
     Name(&'a str),
 }
 
-fn is_column(c: Col, level: usize, item: usize, column: usize) -> bool {
+fn is_column(c: Col, level: usize, item: usize, column: usize) -> bool
+    ensures { IsTrue result ↔ (c ≡ record { level = level; item = item; column = column }) }
+{
     c.level as usize == level && c.item as usize == item && c.column as usize == column
 }
 
@@ -66,7 +68,9 @@ fn is_node(here: Kind, want: Node) -> bool
 }
 
 /// Whether a text is the code points of a class.
-fn is_code(text: &Word, class: Class) -> bool {
+fn is_code(text: &Word, class: Class) -> bool
+    ensures { IsTrue result ↔ (text.now ≡ class.code) }
+{
     let mut count = 0;
     for c in text.text().chars() {
         if count >= 5 || u32::from(c) != u32::from(class.code[count]) {
