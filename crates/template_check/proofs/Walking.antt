@@ -1,5 +1,6 @@
 -- What is read of a body, by what is read of its parts.
-use Rattle.std.proofs.Common.{◌≡◌, ℕ, zero, suc, ◌+◌, ◌-◌, ◌<◌, ◌≤◌, List, [], ◌∷◌, ◌++◌, map, length, slice_get, get_or, Option, Some, None, ◌↔◌, refl, sym, ap, ◌∙◌, subst, arith}
+use Rattle.std.proofs.Common.{◌≡◌, ℕ, zero, suc, ◌+◌, ◌-◌, ◌<◌, ◌≤◌, List, [], ◌∷◌, ◌++◌, map, length, slice_get, get_or, Option, Some, None, Result, Ok, Err, IfOk, false, ◌↔◌, refl, sym, ap, ◌∙◌, subst, arith}
+use Rattle.core.specs.Option.{is_some}
 use Rattle.away_trees.specs.declared.queries.Col.{Col}
 use Rattle.away_trees.specs.declared.queries.Expr.{Expr}
 use Rattle.away_values.specs.declared.types.Ty.{Ty}
@@ -49,6 +50,13 @@ plus_one n = omega arith
 abbrev pub assigned_walk : walk.Walk → ℕ → Option ℕ → walk.Walk
 assigned_walk w n at =
     record w { at = at; items = w.items + 1; scope = record { set = Some (n, item_ref w.depth w.items); names = w.scope.names; refs = w.scope.refs } }
+
+-- a walk that is on its way: what ends it from here ends it from its start
+pub record WalksOn (g : code.Given) (start w : walk.Walk) : Type 0 where
+  pub sound : Sound g w
+  pub fresh : Fresh w
+  pub fewer : w.fuel ≤ start.fuel
+  pub read : (table : List Expr) → GivenOf table g → (to : Option ℕ) → WalkRead table g w to → WalkRead table g start to
 
 module _ (table : List Expr) (g : code.Given) where
   -- the items and the list at a walk's place, whatever is seen from there
@@ -180,12 +188,29 @@ module _ (table : List Expr) (g : code.Given) where
       (then_where item (reads_then_where begun (then_where one (where_then_reads other (then_reads behind (then_reads list (then_reads row close)))))))
 
   -- nothing is read behind a test that isn't there
-  pub no_test : (w : walk.Walk) (t : Term) (x y : Body)
-      → ReadsWhere (HasReferences table (names_of w.scope) t) (from_put (let_at table w.depth (refs_of w.depth w.scope) ty.Boolean t)) g.signs.now w.at None
+  pub no_test : (w : walk.Walk) (t : Term) (x y : Body) (at : Option ℕ) → at ≡ None
+      → ReadsWhere (HasReferences table (names_of w.scope) t) (from_put (let_at table w.depth (refs_of w.depth w.scope) ty.Boolean t)) g.signs.now w.at at
       → BodyRead table g w (picks t x y) None
-  no_test w t x y item =
-      after_picking w t x y None None None None None None None None item
+  no_test w t x y at none item =
+      let nothing = subst (λ at. ReadsWhere (HasReferences table (names_of w.scope) t) (from_put (let_at table w.depth (refs_of w.depth w.scope) ty.Boolean t)) g.signs.now w.at at) none item in
+      after_picking w t x y None None None None None None None None nothing
       (no_place refl) (no_place_where refl) (no_place_where refl) (no_place refl) (no_place refl) (no_place refl) (no_place refl)
+
+  -- ---- arms
+
+  pub arm_ends : (w next : walk.Walk) (call : Call) (start at : Option ℕ) (s : walks.Step) → next ≡ inner_walk w start → s ≡ step.Ends at
+      → StepRead table g next (goes (anf_of g) g.tail.now (further_blocks g next) call) s
+      → BodyRead table g (inner_walk w start) (goes (anf_of g) g.tail.now (further_blocks g w) call) at
+  arm_ends w next call start at s is ends read =
+      subst (λ next. BodyRead table g next (goes (anf_of g) g.tail.now (further_blocks g next) call) at) is
+      (subst (λ s. StepRead table g next (goes (anf_of g) g.tail.now (further_blocks g next) call) s) ends read)
+
+  pub arm_goes : (w next further : walk.Walk) (call : Call) (start at : Option ℕ) (s : walks.Step) → next ≡ inner_walk w start → s ≡ step.Goes further
+      → StepRead table g next (goes (anf_of g) g.tail.now (further_blocks g next) call) s → WalkRead table g further at
+      → BodyRead table g (inner_walk w start) (goes (anf_of g) g.tail.now (further_blocks g w) call) at
+  arm_goes w next further call start at s is goes_on read rest =
+      subst (λ next. BodyRead table g next (goes (anf_of g) g.tail.now (further_blocks g next) call) at) is
+      (subst (λ s. StepRead table g next (goes (anf_of g) g.tail.now (further_blocks g next) call) s) goes_on read at rest)
 
   -- ---- blocks
 
@@ -194,6 +219,16 @@ module _ (table : List Expr) (g : code.Given) where
       → StepRead table g next x s → StepRead table g w y s
   step_behind w next x y behind (step.Ends to) read = behind to read
   step_behind w next x y behind (step.Goes further) read = λ to rest. behind to (read to rest)
+
+  pub behind_assignment : (w next : walk.Walk) (x : AnfBlock) (set : ℕ × Term) (s : walks.Step) → x.set ≡ Some set → next.fuel ≡ w.fuel
+      → ((y : Body) (to : Option ℕ) → BodyRead table g next y to → BodyRead table g w (sets set.0 set.1 y) to)
+      → StepRead table g next (end_body (anf_of g) g.tail.now (further_blocks g next) x.end) s
+      → StepRead table g w (sets_first (anf_of g) g.tail.now x.set (end_body (anf_of g) g.tail.now (further_blocks g w) x.end)) s
+  behind_assignment w next x set s is same assigned read =
+      let rest = end_body (anf_of g) g.tail.now (further_blocks g w) x.end in
+      subst (λ set. StepRead table g w (sets_first (anf_of g) g.tail.now set rest) s) (sym is)
+      (step_behind w next rest (sets set.0 set.1 rest) (λ to. assigned rest to) s
+        (subst (λ n. StepRead table g next (end_body (anf_of g) g.tail.now (tree (anf_of g) g.tail.now n) x.end) s) same read))
 
   pub ends_so : (w : walk.Walk) (e end : CallEnd) (s : walks.Step) → e ≡ end → StepRead table g w (end_body (anf_of g) g.tail.now (further_blocks g w) end) s
       → StepRead table g w (end_body (anf_of g) g.tail.now (further_blocks g w) e) s
@@ -218,6 +253,16 @@ module _ (table : List Expr) (g : code.Given) where
       subst (λ n. BodyRead table g w (tree (anf_of g) g.tail.now n w.block) to) (sym more)
       (subst (λ x. BodyRead table g w (block_body (anf_of g) g.tail.now (tree (anf_of g) g.tail.now n) x) to) (sym there) read)
 
+  pub through_step : (w next : walk.Walk) (x : AnfBlock) (s : walks.Step) → (w.fuel ≡ 0 → ⊥) → next ≡ record w { fuel = w.fuel - 1 }
+      → slice_get g.blocks.now w.block ≡ Some x → StepRead table g next (block_body (anf_of g) g.tail.now (further_blocks g next) (Some x)) s
+      → StepRead table g w (further_blocks g w w.block) s
+  through_step w next x s some is there read =
+      let left : w.fuel ≡ suc (w.fuel - 1) = omega (arith, some) in
+      let here = block_body (anf_of g) g.tail.now (tree (anf_of g) g.tail.now (w.fuel - 1)) (Some x) in
+      let inside : walk.Walk = record w { fuel = w.fuel - 1 } in
+      step_behind w inside here (further_blocks g w w.block) (λ to. through_block w (w.fuel - 1) x to left there) s
+      (subst (λ next. StepRead table g next (block_body (anf_of g) g.tail.now (further_blocks g next) (Some x)) s) is read)
+
   -- ---- the branch of a label
 
   pub after_branch : (label block : ℕ) (w : walk.Walk) (places : List ℕ) (from to end : Option ℕ) → w.scope.set ≡ None
@@ -238,3 +283,23 @@ module _ (table : List Expr) (g : code.Given) where
         (λ i. open_put (gate.Label label) (parts_put (at_place (depth i) (λ k. columns k i) (items i) (whole i)) (no_filter_put r)))
         ∙ gated_put (gate.Label label) (at_place 0 (paired of_row (no_column 0) (params_of (slice_get g.blocks.now block)) (get_or g.tail.now.places label [])) 1 (body_of (anf_of g) g.tail.now block)) r)
       (reads_then_where begun (where_then_reads read close))
+
+-- ---- places and answers
+
+pub there_is : {X : Type 0} (xs : List X) (i : ℕ) (other : X) → i < length xs → slice_get xs i ≡ Some (get_or xs i other)
+there_is [] i other lt = absurd (omega arith)
+there_is (x ∷ xs) zero other lt = refl
+there_is (x ∷ xs) (suc i) other lt = there_is xs i other (omega arith)
+
+pub none_past : {X : Type 0} (xs : List X) (i : ℕ) → length xs ≤ i → slice_get xs i ≡ None
+none_past [] i le = refl
+none_past (x ∷ xs) zero le = absurd (omega arith)
+none_past (x ∷ xs) (suc i) le = none_past xs i (omega arith)
+
+pub not_some : {X : Type 0} (x : Option X) → is_some x ≡ false → x ≡ None
+not_some None e = refl
+not_some (Some x) e = absurd (cc)
+
+pub when_ok : {X E : Type 0} (P Q : X → Type 0) (r : Result X E) → ((x : X) → P x → Q x) → IfOk r P → IfOk r Q
+when_ok P Q (Ok x) further h = further x h
+when_ok P Q (Err e) further h = tt

@@ -29,6 +29,7 @@ pub(crate) fn assign<'a>(
     requires room { w.items + w.fuel ≤ length g.now.blocks.now }
     ensures sound { IfOk result (λ next. Sound g.now next) }
     ensures fuel { IfOk result (λ next. next.fuel ≡ w.entry.fuel) }
+    ensures depth { IfOk result (λ next. next.depth ≡ w.entry.depth) }
     ensures read { IfOk result (λ next. (table : List Expr) → GivenOf table g.now → (x : bodies.Body) (to : Option ℕ)
         → BodyRead table g.now next x to → BodyRead table g.now w.entry (bodies.sets n t.now x) to) }
 {

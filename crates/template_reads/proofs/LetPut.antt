@@ -1,9 +1,8 @@
 -- The signs of `LATERAL (SELECT e)`.
-use Rattle.std.proofs.Common.{◌≡◌, List, [], ◌∷◌, map, Option, Some, None, sym, ap, ◌∙◌}
+use Rattle.std.proofs.Common.{◌≡◌, [], ◌∷◌, map, None, sym, ap, ◌∙◌}
 use Rattle.std.specs.Prelude.{true}
 use Rattle.away_trees.specs.declared.queries.Expr.{Expr}
 use Rattle.away_trees.specs.declared.queries.Select.{Select}
-use Rattle.away_trees.specs.Algebra.{expr_of}
 use Rattle.away_trees.proofs.Equations as eq
 use Rattle.sql_meaning.specs.Template.{let_item}
 use Rattle.sql_meaning.specs.Trees.{item, select, one}

@@ -13,3 +13,5 @@ pub mod EntriesInOrder
 pub mod SameKind
 pub mod TextOfClass
 pub mod TreeSigns
+pub mod RowsRead
+pub mod RowSigns

@@ -1,5 +1,5 @@
 -- Reading one thing after the other.
-use Rattle.std.proofs.Common.{◌≡◌, ℕ, zero, suc, ◌+◌, ◌<◌, ◌≤◌, List, [], ◌∷◌, length, get_or, drop, Option, Some, None, ◌↔◌, refl, sym, ap, ◌∙◌, arith}
+use Rattle.std.proofs.Common.{◌≡◌, ℕ, zero, suc, ◌+◌, ◌<◌, ◌≤◌, [], ◌∷◌, length, get_or, drop, Option, Some, None, refl, sym, ap, ◌∙◌, arith}
 use Rattle.std.proofs.lemmas.Option.{same_Some}
 use Rattle.query_signs.specs.declared.signs.Sign.{Sign}
 use Rattle.query_signs.specs.Signs.{Signs, Put}
@@ -42,20 +42,26 @@ first_or d (s ∷ ss) = s
 
 pub sign_read : (signs : Signs) (from : Option ℕ) (k : ℕ) (s want : Sign) → from ≡ Some k → k < length signs → s ≡ get_or signs k s → s ≡ want
     → Reads (λ rest. want ∷ rest) signs from (Some (k + 1))
-sign_read signs from k s want at lt is same = from_same at (record { told = λ rest. (
-  λ e. ap Some (ap rest_of (sym (drop_at signs k s lt is) ∙ same_Some (drop k signs) (want ∷ rest) e)),
-  λ e. ap Some (drop_at signs k s lt is ∙ (λ i. same i ∷ same_Some (drop (k + 1) signs) rest e i)),
-) })
+sign_read signs from k s want at lt is same = from_same at (record {
+  told = λ rest. (
+    λ e. ap Some (ap rest_of (sym (drop_at signs k s lt is) ∙ same_Some (drop k signs) (want ∷ rest) e)),
+    λ e. ap Some (drop_at signs k s lt is ∙ (λ i. same i ∷ same_Some (drop (k + 1) signs) rest e i)),
+  );
+})
 
 pub other_sign : (signs : Signs) (from : Option ℕ) (k : ℕ) (s want : Sign) → from ≡ Some k → k < length signs → s ≡ get_or signs k s → (s ≡ want → ⊥)
     → Reads (λ rest. want ∷ rest) signs from None
-other_sign signs from k s want at lt is other = from_same at (record { told = λ rest. (
-  λ e. absurd (other (ap (first_or s) (sym (drop_at signs k s lt is) ∙ same_Some (drop k signs) (want ∷ rest) e))),
-  λ e. absurd (cc),
-) })
+other_sign signs from k s want at lt is other = from_same at (record {
+  told = λ rest. (
+    λ e. absurd (other (ap (first_or s) (sym (drop_at signs k s lt is) ∙ same_Some (drop k signs) (want ∷ rest) e))),
+    λ e. absurd (cc),
+  );
+})
 
 pub no_sign : (signs : Signs) (from : Option ℕ) (k : ℕ) (want : Sign) → from ≡ Some k → length signs ≤ k → Reads (λ rest. want ∷ rest) signs from None
-no_sign signs from k want at le = from_same at (record { told = λ rest. (
-  λ e. absurd (let q : [] ≡ want ∷ rest = sym (drop_behind signs k le) ∙ same_Some (drop k signs) (want ∷ rest) e in cc),
-  λ e. absurd (cc),
-) })
+no_sign signs from k want at le = from_same at (record {
+  told = λ rest. (
+    λ e. absurd (let q : [] ≡ want ∷ rest = sym (drop_behind signs k le) ∙ same_Some (drop k signs) (want ∷ rest) e in cc),
+    λ e. absurd (cc),
+  );
+})

@@ -1,34 +1,40 @@
 -- Reading one thing after the other, where each is there only where something holds.
-use Rattle.std.proofs.Common.{◌≡◌, ℕ, List, Option, Some, None, ◌↔◌, refl, sym, ap, ◌∙◌}
+use Rattle.std.proofs.Common.{◌≡◌, ℕ, Option, Some, None, ◌↔◌, sym, ap, ◌∙◌}
 use Rattle.query_signs.specs.Signs.{Signs, Put}
 use Rattle.template_reads.specs.Read.{left_at, Reads, ReadsWhere}
 
 -- both where they hold
 pub then_where : {P Q : Type 0} {f g : Put} {signs : Signs} {k j r : Option ℕ} → ReadsWhere P f signs k j → ReadsWhere Q g signs j r
     → ReadsWhere (P × Q) (λ rest. f (g rest)) signs k r
-then_where {g = g} h i = record { told = λ rest. (
-  λ e. (i.told rest).0 (e.0.1, (h.told (g rest)).0 (e.0.0, e.1)),
-  λ e. (
-    (((h.told (g rest)).1 ((i.told rest).1 e).1).0, ((i.told rest).1 e).0),
-    ((h.told (g rest)).1 ((i.told rest).1 e).1).1,
-  ),
-) }
+then_where {g = g} h i = record {
+  told = λ rest. (
+    λ e. (i.told rest).0 (e.0.1, (h.told (g rest)).0 (e.0.0, e.1)),
+    λ e. (
+      (((h.told (g rest)).1 ((i.told rest).1 e).1).0, ((i.told rest).1 e).0),
+      ((h.told (g rest)).1 ((i.told rest).1 e).1).1,
+    ),
+  );
+}
 
 -- what is always there first
 pub reads_then_where : {P : Type 0} {f g : Put} {signs : Signs} {k j r : Option ℕ} → Reads f signs k j → ReadsWhere P g signs j r
     → ReadsWhere P (λ rest. f (g rest)) signs k r
-reads_then_where {g = g} h i = record { told = λ rest. (
-  λ e. (i.told rest).0 (e.0, (h.told (g rest)).0 e.1),
-  λ e. (((i.told rest).1 e).0, (h.told (g rest)).1 ((i.told rest).1 e).1),
-) }
+reads_then_where {g = g} h i = record {
+  told = λ rest. (
+    λ e. (i.told rest).0 (e.0, (h.told (g rest)).0 e.1),
+    λ e. (((i.told rest).1 e).0, (h.told (g rest)).1 ((i.told rest).1 e).1),
+  );
+}
 
 -- what is always there behind
 pub where_then_reads : {P : Type 0} {f g : Put} {signs : Signs} {k j r : Option ℕ} → ReadsWhere P f signs k j → Reads g signs j r
     → ReadsWhere P (λ rest. f (g rest)) signs k r
-where_then_reads {g = g} h i = record { told = λ rest. (
-  λ e. (i.told rest).0 ((h.told (g rest)).0 e),
-  λ e. (h.told (g rest)).1 ((i.told rest).1 e),
-) }
+where_then_reads {g = g} h i = record {
+  told = λ rest. (
+    λ e. (i.told rest).0 ((h.told (g rest)).0 e),
+    λ e. (h.told (g rest)).1 ((i.told rest).1 e),
+  );
+}
 
 -- where it holds, what is always there
 pub where_holds : {P : Type 0} {f : Put} {signs : Signs} {k r : Option ℕ} → P → Reads f signs k r → ReadsWhere P f signs k r
@@ -47,15 +53,19 @@ no_place_where {signs = signs} none = record { told = λ rest. (λ e. absurd (le
 
 -- the same place
 pub from_same_where : {P : Type 0} {f : Put} {signs : Signs} {k j r : Option ℕ} → k ≡ j → ReadsWhere P f signs j r → ReadsWhere P f signs k r
-from_same_where {signs = signs} same h = record { told = λ rest. (
-  λ e. (h.told rest).0 (e.0, ap (left_at signs) (sym same) ∙ e.1),
-  λ e. (((h.told rest).1 e).0, ap (left_at signs) same ∙ ((h.told rest).1 e).1),
-) }
+from_same_where {signs = signs} same h = record {
+  told = λ rest. (
+    λ e. (h.told rest).0 (e.0, ap (left_at signs) (sym same) ∙ e.1),
+    λ e. (((h.told rest).1 e).0, ap (left_at signs) same ∙ ((h.told rest).1 e).1),
+  );
+}
 
 -- another condition that holds exactly where the one does, and, where it does, the same signs
 pub as_where : {P Q : Type 0} {f g : Put} {signs : Signs} {k r : Option ℕ} → (P ↔ Q) → (Q → (rest : Signs) → f rest ≡ g rest)
     → ReadsWhere P f signs k r → ReadsWhere Q g signs k r
-as_where same eq h = record { told = λ rest. (
-  λ e. (h.told rest).0 (same.1 e.0, e.1 ∙ ap Some (sym (eq e.0 rest))),
-  λ e. (same.0 ((h.told rest).1 e).0, ((h.told rest).1 e).1 ∙ ap Some (eq (same.0 ((h.told rest).1 e).0) rest)),
-) }
+as_where same eq h = record {
+  told = λ rest. (
+    λ e. (h.told rest).0 (same.1 e.0, e.1 ∙ ap Some (sym (eq e.0 rest))),
+    λ e. (same.0 ((h.told rest).1 e).0, ((h.told rest).1 e).1 ∙ ap Some (eq (same.0 ((h.told rest).1 e).0) rest)),
+  );
+}

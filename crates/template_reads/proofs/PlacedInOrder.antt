@@ -1,5 +1,5 @@
 -- The signs of an expression with columns for its slots, one after the other.
-use Rattle.std.proofs.Common.{◌≡◌, ℕ, ℤ, Bool, zero, suc, ◌+◌, ◌-◌, ◌<◌, ◌≤◌, List, [], ◌∷◌, ◌++◌, length, get_or, drop, Option, Some, None, refl, sym, ap, ◌∙◌, subst, arith}
+use Rattle.std.proofs.Common.{◌≡◌, ℕ, ℤ, Bool, zero, suc, ◌+◌, ◌-◌, ◌<◌, ◌≤◌, List, [], ◌∷◌, ◌++◌, length, get_or, drop, Option, Some, refl, sym, ap, ◌∙◌, subst, arith}
 use Rattle.away_trees.specs.declared.queries.Expr.{Expr}
 use Rattle.away_trees.specs.declared.queries.Expr.TheVariants as expr
 use Rattle.away_trees.specs.declared.queries.Col.{Col}
@@ -148,10 +148,12 @@ module _ (out : ℕ) (slots : List ℕ) (refs : List Ref) where
   pub placed_ends : {signs : Signs} {start : Option ℕ} (of : Signs) (i : ℕ) {at : Option ℕ} {depth : Depth} → length of ≤ i → PlacedTo signs start of i at depth
       → Reads (all_placed of) signs start at
   placed_ends of i {at} le h =
-      h.whole at (record { told = λ rest. (
-        λ e. e ∙ ap Some (ap (λ l. placed_signs column_here h.selects l ++ rest) (drop_past of i le)),
-        λ e. e ∙ ap Some (ap (λ l. placed_signs column_here h.selects l ++ rest) (sym (drop_past of i le))),
-      ) })
+      h.whole at (record {
+        told = λ rest. (
+          λ e. e ∙ ap Some (ap (λ l. placed_signs column_here h.selects l ++ rest) (drop_past of i le)),
+          λ e. e ∙ ap Some (ap (λ l. placed_signs column_here h.selects l ++ rest) (sym (drop_past of i le))),
+        );
+      })
 
 -- ---- the whole expression
 

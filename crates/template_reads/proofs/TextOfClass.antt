@@ -1,6 +1,6 @@
 -- A text's characters beside a class's code.
 use Rattle.std.proofs.Common.{◌≡◌, ℕ, zero, suc, ◌+◌, ◌-◌, ◌<◌, ◌≤◌, List, [], ◌∷◌, ◌++◌, length, get_or, drop, refl, sym, ap, ◌∙◌, arith}
-use Rattle.std.proofs.lemmas.List.{drop_more, append_cancel_left, append_assoc, length-drop, append-nil}
+use Rattle.std.proofs.lemmas.List.{drop_more, append_cancel_left, append_assoc, length-drop}
 
 head_same : (c d : ℕ) (xs ys : List ℕ) → c ∷ xs ≡ d ∷ ys → c ≡ d
 head_same c d xs ys e = cc

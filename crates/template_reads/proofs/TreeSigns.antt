@@ -1,28 +1,25 @@
 -- The signs of the template's trees, by those of their parts.
-use Rattle.std.proofs.Common.{◌≡◌, ℕ, suc, true, Bool, ℤ, pos, List, [], ◌∷◌, map, Option, Some, None, refl, sym, ap, ◌∙◌}
+use Rattle.std.proofs.Common.{◌≡◌, ℕ, true, Bool, List, [], ◌∷◌, map, Option, None, refl, sym, ap, ◌∙◌}
 use Rattle.away_values.specs.declared.types.Ty.{Ty}
-use Rattle.away_values.specs.declared.types.Ty.TheVariants as ty
 use Rattle.away_values.specs.declared.operators.CmpOp.{CmpOp}
 use Rattle.away_values.specs.declared.operators.IsTest.{IsTest}
 use Rattle.away_trees.specs.declared.queries.Expr.{Expr}
 use Rattle.away_trees.specs.declared.queries.Expr.TheVariants as expr
-use Rattle.away_trees.specs.declared.queries.Expr.TheViews.{roll-Query, roll-Item, roll-FromItem, out-roll-Item, out-roll-FromItem}
+use Rattle.away_trees.specs.declared.queries.Expr.TheViews.{roll-Query, out-roll-Item, out-roll-FromItem}
 use Rattle.away_trees.specs.declared.queries.FromItem.{FromItem}
-use Rattle.away_trees.specs.declared.queries.Item.{Item}
 use Rattle.away_trees.specs.declared.queries.Select.{Select}
 use Rattle.away_trees.specs.declared.queries.Query.{Query}
 use Rattle.away_trees.specs.declared.queries.Source.TheVariants as source
-use Rattle.away_trees.specs.Algebra.{item_of, from_of, source_of}
+use Rattle.away_trees.specs.Algebra.{item_of, source_of}
 use Rattle.away_trees.proofs.Equations as eq
-use Rattle.query_signs.specs.declared.signs.Kind.{Kind}
 use Rattle.query_signs.specs.declared.signs.Kind.TheVariants as kind
 use Rattle.query_signs.specs.declared.signs.Manner.TheVariants.{Whole}
 use Rattle.query_signs.specs.declared.signs.Sign.TheVariants as sign
-use Rattle.query_signs.specs.Signs.{Signs, Put, node, leaf, row, option, shaping}
+use Rattle.query_signs.specs.Signs.{Signs, node, row, option, shaping}
 use Rattle.query_signs.proofs.PutNodes.{row_map, rolled_select, rolled_query}
-use Rattle.sql_meaning.specs.Trees.{cast_to, item, lateral, subquery, table_by, select, one}
+use Rattle.sql_meaning.specs.Trees.{cast_to, item, lateral, table_by, select, one}
 use Rattle.sql_meaning.specs.Template as template
-use Rattle.template_reads.specs.Puts.{expr_put, exprs_put, from_put, select_put, query_put, body_put, end_put, no_filter_put, lateral_put, lateral_end_put, open_put, condition}
+use Rattle.template_reads.specs.Puts.{expr_put, exprs_put, from_put, select_put, body_put, end_put, no_filter_put, lateral_put, lateral_end_put, open_put, condition}
 use Rattle.template_reads.specs.declared.parts.Gate.{Gate}
 
 -- ---- expressions

@@ -1,5 +1,5 @@
 -- The signs of an expression with columns for its slots, one after the other.
-use Rattle.std.specs.Prelude.{ℕ, zero, suc, List, [], ◌∷◌}
+use Rattle.std.specs.Prelude.{ℕ, zero, suc, List, ◌∷◌}
 use Rattle.away_trees.specs.declared.queries.Col.{Col}
 use Rattle.call_forms.specs.Template.{deeper}
 use Rattle.query_signs.specs.Placing.{placed_kind}

@@ -1,5 +1,5 @@
 -- The signs of the parts of a query's template.
-use Rattle.std.specs.Prelude.{suc, true, pos, List, [], ◌∷◌, ℕ}
+use Rattle.std.specs.Prelude.{suc, true, pos, List, ◌∷◌, ℕ}
 use Rattle.away_trees.specs.declared.queries.Expr.{Expr}
 use Rattle.away_trees.specs.declared.queries.Expr.TheVariants as expr
 use Rattle.away_trees.specs.declared.queries.FromItem.{FromItem}

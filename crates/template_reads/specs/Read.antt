@@ -1,5 +1,5 @@
 -- What reading at a place of a query's signs tells.
-use Rattle.std.specs.Prelude.{◌≡◌, ℕ, suc, pos, List, ◌∷◌, drop, Option, Some, None, ◌↔◌}
+use Rattle.std.specs.Prelude.{◌≡◌, ℕ, suc, pos, drop, Option, Some, None, ◌↔◌}
 use Rattle.query_signs.specs.declared.signs.Kind.{Kind}
 use Rattle.query_signs.specs.declared.signs.Kind.TheVariants as kind
 use Rattle.query_signs.specs.declared.signs.Sign.{Sign}

@@ -1,5 +1,5 @@
 -- The columns that a walk's names stand for.
-use Rattle.std.specs.Prelude.{◌≡◌, ℕ, zero, suc, ◌-◌, List, [], ◌∷◌, Option, Some, None, if◌then◌else◌, nat_eq}
+use Rattle.std.specs.Prelude.{ℕ, suc, ◌-◌, List, [], ◌∷◌, Option, Some, None, if◌then◌else◌, nat_eq}
 use Rattle.away_trees.specs.declared.queries.Col.{Col}
 use Rattle.call_forms.specs.Scopes as call
 use Rattle.template_reads.specs.declared.scope.Ref.{Ref}

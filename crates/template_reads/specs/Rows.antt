@@ -1,5 +1,5 @@
 -- The rows that bodies give, where what is passed is references.
-use Rattle.std.specs.Prelude.{ℕ, zero, suc, true, false, pos, List, [], ◌∷◌, ◌++◌, map, Option, Some, None}
+use Rattle.std.specs.Prelude.{ℕ, suc, true, false, pos, List, [], ◌∷◌, ◌++◌, map, Option, Some, None}
 use Rattle.away_trees.specs.declared.queries.Expr.{Expr}
 use Rattle.away_trees.specs.declared.queries.Expr.TheVariants as expr
 use Rattle.away_values.specs.declared.types.Ty.{Ty}

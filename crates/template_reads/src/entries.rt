@@ -37,7 +37,11 @@ impl Entries {
         ensures { (table : List Expr) → EntriesOf table self.now → EntryOf (get_or table number expr.Null) result.now }
     {
         let number = number as usize;
-        if number < self.list.len() { &self.list.as_slice()[number] } else { &self.null }
+        if number < self.list.len() {
+            &self.list.as_slice()[number]
+        } else {
+            &self.null
+        }
     }
 }
 

@@ -51,13 +51,24 @@ fn open_ref(signs: &[Sign], at: Option<usize>, found: Ref, depth: Depth) -> Opti
         return None;
     }
     match &signs[place] {
-        Sign::Open(Kind::Column(c)) => { if is_ref(*c, found, depth) { Some(place + 1) } else { None } }
+        Sign::Open(Kind::Column(c)) => {
+            if is_ref(*c, found, depth) {
+                Some(place + 1)
+            } else {
+                None
+            }
+        }
         _ => None,
     }
 }
 
 /// The reference as a column, in a select so deep.
-pub(crate) fn reference(signs: &[Sign], at: Option<usize>, found: Ref, depth: usize) -> Option<usize>
+pub(crate) fn reference(
+    signs: &[Sign],
+    at: Option<usize>,
+    found: Ref,
+    depth: usize,
+) -> Option<usize>
     ensures { Reads (expr_put (expr.Column (col_at depth found))) signs.now at result }
 {
     let depth = Depth {
@@ -121,7 +132,11 @@ fn next_depth(sign: &Sign, depth: Depth) -> Depth
         },
         Sign::Leave => Depth {
             out: depth.out,
-            within: if depth.within > 1 { depth.within - 1 } else { 1 },
+            within: if depth.within > 1 {
+                depth.within - 1
+            } else {
+                1
+            },
         },
         _ => depth,
     }
@@ -183,7 +198,14 @@ fn expression(
     if entry.is_null {
         return null_of(signs, at, ty);
     }
-    placed(signs, at, entry.signs.as_slice(), entry.slots.as_slice(), refs, out)
+    placed(
+        signs,
+        at,
+        entry.signs.as_slice(),
+        entry.slots.as_slice(),
+        refs,
+        out,
+    )
 }
 
 /// `LATERAL (SELECT e)`

@@ -16,7 +16,13 @@ use crate::reading::{Node, Wanted, close, empty, empty_node, enter, leave, open,
 use away_values::{Class, CmpOp, IsTest, Ty};
 use query_signs::{Kind, Sign};
 
-pub fn column(signs: &[Sign], at: Option<usize>, level: usize, item: usize, place: usize) -> Option<usize>
+pub fn column(
+    signs: &[Sign],
+    at: Option<usize>,
+    level: usize,
+    item: usize,
+    place: usize,
+) -> Option<usize>
     ensures { Reads (expr_put (tree.col level item place)) signs.now at result }
 {
     empty_node(signs, at, Node::Column(level, item, place))

@@ -13,7 +13,13 @@ use away_values::{Class, Ty};
 use query_signs::Sign;
 
 /// A reference, or NULL of the column's type.
-fn cell(signs: &[Sign], at: Option<usize>, found: Option<Ref>, ty: Ty, depth: usize) -> Option<usize>
+fn cell(
+    signs: &[Sign],
+    at: Option<usize>,
+    found: Option<Ref>,
+    ty: Ty,
+    depth: usize,
+) -> Option<usize>
     ensures { Reads (expr_put (spec.cell depth found ty)) signs.now at result }
 {
     match found {
@@ -75,7 +81,13 @@ pub fn value_row(signs: &[Sign], at: Option<usize>, item: usize, columns: &[Ty])
 }
 
 /// The row of a fault.
-pub fn fault_row(signs: &[Sign], at: Option<usize>, class: Class, columns: &[Ty], result_type: Ty) -> Option<usize>
+pub fn fault_row(
+    signs: &[Sign],
+    at: Option<usize>,
+    class: Class,
+    columns: &[Ty],
+    result_type: Ty,
+) -> Option<usize>
     ensures { Reads (exprs_put (spec.fault_list columns.now result_type class)) signs.now at result }
 {
     let at = begin_of_end(signs, at, columns);

@@ -51,7 +51,11 @@ pub fn find(scope: &Scope<'_>, n: u32) -> Option<Ref>
 }
 
 /// What each name of a list stands for; None where one stands for nothing.
-pub fn find_all(alloc: Global, scope: &Scope<'_>, names: &[u32]) -> Result<Option<Items<Ref>>, NoMemory>
+pub fn find_all(
+    alloc: Global,
+    scope: &Scope<'_>,
+    names: &[u32],
+) -> Result<Option<Items<Ref>>, NoMemory>
     ensures { IfOk result (λ found. found ≡ spec.founds scope.now names.now) }
 {
     let mut refs = Items::new(alloc);

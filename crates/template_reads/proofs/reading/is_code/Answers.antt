@@ -1,4 +1,4 @@
-use Rattle.std.proofs.Common.{rules, ◌≡◌, ◌∷◌, ◌↔◌, IsTrue, ℕ, ◌+◌, ◌<◌, ◌≤◌, length, Bool, true, false, nat_eq, List, [], ◌++◌, slice_index_or, refl, sym, subst, ap, ◌∙◌, drop, arith}
+use Rattle.std.proofs.Common.{rules, ◌≡◌, ◌∷◌, length, [], ◌++◌, refl, sym, subst, ap, ◌∙◌, arith}
 use Rattle.std.specs.Str.{chars, IsUtf8}
 use Rattle.std.proofs.lemmas.Str.{chars-nil, chars_past_char, IsUtf8-past_char}
 use Rattle.std.proofs.lemmas.List.{append_assoc, length-append}
@@ -24,8 +24,8 @@ returns-then-count-ge5 c =
     let next : chars c.loop-c.c-iterator.rest.now ≡ c.in-Some.c ∷ chars c.next.new.self.rest.now = chars_past_char _ _ c.in-Some.c held.utf8 c.in-Some.ensures.steps.0 in
     let text : c.args.text.now ≡ c.loop-c.yielded ++ (c.in-Some.c ∷ chars c.next.new.self.rest.now) = held.text ∙ ap (λ z. c.loop-c.yielded ++ z) next in
     let never : c.args.text.now ≡ c.args.class.code → ⊥ = elim c.then-count-ge5.branch [
-      then-count-ge5-via-then-count-ge5 w ↦ longer _ _ _ _ _ _ text held.code (search rules)
-    | then-count-ge5-via-else-count-ge5+then-from w ↦ other _ _ _ _ _ _ text held.code (search rules) (λ e. w.if-from.true (w.from.ensures ∙ (e ∙ sym w.from-else-count-ge5.ensures)))
+      | then-count-ge5-via-then-count-ge5 w ↦ longer _ _ _ _ _ _ text held.code (search rules)
+      | then-count-ge5-via-else-count-ge5+then-from w ↦ other _ _ _ _ _ _ text held.code (search rules) (λ e. w.if-from.true (w.from.ensures ∙ (e ∙ sym w.from-else-count-ge5.ensures)))
     ] in
     (λ no. absurd (cc), λ e. absurd (never e))
 
@@ -46,6 +46,7 @@ returns c =
     let held = c.loop-c.invariant in
     let none : chars c.loop-c.c-iterator.rest.now ≡ [] = ap chars (none_left c.loop-c.c-iterator.rest.now c.in-None.ensures.steps.0.0) ∙ chars-nil in
     let text : c.args.text.now ≡ c.loop-c.yielded ++ [] = held.text ∙ ap (λ z. c.loop-c.yielded ++ z) none in
-    let five : length c.args.class.code ≡ 5 = search rules in
-    (λ y. whole _ _ _ _ text held.code (omega (arith, five, (Decides-eqb c.loop-c.count 5).0 y)),
-     λ e. (Decides-eqb c.loop-c.count 5).1 (omega (arith, five, held.most, shorter _ _ _ c.loop-c.count text held.code e)))
+    let five : length c.args.class.code ≡ 5 = search rules in (
+      λ y. whole _ _ _ _ text held.code (omega (arith, five, (Decides-eqb c.loop-c.count 5).0 y)),
+      λ e. (Decides-eqb c.loop-c.count 5).1 (omega (arith, five, held.most, shorter _ _ _ c.loop-c.count text held.code e)),
+    )

@@ -1,4 +1,4 @@
-use Rattle.std.proofs.Common.{◌≡◌, ◌++◌, IsTrue, ℕ, ◌≤◌, length, drop}
+use Rattle.std.proofs.Common.{◌≡◌, ◌++◌, ◌≤◌, length, drop}
 use Rattle.std.specs.Str.{chars, IsUtf8}
 use Rattle.template_reads.proofs.reading.is_code.Given as goal
 
@@ -8,5 +8,5 @@ invariant-loop-c l = record {
   code : l.class.code ≡ l.yielded ++ drop l.count l.class.code;
   count : l.count ≡ length l.yielded;
   most : l.count ≤ 5;
-  utf8 : IsUtf8 l.c-iterator.rest.now
+  utf8 : IsUtf8 l.c-iterator.rest.now;
 }

@@ -1,4 +1,4 @@
-use Rattle.std.proofs.Common.{◌≡◌, ◌↔◌, IsTrue, ℕ, List, ap, sym, ◌∙◌}
+use Rattle.std.proofs.Common.{◌≡◌, ℕ, List, ap, sym, ◌∙◌}
 use Rattle.std.specs.Bool.{Decides}
 use Rattle.std.specs.Str.{chars}
 use Rattle.std.proofs.lemmas.Str.{encodes-chars}
@@ -16,8 +16,9 @@ pub returns-in-Text-here-2 : goal.returns-in-Text-here-2
 returns-in-Text-here-2 c =
     let one = c.text.ensures.value in let two = c.text-in-Text-here-2.ensures.value in
     let told : Decides c.eq.result (c.text.result.now ≡ c.text-in-Text-here-2.result.now) = Decides-at c.eq.result _ c.eq.ensures (bytes_decides _ _) in
-    let want : sign_of c.args.want ≡ sign.Text c.in-Text.text.now = ap sign_of c.in-Text.is in
-    (λ y. c.in-Text-here-2.is ∙ (ap sign.Text (sym one ∙ (ap chars (told.0 y) ∙ two)) ∙ sym want),
-     λ e. told.1 (let q : sign.Text c.in-Text-here-2.other ≡ sign.Text c.in-Text.text.now = sym c.in-Text-here-2.is ∙ (e ∙ want) in
-       let texts : chars c.text.result.now ≡ chars c.text-in-Text-here-2.result.now = one ∙ (text_same _ _ q ∙ sym two) in
-       sym (encodes-chars c.text.result.now c.text.utf8) ∙ (ap encode_all texts ∙ encodes-chars c.text-in-Text-here-2.result.now c.text-in-Text-here-2.utf8)))
+    let want : sign_of c.args.want ≡ sign.Text c.in-Text.text.now = ap sign_of c.in-Text.is in (
+      λ y. c.in-Text-here-2.is ∙ (ap sign.Text (sym one ∙ (ap chars (told.0 y) ∙ two)) ∙ sym want),
+      λ e. told.1 (let q : sign.Text c.in-Text-here-2.other ≡ sign.Text c.in-Text.text.now = sym c.in-Text-here-2.is ∙ (e ∙ want) in
+          let texts : chars c.text.result.now ≡ chars c.text-in-Text-here-2.result.now = one ∙ (text_same _ _ q ∙ sym two) in
+          sym (encodes-chars c.text.result.now c.text.utf8) ∙ (ap encode_all texts ∙ encodes-chars c.text-in-Text-here-2.result.now c.text-in-Text-here-2.utf8)),
+    )
