@@ -1,5 +1,5 @@
 -- The signs of the whole query round its branches.
-use Rattle.std.specs.Prelude.{ℕ, suc, true, pos, List, [], ◌∷◌, ◌++◌, length, get_or, slice_get, Option, Some, None, decimal}
+use Rattle.std.specs.Prelude.{◌≡◌, ℕ, suc, true, pos, List, [], ◌∷◌, ◌++◌, length, get_or, slice_get, Option, Some, None, decimal}
 use Rattle.away_trees.specs.declared.queries.Expr.{Expr}
 use Rattle.away_trees.specs.declared.queries.Expr.TheVariants as expr
 use Rattle.away_trees.specs.declared.queries.FromItem.{FromItem}
@@ -55,7 +55,7 @@ before_put g entry label tables rest =
 -- behind the branches, the rest of the second term
 abbrev pub rest_of_step : code.Given → Put
 rest_of_step g rest =
-    lateral_end_put (sign.Close ∷ node kind.List (exprs_put (all_of (λ n. ty.Bigint) g.tail.now.columns g.result 1))
+    lateral_end_put (sign.Close ∷ node kind.List (exprs_put (all_of [] (λ n. ty.Bigint) g.tail.now.columns g.result 1))
     (node kind.Filter (expr_put (col 0 0 0)) (end_put rest)))
 
 -- behind the branches, to the query's end
@@ -80,7 +80,7 @@ BranchesRead table g from to =
 -- ---- the whole
 
 -- The entry is a label, each label has its branch, and the signs are those of the template.
-pub record IsTemplate (table : List Expr) (g : code.Given) (entry tables : ℕ) : Type 0 where
-  pub entry : Among g.tail.now.labels entry
+pub record IsTemplate (table : List Expr) (g : code.Given) (start tables : ℕ) : Type 0 where
+  pub entry : Among g.tail.now.labels start
   pub trees : HasBranches table g
-  pub signs : g.signs.now ≡ signs_of_query (query_of table (types_in g) g.result (anf_of g) g.tail.now entry tables)
+  pub signs : g.signs.now ≡ signs_of_query (query_of table (types_in g) g.result (anf_of g) g.tail.now start tables)
