@@ -1,4 +1,2 @@
-pub mod Known
-pub mod Shapes
 pub mod Standing
 pub mod Walking

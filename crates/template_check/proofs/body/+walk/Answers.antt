@@ -19,14 +19,14 @@ advance-returns-then-w-eq0-clause-read t c = λ table given. walking.endless_wal
 
 pub advance-returns-then-number-g-clause-read : goal.advance-returns-then-number-g-clause-read
 advance-returns-then-number-g-clause-read t c = λ table given.
-    walking.no_block table c.args.g.now c.args.w (walking.none_past c.args.g.now.blocks.now c.args.w.block c.if-number-g.true)
+    walking.no_block table c.args.g.now c.args.w (walking.none_past _ c.args.w.block c.if-number-g.true)
 
 pub advance-returns-clause-read : goal.advance-returns-clause-read
 advance-returns-clause-read t c =
     walking.when_ok _ _ c.block.result
     (λ s read table given.
       walking.through_step table c.args.g.now c.args.w _ _ s c.if-w-eq0.false refl
-      (walking.there_is c.args.g.now.blocks.now c.args.w.block c.index-g-number.result (omega (arith, c.if-number-g.false))) (read table given))
+      (walking.there_is _ c.args.w.block c.index-g-number.result (omega (arith, c.if-number-g.false))) (read table given))
     c.block.ensures.read
 
 pub arm-returns-in-Ends : goal.arm-returns-in-Ends
@@ -67,8 +67,9 @@ pick-returns-then-is_none t c = λ table given.
 pub pick-returns : goal.pick-returns
 pick-returns t c = λ table given.
     let w = c.args.w.now in
+    let called = goes (anf_of c.args.g.now) c.args.g.now.tail.now (further_blocks c.args.g.now w) in
     let row = subst (λ columns. Reads (exprs_put (map (col 0 (w.items + 1)) (below (length columns + 4)))) c.args.g.now.signs.now c.to_list-at.result c.all_of-at.result)
         c.as_slice-columns.ensures c.all_of-at.ensures in
-    walking.after_picking table c.args.g.now w c.args.t.now _ _ c.in_ok-at.at c.open_lateral-at.result c.in_ok-at-2.at c.in_ok-at-3.at c.close_lateral.result c.to_list-at.result
+    walking.after_picking table c.args.g.now w c.args.t.now (called c.args.yes.now) (called c.args.no.now) c.in_ok-at.at c.open_lateral-at.result c.in_ok-at-2.at c.in_ok-at-3.at c.close_lateral.result c.to_list-at.result
     c.all_of-at.result c.close.result (c.in_ok-at.ensures table given.entries) c.open_lateral-at.ensures (c.in_ok-at-2.ensures table given) (c.in_ok-at-3.ensures table given)
     c.close_lateral.ensures c.to_list-at.ensures row c.close.ensures
