@@ -1,6 +1,5 @@
 -- What is read of a body, by what is read of its parts.
-use Rattle.std.proofs.Common.{◌≡◌, ℕ, zero, suc, ◌+◌, ◌-◌, ◌<◌, ◌≤◌, List, [], ◌∷◌, ◌++◌, map, length, slice_get, get_or, Option, Some, None, Result, Ok, Err, IfOk, false, ◌↔◌, refl, sym, ap, ◌∙◌, subst, arith}
-use Rattle.core.specs.Option.{is_some}
+use Rattle.std.proofs.Common.{◌≡◌, ℕ, zero, suc, ◌+◌, ◌-◌, ◌<◌, ◌≤◌, List, [], ◌∷◌, ◌++◌, map, length, slice_get, get_or, Option, Some, None, Result, Ok, Err, IfOk, is_some, false, ◌↔◌, refl, sym, ap, ◌∙◌, subst, arith}
 use Rattle.away_trees.specs.declared.queries.Col.{Col}
 use Rattle.away_trees.specs.declared.queries.Expr.{Expr}
 use Rattle.away_values.specs.declared.types.Ty.{Ty}
