@@ -83,7 +83,7 @@ module _ (table : List Expr) (g : code.Given) where
       as_where
       (λ h. (h.0, subst (λ l. HasTree table (n ∷ l) x) names h.1), λ h. (h.0, subst (λ l. HasTree table (n ∷ l) x) (sym names) h.1))
       (λ h r i. from_put (let_at table w.depth (refs_of w.depth w.scope) (typed i) t)
-        (parts_put (at_place w.depth (λ k. assigned_refs w n at fresh k i) (plus_one w.items i) x) r))
+      (parts_put (at_place w.depth (λ k. assigned_refs w n at fresh k i) (plus_one w.items i) x) r))
       (then_where item rest)
 
   -- ---- calls
@@ -136,8 +136,8 @@ module _ (table : List Expr) (g : code.Given) where
   after_calling w label places args refs j k to found as_many list row close =
       where_holds (record { known = founds_known w.scope args refs found; as_many = as_many })
       (as_reads
-        (λ r i. sign.Close ∷ sign.Open kind.List ∷ exprs_put (call_list label (passed_cells w.scope w.depth 0 places args refs g.tail.now.columns found i) g.result) (sign.Close ∷ r))
-        (then_reads list (then_reads row close)))
+      (λ r i. sign.Close ∷ sign.Open kind.List ∷ exprs_put (call_list label (passed_cells w.scope w.depth 0 places args refs g.tail.now.columns found i) g.result) (sign.Close ∷ r))
+      (then_reads list (then_reads row close)))
 
   -- ---- ends
 
@@ -165,8 +165,8 @@ module _ (table : List Expr) (g : code.Given) where
       let refs : (k : ℕ) → refs_of (w.depth + 1) w.scope k ≡ outside (refs_of w.depth w.scope) k = seen_outside w.depth w.scope sound.in_sight in
       as_where (λ h. h, λ h. h)
       (λ h r.
-        (λ i. open_put by (parts_put (at_place (plus_one w.depth i) (λ k. refs k i) 1 x) (no_filter_put r)))
-        ∙ gated_at by (at_place (suc w.depth) (outside (refs_of w.depth w.scope)) 1 x) r)
+      (λ i. open_put by (parts_put (at_place (plus_one w.depth i) (λ k. refs k i) 1 x) (no_filter_put r)))
+      ∙ gated_at by (at_place (suc w.depth) (outside (refs_of w.depth w.scope)) 1 x) r)
       (reads_then_where begun (where_then_reads body end))
 
   pub after_picking : (w : walk.Walk) (t : Term) (x y : Body) (i j k l m n o to : Option ℕ)
@@ -185,9 +185,9 @@ module _ (table : List Expr) (g : code.Given) where
       let second = arm_select table g w (gate.No w.items) y in
       as_where (λ h. (h.0, h.1.0, h.1.1), λ h. (h.0, (h.1, h.2)))
       (λ h r.
-        let test = let_at table w.depth (refs_of w.depth w.scope) ty.Boolean t in
-        ap (from_put test) (lateral_signs (first ∷ second ∷ []) (sign.Close ∷ sign.Open kind.List ∷ exprs_put (map (col 0 (w.items + 1)) (below (length g.tail.now.columns + 4))) (sign.Close ∷ r)))
-        ∙ (λ i. from_put test (from_put (either first second) (sign.Close ∷ sign.Open kind.List ∷ exprs_put (map (col 0 (plus_one w.items i)) (below (width i))) (sign.Close ∷ r)))))
+      let test = let_at table w.depth (refs_of w.depth w.scope) ty.Boolean t in
+      ap (from_put test) (lateral_signs (first ∷ second ∷ []) (sign.Close ∷ sign.Open kind.List ∷ exprs_put (map (col 0 (w.items + 1)) (below (length g.tail.now.columns + 4))) (sign.Close ∷ r)))
+      ∙ (λ i. from_put test (from_put (either first second) (sign.Close ∷ sign.Open kind.List ∷ exprs_put (map (col 0 (plus_one w.items i)) (below (width i))) (sign.Close ∷ r)))))
       (then_where item (reads_then_where begun (then_where one (where_then_reads other (then_reads behind (then_reads list (then_reads row close)))))))
 
   -- nothing is read behind a test that isn't there
@@ -231,7 +231,7 @@ module _ (table : List Expr) (g : code.Given) where
       let rest = end_body (anf_of g) g.tail.now (further_blocks g w) x.end in
       subst (λ set. StepRead table g w (sets_first (anf_of g) g.tail.now set rest) s) (sym is)
       (step_behind w next rest (sets set.0 set.1 rest) (λ to. assigned rest to) s
-        (subst (λ n. StepRead table g next (end_body (anf_of g) g.tail.now (tree (anf_of g) g.tail.now n) x.end) s) same read))
+      (subst (λ n. StepRead table g next (end_body (anf_of g) g.tail.now (tree (anf_of g) g.tail.now n) x.end) s) same read))
 
   pub ends_so : (w : walk.Walk) (e end : CallEnd) (s : walks.Step) → e ≡ end → StepRead table g w (end_body (anf_of g) g.tail.now (further_blocks g w) end) s
       → StepRead table g w (end_body (anf_of g) g.tail.now (further_blocks g w) e) s
@@ -278,13 +278,13 @@ module _ (table : List Expr) (g : code.Given) where
       let own : names_of w.scope ≡ params_of (slice_get g.blocks.now block) = ap (λ s. with_set s w.scope.names.now) fresh ∙ params in
       let whole : further_blocks g w w.block ≡ body_of (anf_of g) g.tail.now block = λ i. tree (anf_of g) g.tail.now (fuel i) (of i) in
       let columns : (k : ℕ) → refs_of w.depth w.scope k ≡ paired of_row (no_column 0) (params_of (slice_get g.blocks.now block)) (get_or g.tail.now.places label []) k =
-          λ k. (λ i. col_at (depth i) (ref_or (found_behind (fresh i) (lookup w.scope.names.now (refs i) k) k)))
-          ∙ row_columns w.scope.names.now places k ∙ (λ i. paired of_row (no_column 0) (params i) (stand i) k) in
+      λ k. (λ i. col_at (depth i) (ref_or (found_behind (fresh i) (lookup w.scope.names.now (refs i) k) k)))
+      ∙ row_columns w.scope.names.now places k ∙ (λ i. paired of_row (no_column 0) (params i) (stand i) k) in
       as_where
       (λ h. subst (λ x. x) (λ i. HasTree table (own i) (whole i)) h, λ h. subst (λ x. x) (sym (λ i. HasTree table (own i) (whole i))) h)
       (λ h r.
-        (λ i. open_put (gate.Label label) (parts_put (at_place (depth i) (λ k. columns k i) (items i) (whole i)) (no_filter_put r)))
-        ∙ gated_at (gate.Label label) (at_place 0 (paired of_row (no_column 0) (params_of (slice_get g.blocks.now block)) (get_or g.tail.now.places label [])) 1 (body_of (anf_of g) g.tail.now block)) r)
+      (λ i. open_put (gate.Label label) (parts_put (at_place (depth i) (λ k. columns k i) (items i) (whole i)) (no_filter_put r)))
+      ∙ gated_at (gate.Label label) (at_place 0 (paired of_row (no_column 0) (params_of (slice_get g.blocks.now block)) (get_or g.tail.now.places label [])) 1 (body_of (anf_of g) g.tail.now block)) r)
       (reads_then_where begun (where_then_reads read close))
 
 -- ---- places and answers

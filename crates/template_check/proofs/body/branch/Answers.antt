@@ -21,6 +21,6 @@ pub returns : goal.returns
 returns c = λ table given.
     let scope : names.Scope = record { set = None; names = c.params_of-params.result; refs = c.in_ok-label_refs.field-0 } in
     let start : walk.Walk =
-        record { block = c.args.of; at = c.open_body.result; items = 1; depth = 0; fuel = length c.args.g.now.blocks.now; scope = scope } in
+    record { block = c.args.of; at = c.open_body.result; items = 1; depth = 0; fuel = length c.args.g.now.blocks.now; scope = scope } in
     walking.after_branch table c.args.g.now c.args.label c.args.of start c.places_of.result.now c.args.at c.end_of_body.result c.in_ok-at.at refl c.in_ok-label_refs.ensures
     c.params_of-params.ensures c.places_of.ensures refl refl refl refl c.open_body.ensures (c.in_ok-at.ensures table given) c.end_of_body.ensures
