@@ -1,5 +1,5 @@
 -- A walk over the blocks of a label beside its branch: where it is, and what is read from there.
-use Rattle.std.specs.Prelude.{◌≡◌, ◌↔◌, ℕ, suc, ◌+◌, ◌≤◌, List, [], length, slice_get, get_or, Option, Some, None}
+use Rattle.std.specs.Prelude.{◌≡◌, ◌↔◌, ℕ, suc, ◌+◌, ◌-◌, ◌<◌, ◌≤◌, List, [], length, slice_get, get_or, Option, Some, None}
 use Rattle.away_trees.specs.declared.queries.Expr.{Expr}
 use Rattle.away_types.specs.declared.slots.Slot.{Slot}
 use Rattle.away_values.specs.declared.types.Ty.{Ty}
@@ -96,6 +96,11 @@ pub record Enters (g : code.Given) (fuel : ℕ) (w : walk.Walk) : Type 0 where
 abbrev pub GoesSoundly : code.Given → ℕ → walks.Step → Type 0
 GoesSoundly g fuel (step.Ends to) = Unit {0}
 GoesSoundly g fuel (step.Goes next) = Enters g fuel next
+
+-- the same behind a block, which was one of those that may follow
+abbrev pub GoesFurther : code.Given → ℕ → walks.Step → Type 0
+GoesFurther g fuel (step.Ends to) = Unit {0}
+GoesFurther g fuel (step.Goes next) = (0 < fuel) × Enters g (fuel - 1) next
 
 -- what a call of a block that is no label has of its walk
 abbrev pub entered_body : code.Given → walk.Walk → Call → Body

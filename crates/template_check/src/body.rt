@@ -16,7 +16,8 @@ use query_signs::Sign;
 use sqlite_items::Items;
 use std::alloc::Global;
 use template_reads::{
-    Entries, Gate, Scope, all_of, close, close_lateral, end_of_body, open_body, open_lateral, term, to_list,
+    Entries, Gate, Scope, all_of, close, close_lateral, end_of_body, open_body, open_lateral, term,
+    to_list,
 };
 
 /// What a walk reads: the query's signs, the expressions, the types, the forms, and the label of each block.
@@ -110,7 +111,16 @@ fn pick<'a>(
     ensures { IfOk result (λ to. (table : List Expr) → GivenOf table g.now
         → BodyRead table g.now w.now (spec.pick_body g.now w.now t.now yes.now no.now) to) }
 {
-    let at = term(alloc, g.signs, w.at, g.entries, &w.scope, t, Ty::Boolean, w.depth)?;
+    let at = term(
+        alloc,
+        g.signs,
+        w.at,
+        g.entries,
+        &w.scope,
+        t,
+        Ty::Boolean,
+        w.depth,
+    )?;
     if at.is_none() {
         return Ok(None);
     }
@@ -118,7 +128,8 @@ fn pick<'a>(
     let at = arm(alloc, g, w, at, Gate::Yes(w.items), yes)?;
     let at = arm(alloc, g, w, at, Gate::No(w.items), no)?;
     let at = to_list(g.signs, close_lateral(g.signs, at));
-    let at = all_of(g.signs, at, w.items + 1, g.tail.columns.len() + 4);
+    let columns = g.tail.columns.as_slice();
+    let at = all_of(g.signs, at, w.items + 1, columns.len() + 4);
     Ok(close(g.signs, at))
 }
 
@@ -159,6 +170,36 @@ fn block<'a>(alloc: Global, g: &Given<'a>, w: Walk<'a>, x: &AnfBlock) -> Result<
     }
 }
 
+/// One step of a walk: its block, if one may follow.
+#[cycle(walk)]
+fn advance<'a>(alloc: Global, g: &Given<'a>, w: Walk<'a>) -> Result<Step<'a>, NoMemory>
+    requires sound { Sound g.now w }
+    requires fresh { spec.Fresh w }
+    ensures sound { IfOk result (λ s. spec.GoesFurther g.now w.entry.fuel s) }
+    ensures read { IfOk result (λ s. (table : List Expr) → GivenOf table g.now
+        → StepRead table g.now w.entry (spec.further_blocks g.now w.entry w.entry.block) s) }
+{
+    if w.at.is_none() {
+        return Ok(Step::Ends(None));
+    }
+    if w.fuel == 0 {
+        return Ok(Step::Ends(None));
+    }
+    let number = w.block as usize;
+    if number >= g.blocks.len() {
+        return Ok(Step::Ends(None));
+    }
+    let inside = Walk {
+        block: w.block,
+        at: w.at,
+        items: w.items,
+        depth: w.depth,
+        fuel: w.fuel - 1,
+        scope: w.scope,
+    };
+    block(alloc, g, inside, &g.blocks[number])
+}
+
 /// The items and the list from a block on, through as many blocks as may follow: the place behind the list.
 #[cycle(walk)]
 fn body<'a>(alloc: Global, g: &Given<'a>, start: Walk<'a>) -> Result<Option<usize>, NoMemory>
@@ -167,16 +208,8 @@ fn body<'a>(alloc: Global, g: &Given<'a>, start: Walk<'a>) -> Result<Option<usiz
     ensures { IfOk result (λ to. (table : List Expr) → GivenOf table g.now → WalkRead table g.now start.entry to) }
 {
     let mut w = start;
-    loop {
-        if w.at.is_none() || w.fuel == 0 {
-            return Ok(None);
-        }
-        let number = w.block as usize;
-        if number >= g.blocks.len() {
-            return Ok(None);
-        }
-        w.fuel -= 1;
-        match block(alloc, g, w, &g.blocks[number])? {
+    'onward: loop {
+        match advance(alloc, g, w)? {
             Step::Ends(at) => return Ok(at),
             Step::Goes(next) => w = next,
         }
@@ -184,7 +217,13 @@ fn body<'a>(alloc: Global, g: &Given<'a>, start: Walk<'a>) -> Result<Option<usiz
 }
 
 /// The branch of a label, counted from 0.
-pub(crate) fn branch(alloc: Global, g: &Given<'_>, at: Option<usize>, label: usize, of: u32) -> Result<Option<usize>, NoMemory>
+pub(crate) fn branch(
+    alloc: Global,
+    g: &Given<'_>,
+    at: Option<usize>,
+    label: usize,
+    of: u32,
+) -> Result<Option<usize>, NoMemory>
     ensures { IfOk result (λ to. (table : List Expr) → GivenOf table g.now → BranchRead table g.now label of at to) }
 {
     let params = params_of(g, of);

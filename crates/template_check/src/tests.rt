@@ -3,12 +3,17 @@
 mod edits;
 mod forms;
 
+ghost use Rattle.away_trees.specs.Limits.{KeepsLimits};
+
 use crate::check::check_templated;
 use crate::tests::edits::Edit;
 use crate::tests::forms::{Example, anf, goto, ssa, tail_of};
-use away_types::{CheckedFunction, CheckedSchema, check_function, check_query, check_schema};
-use call_forms::Tail;
+use away_trees::{Function, Query};
+use away_types::{CheckedFunction, CheckedQuery, CheckedSchema, check_function, check_query, check_schema};
+use block_forms::{Goto, Ssa};
+use call_forms::{Anf, Tail};
 use plsql_parse::read_function;
+use sqlite_items::Boxed;
 use sql_text::{read_query, read_schema};
 use std::process::Abort;
 
@@ -65,14 +70,24 @@ fn schema(rt: &(impl Abort + AllocGlobal)) -> CheckedSchema {
     schema
 }
 
-fn function(rt: &(impl Abort + AllocGlobal), schema: &CheckedSchema) -> CheckedFunction {
-    let Ok(function) = read_function(rt.alloc(), SIGN.as_bytes()) else {
-        rt.abort();
-    };
-    let Ok(function) = check_function(rt.alloc(), schema, function) else {
-        rt.abort();
-    };
-    function
+fn checked_function(
+    rt: &(impl Abort + AllocGlobal),
+    schema: &CheckedSchema,
+    function: Function,
+) -> Boxed<CheckedFunction>
+    requires { KeepsLimits function }
+{
+    match check_function(rt.alloc(), schema, function) {
+        Ok(function) => Boxed::new(rt.alloc(), function).expect(rt, "memory"),
+        Err(_) => rt.abort(),
+    }
+}
+
+fn function(rt: &(impl Abort + AllocGlobal), schema: &CheckedSchema) -> Boxed<CheckedFunction> {
+    match read_function(rt.alloc(), SIGN.as_bytes()) {
+        Ok(function) => checked_function(rt, schema, function),
+        Err(_) => rt.abort(),
+    }
 }
 
 /// The query with another piece at a place.
@@ -87,6 +102,67 @@ fn text(rt: &(impl Abort + AllocGlobal), place: usize, piece: &str) -> Vec<u8> {
     text
 }
 
+fn checked_query(
+    rt: &(impl Abort + AllocGlobal),
+    schema: &CheckedSchema,
+    query: Query,
+) -> Boxed<CheckedQuery> {
+    match check_query(rt.alloc(), schema, query) {
+        Ok(query) => Boxed::new(rt.alloc(), query).expect(rt, "memory"),
+        Err(_) => rt.abort(),
+    }
+}
+
+fn query(
+    rt: &(impl Abort + AllocGlobal),
+    schema: &CheckedSchema,
+    place: usize,
+    piece: &str,
+) -> Boxed<CheckedQuery> {
+    let text = text(rt, place, piece);
+    match read_query(rt.alloc(), &text) {
+        Ok(query) => checked_query(rt, schema, query),
+        Err(_) => rt.abort(),
+    }
+}
+
+/// The forms below the tail form.
+#[derive(Drop)]
+struct LowerForms {
+    goto: Goto,
+    ssa: Ssa,
+    anf: Anf,
+}
+
+fn lower_forms(rt: &(impl Abort + AllocGlobal)) -> LowerForms {
+    LowerForms {
+        goto: goto(rt, Example::Sign, &mut Edit::none()),
+        ssa: ssa(rt, Example::Sign, &mut Edit::none()),
+        anf: anf(rt, Example::Sign, &mut Edit::none()),
+    }
+}
+
+fn is_accepted(
+    rt: &(impl Abort + AllocGlobal),
+    function: &CheckedFunction,
+    query: &CheckedQuery,
+    tail: &Tail,
+    tables: usize,
+) -> bool {
+    let forms = lower_forms(rt);
+    check_templated(
+        rt.alloc(),
+        function,
+        &forms.goto,
+        &forms.ssa,
+        &forms.anf,
+        tail,
+        query,
+        tables,
+    )
+    .expect(rt, "memory")
+}
+
 fn accepts(
     rt: &(impl Abort + AllocGlobal),
     place: usize,
@@ -96,27 +172,8 @@ fn accepts(
 ) -> bool {
     let schema = schema(rt);
     let function = function(rt, &schema);
-    let text = text(rt, place, piece);
-    let Ok(query) = read_query(rt.alloc(), &text) else {
-        rt.abort();
-    };
-    let Ok(query) = check_query(rt.alloc(), &schema, query) else {
-        rt.abort();
-    };
-    let goto = goto(rt, Example::Sign, &mut Edit::none());
-    let ssa = ssa(rt, Example::Sign, &mut Edit::none());
-    let anf = anf(rt, Example::Sign, &mut Edit::none());
-    check_templated(
-        rt.alloc(),
-        &function,
-        &goto,
-        &ssa,
-        &anf,
-        tail,
-        &query,
-        tables,
-    )
-    .expect(rt, "memory")
+    let query = query(rt, &schema, place, piece);
+    is_accepted(rt, function.get(), query.get(), tail, tables)
 }
 
 #[test]
