@@ -76,18 +76,18 @@ marked_as_many (x ∷ xs) zero label = refl
 marked_as_many (x ∷ xs) (suc block) label = ap suc (marked_as_many xs block label)
 
 none_of : (o : Option ℕ) (r : Bool) → is_some o ≡ not r → r ≡ true → o ≡ None
-none_of None r e yes = refl
-none_of (Some k) true e yes = absurd (cc)
-none_of (Some k) false e yes = absurd (cc)
+none_of None r e is_true = refl
+none_of (Some k) true e is_true = absurd (cc)
+none_of (Some k) false e is_true = absurd (cc)
 
 pub none_there : (xs ys : List (Option ℕ)) (block : ℕ) (r : Bool) → ys ≡ xs → is_some (get_or ys block None) ≡ not r → r ≡ true → get_or xs block None ≡ None
-none_there xs ys block r same e yes = ap (λ l. get_or l block None) (sym same) ∙ none_of (get_or ys block None) r e yes
+none_there xs ys block r same e is_true = ap (λ l. get_or l block None) (sym same) ∙ none_of (get_or ys block None) r e is_true
 
 pub one_there : (xs ys : List (Option ℕ)) (block label : ℕ) (r : Bool) → ys ≡ xs → is_some (get_or ys block None) ≡ not r → r ≡ false → block < length xs → marked xs block label ≡ xs
-one_there xs ys block label r same e no lt = by (get_or xs block None) refl
+one_there xs ys block label r same e is_false lt = by (get_or xs block None) refl
   where
     by : (o : Option ℕ) → get_or xs block None ≡ o → marked xs block label ≡ xs
-    by None is = absurd (let q : false ≡ true = ap is_some (sym is) ∙ (ap (λ l. is_some (get_or l block None)) (sym same) ∙ (e ∙ ap not no)) in cc)
+    by None is = absurd (let q : false ≡ true = ap is_some (sym is) ∙ (ap (λ l. is_some (get_or l block None)) (sym same) ∙ (e ∙ ap not is_false)) in cc)
     by (Some k) is = marked_already xs block label k lt is
 
 -- ---- a table without labels

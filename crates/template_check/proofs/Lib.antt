@@ -4,3 +4,4 @@ pub mod Shapes
 pub mod Standing
 pub mod Walking
 pub mod WholeSigns
+pub mod IsTheQuery
