@@ -29,6 +29,7 @@ assigned out m n k found = by (nat_eq n k) (nat_eq k n) refl refl
   where
     level : suc out - (out + 1) ≡ 0
     level = omega arith
+
     by : (t u : Bool) → nat_eq n k ≡ t → nat_eq k n ≡ u
         → col_at out (ref_or (cond t (Some (item_ref out m)) found)) ≡ cond u (here m 0) (col_at out (ref_or found))
     by true true e f = λ i. record { level = level i; item = m; column = 0 }
@@ -82,7 +83,7 @@ passed s out (p ∷ ps) (n ∷ ns) refs i e =
     let both = found_both s n ns refs e in
     ap (λ rs. col_at out (ref_or (lookup (p ∷ ps) rs i))) both.all
     ∙ chosen (λ r. col_at out (ref_or r)) (nat_eq p i) (Some both.one) (lookup ps both.others i)
-      (ap (λ r. col_at out (ref_or r)) (sym both.found)) (passed s out ps ns both.others i both.behind)
+    (ap (λ r. col_at out (ref_or r)) (sym both.found)) (passed s out ps ns both.others i both.behind)
 
 -- the row of a called label has what is passed
 passed_cell : (s : code.Scope) (out : ℕ) (t : Ty) (places args : List ℕ) (refs : List Ref) (i : ℕ) → founds s args ≡ Some refs
@@ -93,7 +94,7 @@ passed_cell s out t (p ∷ ps) (n ∷ ns) refs i e =
     let both = found_both s n ns refs e in
     ap (λ rs. cell out (lookup (p ∷ ps) rs i) t) both.all
     ∙ chosen (λ r. cell out r t) (nat_eq p i) (Some both.one) (lookup ps both.others i)
-      (ap (λ r. expr.Column (col_at out (ref_or r))) (sym both.found)) (passed_cell s out t ps ns both.others i both.behind)
+    (ap (λ r. expr.Column (col_at out (ref_or r))) (sym both.found)) (passed_cell s out t ps ns both.others i both.behind)
 
 pub passed_cells : (s : code.Scope) (out i : ℕ) (places args : List ℕ) (refs : List Ref) (columns : List Ty) → founds s args ≡ Some refs
     → cells_at out i places refs columns ≡ cells i (refs_of out s) places args columns
@@ -113,6 +114,7 @@ row_columns (p ∷ ps) [] i =
     nothing : (ps : List ℕ) → paired of_row (no_column 0) ps [] i ≡ no_column 0
     nothing [] = refl
     nothing (p ∷ ps) = refl
+
     either_way : (t : Bool) → cond t (no_column 0) (no_column 0) ≡ no_column 0
     either_way true = refl
     either_way false = refl

@@ -1,6 +1,5 @@
 -- What is read of a body, by what is read of its parts.
-use Rattle.std.proofs.Common.{◌≡◌, ℕ, zero, suc, ◌+◌, ◌-◌, ◌<◌, ◌≤◌, List, [], ◌∷◌, ◌++◌, map, length, slice_get, get_or, Option, Some, None, Result, Ok, Err, IfOk, false, ◌↔◌, refl, sym, ap, ◌∙◌, subst, arith}
-use Rattle.core.specs.Option.{is_some}
+use Rattle.std.proofs.Common.{◌≡◌, ℕ, zero, suc, ◌+◌, ◌-◌, ◌<◌, ◌≤◌, List, [], ◌∷◌, ◌++◌, map, length, slice_get, get_or, Option, Some, None, Result, Ok, Err, IfOk, is_some, false, ◌↔◌, refl, sym, ap, ◌∙◌, subst, arith}
 use Rattle.away_trees.specs.declared.queries.Col.{Col}
 use Rattle.away_trees.specs.declared.queries.Expr.{Expr}
 use Rattle.away_values.specs.declared.types.Ty.{Ty}
@@ -27,10 +26,12 @@ use Rattle.template_reads.specs.declared.parts.Gate.TheVariants as gate
 use Rattle.template_reads.specs.declared.scope.Ref.{Ref}
 use Rattle.template_reads.specs.declared.scope.Scope as names
 use Rattle.template_reads.specs.Entries.{let_at}
-use Rattle.template_reads.specs.Puts.{body_put, exprs_put, from_put, select_put, open_put, no_filter_put, lateral_put, lateral_end_put}
+use Rattle.template_reads.specs.Puts.{body_put, condition, exprs_put, from_put, select_put, open_put, no_filter_put, lateral_put, lateral_end_put}
 use Rattle.template_reads.specs.Read.{Reads, ReadsWhere}
 use Rattle.template_reads.specs.References.{lookup, refs_of, names_of, with_set, found_behind, founds, col_at, ref_or}
 use Rattle.template_reads.specs.Rows.{call_list, cells_at, value_list, fault_list}
+use Rattle.template_reads.proofs.KnownNames.{founds_known, founds_unknown}
+use Rattle.template_reads.proofs.TreeSigns.{gated_signs, lateral_signs}
 use Rattle.template_reads.proofs.OneByOne.{then_reads, as_reads, no_place}
 use Rattle.template_reads.proofs.OneByOneWhere.{then_where, reads_then_where, where_then_reads, where_holds, nowhere, no_place_where, as_where}
 use Rattle.template_check.specs.Labels.{label_refs}
@@ -39,9 +40,11 @@ use Rattle.template_check.specs.declared.body.Given as code
 use Rattle.template_check.specs.declared.body.Walk as walk
 use Rattle.template_check.specs.declared.body.Step as walks
 use Rattle.template_check.specs.declared.body.Step.TheVariants as step
-use Rattle.template_check.proofs.Known.{each_known, not_known}
-use Rattle.template_check.proofs.Shapes.{gated_put, either_put}
 use Rattle.template_check.proofs.Standing.{item_ref, assigned, passed, passed_cells, as_many_found, row_columns, seen_outside}
+
+-- a body behind its gate
+gated_at : (by : Gate) (p : Parts) (rest : Signs) → open_put by (parts_put p (no_filter_put rest)) ≡ select_put (gated (condition by) p) rest
+gated_at by p rest = gated_signs by p.items p.list rest
 
 plus_one : (n : ℕ) → n + 1 ≡ suc n
 plus_one n = omega arith
@@ -80,7 +83,7 @@ module _ (table : List Expr) (g : code.Given) where
       as_where
       (λ h. (h.0, subst (λ l. HasTree table (n ∷ l) x) names h.1), λ h. (h.0, subst (λ l. HasTree table (n ∷ l) x) (sym names) h.1))
       (λ h r i. from_put (let_at table w.depth (refs_of w.depth w.scope) (typed i) t)
-        (parts_put (at_place w.depth (λ k. assigned_refs w n at fresh k i) (plus_one w.items i) x) r))
+      (parts_put (at_place w.depth (λ k. assigned_refs w n at fresh k i) (plus_one w.items i) x) r))
       (then_where item rest)
 
   -- ---- calls
@@ -96,7 +99,7 @@ module _ (table : List Expr) (g : code.Given) where
       → (x : Body) (to : Option ℕ) → BodyRead table g (record w { block = block; scope = scope }) x to → BodyRead table g w (enters scope.names.now args x) to
   after_entering w block scope args fresh found as_many x to rest =
       let own : names_of scope ≡ scope.names.now = ap (λ s. with_set s scope.names.now) fresh in
-      let passes : PassesKnown (names_of w.scope) scope.names.now args = record { known = each_known w.scope args scope.refs found; as_many = as_many } in
+      let passes : PassesKnown (names_of w.scope) scope.names.now args = record { known = founds_known w.scope args scope.refs found; as_many = as_many } in
       as_where
       (λ h. (passes, subst (λ l. HasTree table l x) own h), λ h. subst (λ l. HasTree table l x) (sym own) h.1)
       (λ h r i. parts_put (at_place w.depth (λ k. entered_refs w scope args fresh found k i) w.items x) r)
@@ -113,8 +116,8 @@ module _ (table : List Expr) (g : code.Given) where
   nothing_found w next call as_many none = by (label_of g.tail.now call.target)
     where
       by : (label : Option ℕ) → BodyRead table g w (goes_to (anf_of g) g.tail.now next call label) None
-      by None = nowhere (λ h. not_known w.scope call.args as_many none h.0.known)
-      by (Some label) = nowhere (λ h. not_known w.scope call.args as_many none h.known)
+      by None = nowhere (λ h. founds_unknown w.scope call.args as_many none h.0.known)
+      by (Some label) = nowhere (λ h. founds_unknown w.scope call.args as_many none h.known)
 
   pub entering : (w : walk.Walk) (call : Call) (s : walks.Step) → label_of g.tail.now call.target ≡ None → StepRead table g w (entered_body g w call) s
       → StepRead table g w (goes (anf_of g) g.tail.now (further_blocks g w) call) s
@@ -131,10 +134,10 @@ module _ (table : List Expr) (g : code.Given) where
       → Reads (λ rest. sign.Close ∷ rest) g.signs.now k to
       → BodyRead table g w (calls label places args) to
   after_calling w label places args refs j k to found as_many list row close =
-      where_holds (record { known = each_known w.scope args refs found; as_many = as_many })
+      where_holds (record { known = founds_known w.scope args refs found; as_many = as_many })
       (as_reads
-        (λ r i. sign.Close ∷ sign.Open kind.List ∷ exprs_put (call_list label (passed_cells w.scope w.depth 0 places args refs g.tail.now.columns found i) g.result) (sign.Close ∷ r))
-        (then_reads list (then_reads row close)))
+      (λ r i. sign.Close ∷ sign.Open kind.List ∷ exprs_put (call_list label (passed_cells w.scope w.depth 0 places args refs g.tail.now.columns found i) g.result) (sign.Close ∷ r))
+      (then_reads list (then_reads row close)))
 
   -- ---- ends
 
@@ -162,8 +165,8 @@ module _ (table : List Expr) (g : code.Given) where
       let refs : (k : ℕ) → refs_of (w.depth + 1) w.scope k ≡ outside (refs_of w.depth w.scope) k = seen_outside w.depth w.scope sound.in_sight in
       as_where (λ h. h, λ h. h)
       (λ h r.
-        (λ i. open_put by (parts_put (at_place (plus_one w.depth i) (λ k. refs k i) 1 x) (no_filter_put r)))
-        ∙ gated_put by (at_place (suc w.depth) (outside (refs_of w.depth w.scope)) 1 x) r)
+      (λ i. open_put by (parts_put (at_place (plus_one w.depth i) (λ k. refs k i) 1 x) (no_filter_put r)))
+      ∙ gated_at by (at_place (suc w.depth) (outside (refs_of w.depth w.scope)) 1 x) r)
       (reads_then_where begun (where_then_reads body end))
 
   pub after_picking : (w : walk.Walk) (t : Term) (x y : Body) (i j k l m n o to : Option ℕ)
@@ -182,9 +185,9 @@ module _ (table : List Expr) (g : code.Given) where
       let second = arm_select table g w (gate.No w.items) y in
       as_where (λ h. (h.0, h.1.0, h.1.1), λ h. (h.0, (h.1, h.2)))
       (λ h r.
-        let test = let_at table w.depth (refs_of w.depth w.scope) ty.Boolean t in
-        ap (from_put test) (either_put first second (sign.Close ∷ sign.Open kind.List ∷ exprs_put (map (col 0 (w.items + 1)) (below (length g.tail.now.columns + 4))) (sign.Close ∷ r)))
-        ∙ (λ i. from_put test (from_put (either first second) (sign.Close ∷ sign.Open kind.List ∷ exprs_put (map (col 0 (plus_one w.items i)) (below (width i))) (sign.Close ∷ r)))))
+      let test = let_at table w.depth (refs_of w.depth w.scope) ty.Boolean t in
+      ap (from_put test) (lateral_signs (first ∷ second ∷ []) (sign.Close ∷ sign.Open kind.List ∷ exprs_put (map (col 0 (w.items + 1)) (below (length g.tail.now.columns + 4))) (sign.Close ∷ r)))
+      ∙ (λ i. from_put test (from_put (either first second) (sign.Close ∷ sign.Open kind.List ∷ exprs_put (map (col 0 (plus_one w.items i)) (below (width i))) (sign.Close ∷ r)))))
       (then_where item (reads_then_where begun (then_where one (where_then_reads other (then_reads behind (then_reads list (then_reads row close)))))))
 
   -- nothing is read behind a test that isn't there
@@ -228,7 +231,7 @@ module _ (table : List Expr) (g : code.Given) where
       let rest = end_body (anf_of g) g.tail.now (further_blocks g w) x.end in
       subst (λ set. StepRead table g w (sets_first (anf_of g) g.tail.now set rest) s) (sym is)
       (step_behind w next rest (sets set.0 set.1 rest) (λ to. assigned rest to) s
-        (subst (λ n. StepRead table g next (end_body (anf_of g) g.tail.now (tree (anf_of g) g.tail.now n) x.end) s) same read))
+      (subst (λ n. StepRead table g next (end_body (anf_of g) g.tail.now (tree (anf_of g) g.tail.now n) x.end) s) same read))
 
   pub ends_so : (w : walk.Walk) (e end : CallEnd) (s : walks.Step) → e ≡ end → StepRead table g w (end_body (anf_of g) g.tail.now (further_blocks g w) end) s
       → StepRead table g w (end_body (anf_of g) g.tail.now (further_blocks g w) e) s
@@ -275,13 +278,13 @@ module _ (table : List Expr) (g : code.Given) where
       let own : names_of w.scope ≡ params_of (slice_get g.blocks.now block) = ap (λ s. with_set s w.scope.names.now) fresh ∙ params in
       let whole : further_blocks g w w.block ≡ body_of (anf_of g) g.tail.now block = λ i. tree (anf_of g) g.tail.now (fuel i) (of i) in
       let columns : (k : ℕ) → refs_of w.depth w.scope k ≡ paired of_row (no_column 0) (params_of (slice_get g.blocks.now block)) (get_or g.tail.now.places label []) k =
-          λ k. (λ i. col_at (depth i) (ref_or (found_behind (fresh i) (lookup w.scope.names.now (refs i) k) k)))
-          ∙ row_columns w.scope.names.now places k ∙ (λ i. paired of_row (no_column 0) (params i) (stand i) k) in
+      λ k. (λ i. col_at (depth i) (ref_or (found_behind (fresh i) (lookup w.scope.names.now (refs i) k) k)))
+      ∙ row_columns w.scope.names.now places k ∙ (λ i. paired of_row (no_column 0) (params i) (stand i) k) in
       as_where
       (λ h. subst (λ x. x) (λ i. HasTree table (own i) (whole i)) h, λ h. subst (λ x. x) (sym (λ i. HasTree table (own i) (whole i))) h)
       (λ h r.
-        (λ i. open_put (gate.Label label) (parts_put (at_place (depth i) (λ k. columns k i) (items i) (whole i)) (no_filter_put r)))
-        ∙ gated_put (gate.Label label) (at_place 0 (paired of_row (no_column 0) (params_of (slice_get g.blocks.now block)) (get_or g.tail.now.places label [])) 1 (body_of (anf_of g) g.tail.now block)) r)
+      (λ i. open_put (gate.Label label) (parts_put (at_place (depth i) (λ k. columns k i) (items i) (whole i)) (no_filter_put r)))
+      ∙ gated_at (gate.Label label) (at_place 0 (paired of_row (no_column 0) (params_of (slice_get g.blocks.now block)) (get_or g.tail.now.places label [])) 1 (body_of (anf_of g) g.tail.now block)) r)
       (reads_then_where begun (where_then_reads read close))
 
 -- ---- places and answers

@@ -16,7 +16,8 @@ use query_signs::Sign;
 use sqlite_items::Items;
 use std::alloc::Global;
 use template_reads::{
-    Entries, Gate, Scope, all_of, close, close_lateral, end_of_body, open_body, open_lateral, term, to_list,
+    Entries, Gate, Scope, all_of, close, close_lateral, end_of_body, open_body, open_lateral, term,
+    to_list,
 };
 
 /// What a walk reads: the query's signs, the expressions, the types, the forms, and the label of each block.
@@ -110,7 +111,16 @@ fn pick<'a>(
     ensures { IfOk result (λ to. (table : List Expr) → GivenOf table g.now
         → BodyRead table g.now w.now (spec.pick_body g.now w.now t.now yes.now no.now) to) }
 {
-    let at = term(alloc, g.signs, w.at, g.entries, &w.scope, t, Ty::Boolean, w.depth)?;
+    let at = term(
+        alloc,
+        g.signs,
+        w.at,
+        g.entries,
+        &w.scope,
+        t,
+        Ty::Boolean,
+        w.depth,
+    )?;
     if at.is_none() {
         return Ok(None);
     }
@@ -207,7 +217,13 @@ fn body<'a>(alloc: Global, g: &Given<'a>, start: Walk<'a>) -> Result<Option<usiz
 }
 
 /// The branch of a label, counted from 0.
-pub(crate) fn branch(alloc: Global, g: &Given<'_>, at: Option<usize>, label: usize, of: u32) -> Result<Option<usize>, NoMemory>
+pub(crate) fn branch(
+    alloc: Global,
+    g: &Given<'_>,
+    at: Option<usize>,
+    label: usize,
+    of: u32,
+) -> Result<Option<usize>, NoMemory>
     ensures { IfOk result (λ to. (table : List Expr) → GivenOf table g.now → BranchRead table g.now label of at to) }
 {
     let params = params_of(g, of);

@@ -100,10 +100,19 @@ pub(crate) fn label_table(alloc: Global, blocks: usize, labels: &[u32]) -> Resul
         table.push(None)?;
     }
     for i in 0..labels.len() {
-        let at = labels[i] as usize;
-        if at < table.len() && table.as_slice()[at].is_none() {
-            table.set(at, Some(i));
-        }
+        mark(&mut table, labels[i] as usize, i);
     }
     Ok(table)
+}
+
+/// The label of a block that has none yet.
+fn mark(table: &mut Items<Option<usize>>, block: usize, label: usize)
+    ensures { table.new ≡ spec.marked table.old block label }
+{
+    if block >= table.len() {
+        return;
+    }
+    if table.as_slice()[block].is_none() {
+        table.set(block, Some(label));
+    }
 }

@@ -55,7 +55,12 @@ pub(crate) fn assign<'a>(
 }
 
 /// A call of a label is a row; a call of another block goes on with its names.
-pub(crate) fn go<'a>(alloc: Global, g: &Given<'a>, w: Walk<'a>, call: &Call) -> Result<Step<'a>, NoMemory>
+pub(crate) fn go<'a>(
+    alloc: Global,
+    g: &Given<'a>,
+    w: Walk<'a>,
+    call: &Call,
+) -> Result<Step<'a>, NoMemory>
     requires { Sound g.now w }
     ensures sound { IfOk result (λ s. GoesSoundly g.now w.entry.fuel s) }
     ensures read { IfOk result (λ s. (table : List Expr) → GivenOf table g.now
@@ -114,11 +119,18 @@ fn call_end(g: &Given<'_>, w: &Walk<'_>, label: usize, call: &Call, refs: &[Ref]
 }
 
 /// The value's item, and its row.
-pub(crate) fn return_end(alloc: Global, g: &Given<'_>, w: &Walk<'_>, t: &Term) -> Result<Option<usize>, NoMemory>
+pub(crate) fn return_end(
+    alloc: Global,
+    g: &Given<'_>,
+    w: &Walk<'_>,
+    t: &Term,
+) -> Result<Option<usize>, NoMemory>
     requires { Sound g.now w.now }
     ensures { IfOk result (λ to. (table : List Expr) → GivenOf table g.now → BodyRead table g.now w.now (bodies.returns t.now) to) }
 {
-    let at = term(alloc, g.signs, w.at, g.entries, &w.scope, t, g.result, w.depth)?;
+    let at = term(
+        alloc, g.signs, w.at, g.entries, &w.scope, t, g.result, w.depth,
+    )?;
     let at = to_list(g.signs, at);
     let at = value_row(g.signs, at, w.items, g.tail.columns.as_slice());
     Ok(close(g.signs, at))

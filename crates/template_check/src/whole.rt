@@ -1,6 +1,6 @@
 //! What stands round the branches.
 
-ghost use Rattle.std.specs.Prelude.{◌∷◌, List, decimal, suc, pos, length};
+ghost use Rattle.std.specs.Prelude.{◌≡◌, ◌∷◌, List, decimal, suc, pos, length};
 ghost use Rattle.away_trees.specs.declared.queries.Expr.{Expr};
 ghost use Rattle.template_check.specs.Whole as spec;
 ghost use Rattle.template_reads.specs.Puts.{expr_put, exprs_put, from_put, select_put};
@@ -91,7 +91,7 @@ fn rest_of_step(g: &Given<'_>, at: Option<usize>) -> Option<usize>
 {
     let s = g.signs;
     let at = to_list(s, close_lateral(s, at));
-    let at = close(s, all_of(s, at, 1, g.tail.columns.len() + 4));
+    let at = close(s, all_of(s, at, 1, g.tail.columns.as_slice().len() + 4));
     let at = column(s, open(s, at, Kind::Filter), 0, 0, 0);
     rest_of_select(s, close(s, at))
 }
@@ -101,7 +101,7 @@ fn last(g: &Given<'_>, at: Option<usize>, tables: usize) -> Option<usize>
     ensures { Reads (select_put (spec.last_of g.now tables)) g.now.signs.now at result }
 {
     let s = g.signs;
-    let columns = g.tail.columns.len();
+    let columns = g.tail.columns.as_slice().len();
     let at = open(s, enter(s, at), Kind::From);
     let at = to_list(s, working_table(s, at, tables));
     let at = column(s, column(s, at, 0, 0, columns + 2), 0, 0, columns + 3);

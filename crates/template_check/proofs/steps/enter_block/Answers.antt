@@ -31,4 +31,4 @@ returns-clause-read c = λ table to rest.
     let next = further_blocks c.args.g.now c.args.w c.args.call.now.target in
     subst (λ params. BodyRead table c.args.g.now c.args.w (enters params c.args.call.now.args next) to) c.params_of-params.ensures
     (walking.after_entering table c.args.g.now c.args.w c.args.call.now.target scope c.args.call.now.args refl c.requires.found
-      (sym c.len.ensures ∙ c.if-len-params.false) next to rest)
+    (sym c.len.ensures ∙ c.if-len-params.false) next to rest)
