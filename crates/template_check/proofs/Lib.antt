@@ -5,3 +5,5 @@ pub mod Standing
 pub mod Walking
 pub mod WholeSigns
 pub mod IsTheQuery
+pub mod Branches
+pub mod Composed
