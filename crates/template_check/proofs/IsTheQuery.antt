@@ -21,7 +21,8 @@ module _ (table : List Expr) (g : code.Given) (start tables : ℕ) where
   QueryRead to = ReadsWhere (HasBranches table g) (query_put (query_of table (types_in g) g.result (anf_of g) g.tail.now start tables)) g.signs.now (Some 0) to
 
   pub query_read : (label : ℕ) (one two to : Option ℕ) → label_of g.tail.now start ≡ Some label
-      → Reads (before_put g start label tables) g.signs.now (Some 0) one → BranchesRead table g one two → Reads (behind_put g tables) g.signs.now two to → QueryRead to
+      → Reads (before_put g start label tables) g.signs.now (Some 0) one → BranchesRead table g one two
+      → Reads (behind_put g tables) g.signs.now two to → QueryRead to
   query_read label one two to e before branches behind =
       as_where (λ h. h, λ h. h) (λ h rest. query_signs table g start label tables e rest) (reads_then_where before (where_then_reads branches behind))
 
@@ -36,7 +37,8 @@ module _ (table : List Expr) (g : code.Given) (start tables : ℕ) where
       let none : left_at g.signs.now None ≡ Some [] = ap (left_at g.signs.now) (sym e) ∙ q in
       absurd (cc)
 
-  pub whole_read : (label : ℕ) (to : Option ℕ) (end : ℕ) → label_of g.tail.now start ≡ Some label → to ≡ Some end → QueryRead to → length g.signs.now ≤ end → IsTemplate table g start tables
+  pub whole_read : (label : ℕ) (to : Option ℕ) (end : ℕ) → label_of g.tail.now start ≡ Some label → to ≡ Some end → QueryRead to
+      → length g.signs.now ≤ end → IsTemplate table g start tables
   whole_read label to end entry e h le =
       let at : left_at g.signs.now to ≡ Some [] = ap (left_at g.signs.now) e ∙ ap Some (drop_past g.signs.now end le) in
       let both = (h.told []).1 at in

@@ -43,7 +43,8 @@ found : (n b k : ℕ) (xs : List ℕ) → place_from n xs b ≡ Some k → Found
 found n b k [] e = absurd (cc)
 found n b k (x ∷ xs) e = by (nat_eq x b) refl e (found (suc n) b k xs)
   where
-    by : (t : Bool) → nat_eq x b ≡ t → cond t (Some n) (place_from (suc n) xs b) ≡ Some k → (place_from (suc n) xs b ≡ Some k → Found xs (suc n) b k) → Found (x ∷ xs) n b k
+    by : (t : Bool) → nat_eq x b ≡ t → cond t (Some n) (place_from (suc n) xs b) ≡ Some k → (place_from (suc n) xs b ≡ Some k → Found xs (suc n) b k)
+        → Found (x ∷ xs) n b k
     by true same e further = (0, (let q : n ≡ k = same_Some n k e in omega (arith, q), ap Some (eqb-true x b same)))
     by false same e further = let rest = further e in (suc rest.0, (omega (arith, rest.1.0), rest.1.1))
 
@@ -62,7 +63,8 @@ marked_already [] block label k lt e = absurd (omega arith)
 marked_already (x ∷ xs) zero label k lt e = ap (λ l. l ∷ xs) (ap (λ o. first_label o (Some label)) e ∙ sym e)
 marked_already (x ∷ xs) (suc block) label k lt e = ap (λ l. x ∷ l) (marked_already xs block label k (omega arith) e)
 
-pub marked_now : (xs : List (Option ℕ)) (block label : ℕ) → block < length xs → get_or xs block None ≡ None → marked xs block label ≡ set xs block (Some label)
+pub marked_now : (xs : List (Option ℕ)) (block label : ℕ) → block < length xs → get_or xs block None ≡ None → marked xs block label
+    ≡ set xs block (Some label)
 marked_now [] block label lt e = absurd (omega arith)
 marked_now (x ∷ xs) zero label lt e = ap (λ o. first_label o (Some label) ∷ xs) e
 marked_now (x ∷ xs) (suc block) label lt e = ap (λ l. x ∷ l) (marked_now xs block label (omega arith) e)
@@ -77,10 +79,12 @@ none_of None r e is_true = refl
 none_of (Some k) true e is_true = absurd (cc)
 none_of (Some k) false e is_true = absurd (cc)
 
-pub none_there : (xs ys : List (Option ℕ)) (block : ℕ) (r : Bool) → ys ≡ xs → is_some (get_or ys block None) ≡ not r → r ≡ true → get_or xs block None ≡ None
+pub none_there : (xs ys : List (Option ℕ)) (block : ℕ) (r : Bool) → ys ≡ xs → is_some (get_or ys block None) ≡ not r → r ≡ true
+    → get_or xs block None ≡ None
 none_there xs ys block r same e is_true = ap (λ l. get_or l block None) (sym same) ∙ none_of (get_or ys block None) r e is_true
 
-pub one_there : (xs ys : List (Option ℕ)) (block label : ℕ) (r : Bool) → ys ≡ xs → is_some (get_or ys block None) ≡ not r → r ≡ false → block < length xs → marked xs block label ≡ xs
+pub one_there : (xs ys : List (Option ℕ)) (block label : ℕ) (r : Bool) → ys ≡ xs → is_some (get_or ys block None) ≡ not r → r ≡ false
+    → block < length xs → marked xs block label ≡ xs
 one_there xs ys block label r same e is_false lt = by (get_or xs block None) refl
   where
     by : (o : Option ℕ) → get_or xs block None ≡ o → marked xs block label ≡ xs
@@ -93,7 +97,8 @@ pub no_label : (table : List (Option ℕ)) (b : ℕ) (label : Option ℕ) → ta
 no_label [] b label e there = absurd (cc)
 no_label (x ∷ xs) b label e there = absurd (cc)
 
-at_end : (xs : List (Option ℕ)) → ((b : ℕ) (label : Option ℕ) → slice_get xs b ≡ Some label → label ≡ None) → (b : ℕ) (label : Option ℕ) → slice_get (xs ++ (None ∷ [])) b ≡ Some label → label ≡ None
+at_end : (xs : List (Option ℕ)) → ((b : ℕ) (label : Option ℕ) → slice_get xs b ≡ Some label → label ≡ None) → (b : ℕ) (label : Option ℕ)
+    → slice_get (xs ++ (None ∷ [])) b ≡ Some label → label ≡ None
 at_end [] none zero label e = sym (same_Some None label e)
 at_end [] none (suc b) label e = absurd (cc)
 at_end (x ∷ xs) none zero label e = none zero label e
@@ -116,20 +121,33 @@ kept (Some k) = refl
 pub marked_at : (xs : List (Option ℕ)) (block label b : ℕ) (now : Option ℕ) → slice_get (marked xs block label) b ≡ Some now → Before xs block label b now
 marked_at [] block label b now e = absurd (cc)
 marked_at (x ∷ xs) zero label zero now e = record { before = x; there = refl; now_is = sym (same_Some (first_label x (Some label)) now e) }
-marked_at (x ∷ xs) zero label (suc b) now e = record { before = now; there = e; now_is = kept now ∙ ap (λ t. first_label now (cond t (Some label) None)) (sym (eqb-zero-suc b)) }
-marked_at (x ∷ xs) (suc block) label zero now e = record { before = x; there = refl; now_is = sym (same_Some x now e) ∙ (kept x ∙ ap (λ t. first_label x (cond t (Some label) None)) (sym (eqb-suc-zero block))) }
+marked_at (x ∷ xs) zero label (suc b) now e = record {
+  before = now;
+  there = e;
+  now_is = kept now
+      ∙ ap (λ t. first_label now (cond t (Some label) None)) (sym (eqb-zero-suc b));
+}
+marked_at (x ∷ xs) (suc block) label zero now e = record {
+  before = x;
+  there = refl;
+  now_is = sym (same_Some x now e) ∙ (kept x
+      ∙ ap (λ t. first_label x (cond t (Some label) None)) (sym (eqb-suc-zero block)));
+}
 marked_at (x ∷ xs) (suc block) label (suc b) now e = let r = marked_at xs block label b now e in record { before = r.before; there = r.there; now_is = r.now_is ∙ ap (λ t. first_label r.before (cond t (Some label) None)) (sym (eqb-suc-suc block b)) }
 
-later : (before : Option ℕ) (t : Bool) (i : ℕ) (rest : Option ℕ) → first_label (first_label before (cond t (Some i) None)) rest ≡ first_label before (cond t (Some i) rest)
+later : (before : Option ℕ) (t : Bool) (i : ℕ) (rest : Option ℕ) → first_label (first_label before (cond t (Some i) None)) rest
+    ≡ first_label before (cond t (Some i) rest)
 later None true i rest = refl
 later None false i rest = refl
 later (Some k) t i rest = refl
 
 -- at each block the label, or what a later one of the labels makes of it
 abbrev pub Marking : List ℕ → ℕ → List (Option ℕ) → Type 0
-Marking labels i table = (b : ℕ) (label : Option ℕ) → slice_get table b ≡ Some label → first_label label (place_from i (drop i labels) b) ≡ place_from 0 labels b
+Marking labels i table = (b : ℕ) (label : Option ℕ) → slice_get table b ≡ Some label → first_label label (place_from i (drop i labels) b)
+    ≡ place_from 0 labels b
 
-pub marking_next : (labels : List ℕ) (i : ℕ) (table : List (Option ℕ)) → i < length labels → Marking labels i table → Marking labels (i + 1) (marked table (get_or labels i 0) i)
+pub marking_next : (labels : List ℕ) (i : ℕ) (table : List (Option ℕ)) → i < length labels → Marking labels i table
+    → Marking labels (i + 1) (marked table (get_or labels i 0) i)
 marking_next labels i table lt m b now e =
     let x = get_or labels i 0 in
     let r = marked_at table x i b now e in
@@ -140,7 +158,8 @@ marking_next labels i table lt m b now e =
     ∙ (ap (λ j. first_label r.before (cond (nat_eq x b) (Some i) (place_from j (drop (i + 1) labels) b))) (sym next)
     ∙ (ap (λ l. first_label r.before (place_from i l b)) (sym (drop_from labels i 0 lt)) ∙ m b r.before r.there)))
 
-pub marking_over : (labels : List ℕ) (i : ℕ) (table : List (Option ℕ)) → length labels ≤ i → Marking labels i table → (b : ℕ) (label : Option ℕ) → slice_get table b ≡ Some label
+pub marking_over : (labels : List ℕ) (i : ℕ) (table : List (Option ℕ)) → length labels ≤ i → Marking labels i table → (b : ℕ) (label : Option ℕ)
+    → slice_get table b ≡ Some label
     → label ≡ place_from 0 labels b
 marking_over labels i table le m b label e =
     kept label ∙ (ap (λ l. first_label label (place_from i l b)) (sym (drop_past labels i le)) ∙ m b label e)
@@ -158,7 +177,8 @@ get_nil (suc i) = refl
 pub refs_next : (params places : List ℕ) (i : ℕ) → i < length params
     → row_ref (slice_get places i) ∷ label_refs (drop (i + 1) params) (drop (i + 1) places) ≡ label_refs (drop i params) (drop i places)
 refs_next params [] i lt =
-    (λ t. row_ref (get_nil i t) ∷ label_refs (drop (i + 1) params) (drop_nil (i + 1) t)) ∙ (λ t. label_refs (sym (drop_from params i 0 lt) t) (sym (drop_nil i) t))
+    (λ t. row_ref (get_nil i t) ∷ label_refs (drop (i + 1) params) (drop_nil (i + 1) t))
+    ∙ (λ t. label_refs (sym (drop_from params i 0 lt) t) (sym (drop_nil i) t))
 refs_next [] (q ∷ places) i lt = absurd (omega arith)
 refs_next (p ∷ params) (q ∷ places) zero lt = refl
 refs_next (p ∷ params) (q ∷ places) (suc i) lt =

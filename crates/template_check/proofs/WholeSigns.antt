@@ -39,7 +39,8 @@ argument_is g (x ∷ places) [] i t = refl
 argument_is g (x ∷ places) (p ∷ params) i t = by (nat_eq x i) (argument_is g places params i t)
   where
     by : (b : Bool) → spec.argument g (lookup places params i) t ≡ paired (λ p. expr.Param (suc p) (types_in g p)) (null_of t) places params i
-        → spec.argument g (cond b (Some p) (lookup places params i)) t ≡ cond b (expr.Param (suc p) (types_in g p)) (paired (λ p. expr.Param (suc p) (types_in g p)) (null_of t) places params i)
+        → spec.argument g (cond b (Some p) (lookup places params i)) t
+        ≡ cond b (expr.Param (suc p) (types_in g p)) (paired (λ p. expr.Param (suc p) (types_in g p)) (null_of t) places params i)
     by true same = refl
     by false same = same
 
@@ -58,12 +59,15 @@ module _ (g : code.Given) (params places : List ℕ) where
       ∙ (ap (λ j. expr_put (paired (λ p. expr.Param (suc p) (types_in g p)) (null_of t) places params i) (exprs_put (template.argument_cells (types_in g) j places params (drop (i + 1) g.tail.now.columns)) rest)) (sym next)
       ∙ ap (λ l. exprs_put (template.argument_cells (types_in g) i places params l) rest) (sym (drop_more g.tail.now.columns i d lt))))
 
-  pub arguments_next : (columns : List Ty) → columns ≡ g.tail.now.columns → (i : ℕ) (d : Ty) (found : Option ℕ) → i < length columns → found ≡ lookup places params i → (rest : Signs)
+  pub arguments_next : (columns : List Ty) → columns ≡ g.tail.now.columns → (i : ℕ) (d : Ty) (found : Option ℕ) → i < length columns → found
+      ≡ lookup places params i → (rest : Signs)
       → expr_put (spec.argument g found (get_or columns i d)) (exprs_put (arguments_from (i + 1)) rest) ≡ exprs_put (arguments_from i) rest
   arguments_next columns same i d found lt e rest =
-      ap (λ l. expr_put (spec.argument g found (get_or l i d)) (exprs_put (arguments_from (i + 1)) rest)) same ∙ one_next i d found (subst (λ l. i < length l) same lt) e rest
+      ap (λ l. expr_put (spec.argument g found (get_or l i d)) (exprs_put (arguments_from (i + 1)) rest)) same
+      ∙ one_next i d found (subst (λ l. i < length l) same lt) e rest
 
-  pub arguments_over : (columns : List Ty) → columns ≡ g.tail.now.columns → (i : ℕ) → length columns ≤ i → (rest : Signs) → rest ≡ exprs_put (arguments_from i) rest
+  pub arguments_over : (columns : List Ty) → columns ≡ g.tail.now.columns → (i : ℕ) → length columns ≤ i → (rest : Signs) → rest
+      ≡ exprs_put (arguments_from i) rest
   arguments_over columns same i le rest =
       ap (λ l. exprs_put (template.argument_cells (types_in g) i places params l) rest) (sym (nothing_behind g.tail.now.columns i (subst (λ l. length l ≤ i) same le)))
 
@@ -79,7 +83,8 @@ row_select_signs label cells result rest =
 -- ---- the second term
 
 module _ (table : List Expr) (g : code.Given) (entry : ℕ) where
-  pub branches_are : (n : ℕ) (bs : List ℕ) → spec.branches_from table g n bs ≡ template.branches table (types_in g) g.result (anf_of g) g.tail.now entry n bs
+  pub branches_are : (n : ℕ) (bs : List ℕ) → spec.branches_from table g n bs
+      ≡ template.branches table (types_in g) g.result (anf_of g) g.tail.now entry n bs
   branches_are n [] = refl
   branches_are n (b ∷ bs) = ap (λ l. branch_of table g n b ∷ l) (branches_are (suc n) bs)
 
