@@ -1,5 +1,5 @@
 -- The branches of the labels, one after the other.
-use Rattle.std.proofs.Common.{◌≡◌, ℕ, zero, suc, ◌+◌, ◌<◌, ◌≤◌, List, [], ◌∷◌, length, get_or, drop, slice_get, Option, Some, None, ◌↔◌, sym, ap, subst, arith}
+use Rattle.std.proofs.Common.{◌≡◌, ℕ, zero, suc, ◌+◌, ◌<◌, ◌≤◌, List, [], ◌∷◌, length, get_or, drop, slice_get, Option, Some, ◌↔◌, sym, ap, subst, arith}
 use Rattle.std.proofs.lemmas.Option.{same_Some}
 use Rattle.away_trees.specs.declared.queries.Expr.{Expr}
 use Rattle.block_forms.specs.Places.{Each}

@@ -1,5 +1,5 @@
 -- The template's signs tell the relation of a tail form and its query.
-use Rattle.std.proofs.Common.{◌≡◌, ℕ, zero, suc, ◌≤◌, Bool, List, [], length, slice_get, Option, Some, None, Result, Ok, Err, IfOk, IsTrue, ◌↔◌, refl, sym, ap, ◌∙◌, subst, arith}
+use Rattle.std.proofs.Common.{◌≡◌, ℕ, zero, suc, ◌≤◌, Bool, List, [], length, slice_get, Result, Ok, Err, IfOk, IsTrue, ◌↔◌, sym, ap, ◌∙◌, subst, arith}
 use Rattle.std.proofs.lemmas.Option.{slice_get_past}
 use Rattle.away_trees.specs.declared.queries.Expr.{Expr}
 use Rattle.away_trees.specs.declared.queries.Query.{Query}
@@ -20,13 +20,13 @@ use Rattle.call_forms.specs.Called.{Among}
 use Rattle.call_forms.specs.Columned.{type_of_name}
 use Rattle.call_forms.specs.Forms.{params_of}
 use Rattle.call_forms.specs.Template as template
-use Rattle.call_forms.specs.Templated.{HasTree, Templated, types_of, type_or_bigint}
-use Rattle.query_signs.specs.Signs.{Signs, shaping, signs_of_query}
+use Rattle.call_forms.specs.Templated.{HasTree, Templated, type_or_bigint}
+use Rattle.query_signs.specs.Signs.{shaping, signs_of_query}
 use Rattle.query_signs.specs.declared.signs.Manner.TheVariants.{Whole}
 use Rattle.query_signs.proofs.ReadBack.{signs_tell}
 use Rattle.query_signs.proofs.WithoutNames.{bare_query_signs}
 use Rattle.sql_meaning.specs.Names.{bare}
-use Rattle.template_check.specs.Walks.{GivenOf, anf_of, types_in}
+use Rattle.template_check.specs.Walks.{GivenOf}
 use Rattle.template_check.specs.Whole.{IsTemplate}
 use Rattle.template_check.specs.declared.body.Given as code
 
@@ -78,8 +78,8 @@ template_is_templated f slots tables g z a r q x table is h = (
   λ t. record {
     entry = subst (λ (r : Tail). Among r.labels g.entry) (sym h.tail_is) t.entry;
     trees =
-      subst (λ r. Trees table x.blocks.now r) (sym h.tail_is)
-      (subst (λ b. Trees table b r) (sym h.blocks_are) (subst (λ table. Trees table a.blocks r) (sym is) t.trees));
+        subst (λ r. Trees table x.blocks.now r) (sym h.tail_is)
+        (subst (λ b. Trees table b r) (sym h.blocks_are) (subst (λ table. Trees table a.blocks r) (sym is) t.trees));
     signs = h.signs ∙ (same_signs q (query_in (expressions f) slots z.names f.result a.blocks r g.entry tables) t.query ∙ ap signs_of_query (sym same));
   },
 )

@@ -1,17 +1,16 @@
 -- What reading from the first sign to the last tells.
-use Rattle.std.proofs.Common.{◌≡◌, ◌↔◌, ℕ, ◌-◌, ◌≤◌, List, [], length, drop, Option, Some, None, refl, sym, ap, ◌∙◌, arith}
+use Rattle.std.proofs.Common.{◌≡◌, ℕ, ◌-◌, ◌≤◌, List, [], length, drop, Option, Some, None, sym, ap, ◌∙◌, arith}
 use Rattle.std.proofs.lemmas.List.{length-drop}
 use Rattle.std.proofs.lemmas.Option.{same_Some}
 use Rattle.away_trees.specs.declared.queries.Expr.{Expr}
 use Rattle.call_forms.specs.Forms.{label_of}
 use Rattle.call_forms.specs.Template.{query_of}
-use Rattle.query_signs.specs.Signs.{Signs, row}
-use Rattle.template_reads.specs.Puts.{query_put, select_put}
+use Rattle.template_reads.specs.Puts.{query_put}
 use Rattle.template_reads.specs.Read.{left_at, Reads, ReadsWhere}
 use Rattle.template_reads.proofs.ListPlaces.{drop_past}
 use Rattle.template_reads.proofs.OneByOneWhere.{reads_then_where, where_then_reads, as_where}
 use Rattle.template_check.specs.Walks.{anf_of, types_in}
-use Rattle.template_check.specs.Whole.{before_put, behind_put, branches_from, BranchesRead, HasBranches, IsTemplate}
+use Rattle.template_check.specs.Whole.{before_put, behind_put, BranchesRead, HasBranches, IsTemplate}
 use Rattle.template_check.specs.declared.body.Given as code
 use Rattle.template_check.proofs.LabelPlaces.{not_among, among}
 use Rattle.template_check.proofs.WholeSigns.{query_signs}

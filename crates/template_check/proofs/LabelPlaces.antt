@@ -2,14 +2,11 @@
 use Rattle.std.proofs.Common.{◌≡◌, ℕ, zero, suc, ◌+◌, ◌<◌, ◌≤◌, Bool, true, false, not, cond, nat_eq, List, [], ◌∷◌, ◌++◌, length, get_or, set, slice_get, drop, Option, Some, None, refl, sym, ap, ◌∙◌, arith}
 use Rattle.std.specs.Option.{is_some}
 use Rattle.std.proofs.lemmas.Bool.{eqb-true, eqb-false}
-use Rattle.std.proofs.lemmas.List.{append_assoc, append-nil}
 use Rattle.std.proofs.lemmas.Option.{same_Some}
 use lib.Dec.{eqb-zero-suc, eqb-suc-zero, eqb-suc-suc}
 use Rattle.block_forms.specs.Places.{Each}
 use Rattle.call_forms.specs.Called.{Among}
 use Rattle.call_forms.specs.Forms.{place_from}
-use Rattle.template_reads.specs.declared.scope.Ref.{Ref}
-use Rattle.template_reads.specs.References.{no_ref}
 use Rattle.template_reads.proofs.ListPlaces.{drop_from, drop_past}
 use Rattle.template_check.specs.Labels.{row_ref, label_refs, first_label, marked}
 

@@ -1,6 +1,4 @@
-pub mod Known
 pub mod LabelPlaces
-pub mod Shapes
 pub mod Standing
 pub mod Walking
 pub mod WholeSigns

@@ -1,14 +1,12 @@
 -- What the names of a walk stand for, as the template has it.
-use Rattle.std.proofs.Common.{◌≡◌, ℕ, zero, suc, ◌+◌, ◌-◌, ◌<◌, ◌≤◌, Bool, true, false, cond, nat_eq, List, [], ◌∷◌, length, slice_get, Option, Some, None, refl, sym, ap, ◌∙◌, subst, arith}
+use Rattle.std.proofs.Common.{◌≡◌, ℕ, zero, suc, ◌+◌, ◌-◌, ◌≤◌, Bool, true, false, cond, nat_eq, List, [], ◌∷◌, length, Option, Some, None, refl, sym, ap, ◌∙◌, subst, arith}
 use Rattle.std.proofs.lemmas.Bool.{eqb-true, eqb-false}
 use Rattle.std.proofs.lemmas.Option.{same_Some}
-use Rattle.away_trees.specs.declared.queries.Col.{Col}
-use Rattle.away_trees.specs.declared.queries.Expr.{Expr}
 use Rattle.away_trees.specs.declared.queries.Expr.TheVariants as expr
 use Rattle.away_values.specs.declared.types.Ty.{Ty}
 use Rattle.block_forms.specs.Places.{Each}
 use Rattle.call_forms.specs.Scopes.{paired}
-use Rattle.call_forms.specs.Template.{refers, here, outside, deeper, no_column, of_row, cells}
+use Rattle.call_forms.specs.Template.{here, outside, deeper, no_column, of_row, cells}
 use Rattle.sql_meaning.specs.Trees.{null_of}
 use Rattle.template_reads.specs.References.{Set, lookup, col_at, no_ref, ref_or, found_behind, found_in, one_more, founds, refs_of}
 use Rattle.template_reads.specs.Rows.{cell, cells_at}

@@ -1,20 +1,18 @@
 -- What is read of a body, by what is read of its parts.
-use Rattle.std.proofs.Common.{◌≡◌, ℕ, zero, suc, ◌+◌, ◌-◌, ◌<◌, ◌≤◌, List, [], ◌∷◌, ◌++◌, map, length, slice_get, get_or, Option, Some, None, Result, Ok, Err, IfOk, is_some, false, ◌↔◌, refl, sym, ap, ◌∙◌, subst, arith}
+use Rattle.std.proofs.Common.{◌≡◌, ℕ, zero, suc, ◌+◌, ◌-◌, ◌<◌, ◌≤◌, List, [], ◌∷◌, map, length, slice_get, get_or, Option, Some, None, Result, Ok, Err, IfOk, is_some, false, refl, sym, ap, ◌∙◌, subst, arith}
 use Rattle.away_trees.specs.declared.queries.Col.{Col}
 use Rattle.away_trees.specs.declared.queries.Expr.{Expr}
 use Rattle.away_values.specs.declared.types.Ty.{Ty}
 use Rattle.away_values.specs.declared.types.Ty.TheVariants as ty
 use Rattle.away_values.specs.declared.values.Class.{Class}
-use Rattle.block_forms.specs.Places.{Each}
 use Rattle.block_forms.specs.declared.forms.Term.{Term}
 use Rattle.call_forms.specs.declared.forms.AnfBlock.{AnfBlock}
 use Rattle.call_forms.specs.declared.forms.Call.{Call}
 use Rattle.call_forms.specs.declared.forms.CallEnd.{CallEnd}
-use Rattle.call_forms.specs.Bodies.{Body, sets, enters, picks, returns, fails, calls, endless, goes_to, goes, end_body, sets_first, block_body, tree, body_of}
-use Rattle.call_forms.specs.Called.{Among}
+use Rattle.call_forms.specs.Bodies.{Body, sets, enters, picks, returns, fails, calls, goes_to, goes, end_body, sets_first, block_body, tree, body_of}
 use Rattle.call_forms.specs.Forms.{params_of, label_of}
 use Rattle.call_forms.specs.Scopes.{paired}
-use Rattle.call_forms.specs.Template.{Parts, parts, gated, either, all_of, refers, here, outside, no_column, of_row}
+use Rattle.call_forms.specs.Template.{Parts, parts, gated, either, refers, here, outside, no_column, of_row}
 use Rattle.call_forms.specs.Templated.{HasTree, HasReferences, PassesKnown}
 use Rattle.query_signs.specs.declared.signs.Kind.TheVariants as kind
 use Rattle.query_signs.specs.declared.signs.Sign.TheVariants as sign
@@ -26,7 +24,7 @@ use Rattle.template_reads.specs.declared.parts.Gate.TheVariants as gate
 use Rattle.template_reads.specs.declared.scope.Ref.{Ref}
 use Rattle.template_reads.specs.declared.scope.Scope as names
 use Rattle.template_reads.specs.Entries.{let_at}
-use Rattle.template_reads.specs.Puts.{body_put, condition, exprs_put, from_put, select_put, open_put, no_filter_put, lateral_put, lateral_end_put}
+use Rattle.template_reads.specs.Puts.{condition, exprs_put, from_put, select_put, open_put, no_filter_put, lateral_put, lateral_end_put}
 use Rattle.template_reads.specs.Read.{Reads, ReadsWhere}
 use Rattle.template_reads.specs.References.{lookup, refs_of, names_of, with_set, found_behind, founds, col_at, ref_or}
 use Rattle.template_reads.specs.Rows.{call_list, cells_at, value_list, fault_list}
@@ -35,12 +33,12 @@ use Rattle.template_reads.proofs.TreeSigns.{gated_signs, lateral_signs}
 use Rattle.template_reads.proofs.OneByOne.{then_reads, as_reads, no_place}
 use Rattle.template_reads.proofs.OneByOneWhere.{then_where, reads_then_where, where_then_reads, where_holds, nowhere, no_place_where, as_where}
 use Rattle.template_check.specs.Labels.{label_refs}
-use Rattle.template_check.specs.Walks.{GivenOf, Sound, Fresh, BodyRead, WalkRead, StepRead, ArmRead, BranchRead, anf_of, types_in, further_blocks, parts_at, parts_put, inner_walk, arm_select, pick_body, entered_body, called_body, branch_of, HasBranch}
+use Rattle.template_check.specs.Walks.{GivenOf, Sound, Fresh, BodyRead, WalkRead, StepRead, ArmRead, BranchRead, anf_of, types_in, further_blocks, parts_put, inner_walk, arm_select, entered_body, called_body}
 use Rattle.template_check.specs.declared.body.Given as code
 use Rattle.template_check.specs.declared.body.Walk as walk
 use Rattle.template_check.specs.declared.body.Step as walks
 use Rattle.template_check.specs.declared.body.Step.TheVariants as step
-use Rattle.template_check.proofs.Standing.{item_ref, assigned, passed, passed_cells, as_many_found, row_columns, seen_outside}
+use Rattle.template_check.proofs.Standing.{item_ref, assigned, passed, passed_cells, row_columns, seen_outside}
 
 -- a body behind its gate
 gated_at : (by : Gate) (p : Parts) (rest : Signs) → open_put by (parts_put p (no_filter_put rest)) ≡ select_put (gated (condition by) p) rest

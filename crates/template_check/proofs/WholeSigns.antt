@@ -1,10 +1,9 @@
 -- The signs of the whole query, by those of what stands round its branches.
-use Rattle.std.proofs.Common.{◌≡◌, ℕ, zero, suc, ◌+◌, ◌<◌, ◌≤◌, true, pos, Bool, false, cond, nat_eq, decimal, List, [], ◌∷◌, ◌++◌, length, map, get_or, slice_get, drop, Option, Some, None, refl, sym, ap, ◌∙◌, subst, arith}
+use Rattle.std.proofs.Common.{◌≡◌, ℕ, suc, ◌+◌, ◌<◌, ◌≤◌, true, pos, Bool, false, cond, nat_eq, decimal, List, [], ◌∷◌, length, get_or, drop, Option, Some, None, refl, sym, ap, ◌∙◌, subst, arith}
 use Rattle.std.proofs.lemmas.List.{drop_more}
 use Rattle.away_trees.specs.declared.queries.Expr.{Expr}
 use Rattle.away_trees.specs.declared.queries.Expr.TheVariants as expr
 use Rattle.away_trees.specs.declared.queries.Expr.TheViews.{roll-Query, roll-Recursive}
-use Rattle.away_trees.specs.declared.queries.FromItem.{FromItem}
 use Rattle.away_trees.specs.declared.queries.Query.{Query}
 use Rattle.away_trees.specs.declared.queries.Recursive.{Recursive}
 use Rattle.away_trees.specs.declared.queries.Select.{Select}
@@ -19,9 +18,9 @@ use Rattle.call_forms.specs.Template as template
 use Rattle.query_signs.specs.declared.signs.Kind.TheVariants as kind
 use Rattle.query_signs.specs.declared.signs.Manner.TheVariants.{Whole}
 use Rattle.query_signs.specs.declared.signs.Sign.TheVariants as sign
-use Rattle.query_signs.specs.Signs.{Signs, node, row, signs_of_query}
+use Rattle.query_signs.specs.Signs.{Signs, node, row}
 use Rattle.query_signs.proofs.PutNodes.{rolled_query, rolled_recursive}
-use Rattle.template_reads.specs.Puts.{expr_put, exprs_put, from_put, select_put, query_put, no_filter_put, end_put, lateral_put, lateral_end_put}
+use Rattle.template_reads.specs.Puts.{expr_put, exprs_put, from_put, select_put, query_put, no_filter_put, end_put, lateral_put}
 use Rattle.template_reads.specs.References.{lookup}
 use Rattle.template_reads.specs.Rows.{call_list}
 use Rattle.template_reads.proofs.RowSigns.{call_signs}

@@ -1,11 +1,9 @@
 -- A walk over the blocks of a label beside its branch: where it is, and what is read from there.
-use Rattle.std.specs.Prelude.{◌≡◌, ◌↔◌, ℕ, suc, ◌+◌, ◌-◌, ◌<◌, ◌≤◌, List, [], length, slice_get, get_or, Option, Some, None}
+use Rattle.std.specs.Prelude.{◌≡◌, ℕ, suc, ◌+◌, ◌-◌, ◌<◌, ◌≤◌, List, [], length, slice_get, get_or, Option, Some, None}
 use Rattle.away_trees.specs.declared.queries.Expr.{Expr}
-use Rattle.away_types.specs.declared.slots.Slot.{Slot}
 use Rattle.away_values.specs.declared.types.Ty.{Ty}
 use Rattle.block_forms.specs.Places.{Each}
 use Rattle.call_forms.specs.declared.forms.Anf.{Anf}
-use Rattle.call_forms.specs.declared.forms.Tail.{Tail}
 use Rattle.call_forms.specs.Bodies.{Body, enters, picks, calls, tree, goes, body_of}
 use Rattle.call_forms.specs.declared.forms.Call.{Call}
 use Rattle.block_forms.specs.declared.forms.Term.{Term}
@@ -13,7 +11,7 @@ use Rattle.call_forms.specs.Columned.{type_of_name}
 use Rattle.call_forms.specs.Forms.{label_of, params_of}
 use Rattle.call_forms.specs.Template.{Parts, parts, gated, outside, branch}
 use Rattle.call_forms.specs.Templated.{HasTree, type_or_bigint}
-use Rattle.query_signs.specs.Signs.{Signs, Put}
+use Rattle.query_signs.specs.Signs.{Put}
 use Rattle.template_reads.specs.Entries.{EntriesOf}
 use Rattle.template_reads.specs.Puts.{body_put, select_put, condition}
 use Rattle.template_reads.specs.declared.parts.Gate.{Gate}
@@ -21,7 +19,6 @@ use Rattle.away_trees.specs.declared.queries.Select.{Select}
 use Rattle.template_reads.specs.Read.{ReadsWhere}
 use Rattle.template_reads.specs.References.{refs_of, names_of}
 use Rattle.template_reads.specs.declared.scope.Ref.{Ref}
-use Rattle.template_reads.specs.declared.scope.Scope as scope
 use Rattle.template_check.specs.declared.body.Given as code
 use Rattle.template_check.specs.declared.body.Walk as walk
 use Rattle.template_check.specs.declared.body.Step as walks

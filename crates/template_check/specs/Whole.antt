@@ -3,7 +3,6 @@ use Rattle.std.specs.Prelude.{◌≡◌, ℕ, suc, true, pos, List, [], ◌∷�
 use Rattle.away_trees.specs.declared.queries.Expr.{Expr}
 use Rattle.away_trees.specs.declared.queries.Expr.TheVariants as expr
 use Rattle.away_trees.specs.declared.queries.FromItem.{FromItem}
-use Rattle.away_trees.specs.declared.queries.Query.{Query}
 use Rattle.away_trees.specs.declared.queries.Select.{Select}
 use Rattle.away_values.specs.declared.types.Ty.{Ty}
 use Rattle.away_values.specs.declared.types.Ty.TheVariants as ty
@@ -14,7 +13,7 @@ use Rattle.call_forms.specs.Template.{all_of, argument_cells, query_of}
 use Rattle.query_signs.specs.Signs.{Put, node, row, signs_of_query}
 use Rattle.query_signs.specs.declared.signs.Kind.TheVariants as kind
 use Rattle.query_signs.specs.declared.signs.Sign.TheVariants as sign
-use Rattle.sql_meaning.specs.Template.{last, below}
+use Rattle.sql_meaning.specs.Template.{last}
 use Rattle.sql_meaning.specs.Trees.{col, number, truth, null_of, table_by, select}
 use Rattle.template_reads.specs.Puts.{expr_put, exprs_put, from_put, select_put, end_put, lateral_put, lateral_end_put}
 use Rattle.template_reads.specs.Read.{ReadsWhere}

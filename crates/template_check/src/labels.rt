@@ -24,7 +24,11 @@ pub(crate) fn type_of_name(slots: &[Slot], names: &[u32], n: u32) -> Ty
         return Ty::Bigint;
     }
     let slot = names[n] as usize;
-    if slot < slots.len() { slots[slot].ty } else { Ty::Bigint }
+    if slot < slots.len() {
+        slots[slot].ty
+    } else {
+        Ty::Bigint
+    }
 }
 
 /// The label of a block, counted from 0.
@@ -33,24 +37,40 @@ pub(crate) fn label_of(g: &Given<'_>, block: u32) -> Option<usize>
         → Each (λ b. suc b ≤ length g.now.blocks.now) g.now.tail.now.labels → result ≡ forms.label_of g.now.tail.now block }
 {
     let block = block as usize;
-    if block < g.labels.len() { g.labels[block] } else { None }
+    if block < g.labels.len() {
+        g.labels[block]
+    } else {
+        None
+    }
 }
 
 pub(crate) fn params_of<'a>(g: &Given<'a>, block: u32) -> &'a [u32]
     ensures { result.now ≡ forms.params_of (slice_get g.now.blocks.now block) }
 {
     let block = block as usize;
-    if block < g.blocks.len() { g.blocks[block].params.as_slice() } else { &[] }
+    if block < g.blocks.len() {
+        g.blocks[block].params.as_slice()
+    } else {
+        &[]
+    }
 }
 
 pub(crate) fn places_of<'a>(g: &Given<'a>, label: usize) -> &'a [u32]
     ensures { result.now ≡ get_or g.now.tail.now.places label [] }
 {
-    if label < g.tail.places.len() { g.tail.places.as_slice()[label].as_slice() } else { &[] }
+    if label < g.tail.places.len() {
+        g.tail.places.as_slice()[label].as_slice()
+    } else {
+        &[]
+    }
 }
 
 /// The column of the rows for each parameter of a label. A parameter without a place has one that no row has.
-pub(crate) fn label_refs(alloc: Global, params: &[u32], places: &[u32]) -> Result<Items<Ref>, NoMemory>
+pub(crate) fn label_refs(
+    alloc: Global,
+    params: &[u32],
+    places: &[u32],
+) -> Result<Items<Ref>, NoMemory>
     ensures { IfOk result (λ refs. refs ≡ spec.label_refs params.now places.now) }
 {
     let mut refs = Items::new(alloc);
@@ -91,7 +111,11 @@ pub(crate) fn are_blocks(blocks: usize, labels: &[u32]) -> bool
 }
 
 /// The label of each of so many blocks; the first of equal labels counts.
-pub(crate) fn label_table(alloc: Global, blocks: usize, labels: &[u32]) -> Result<Items<Option<usize>>, NoMemory>
+pub(crate) fn label_table(
+    alloc: Global,
+    blocks: usize,
+    labels: &[u32],
+) -> Result<Items<Option<usize>>, NoMemory>
     ensures many { IfOk result (λ table. length table ≡ blocks) }
     ensures each { IfOk result (λ table. spec.TableOf labels.now table) }
 {

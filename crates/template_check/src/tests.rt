@@ -9,15 +9,18 @@ use crate::check::check_templated;
 use crate::tests::edits::Edit;
 use crate::tests::forms::{Example, anf, goto, ssa, tail_of};
 use away_trees::{Function, Query};
-use away_types::{CheckedFunction, CheckedQuery, CheckedSchema, check_function, check_query, check_schema};
+use away_types::{
+    CheckedFunction, CheckedQuery, CheckedSchema, check_function, check_query, check_schema,
+};
 use block_forms::{Goto, Ssa};
 use call_forms::{Anf, Tail};
 use plsql_parse::read_function;
-use sqlite_items::Boxed;
 use sql_text::{read_query, read_schema};
+use sqlite_items::Boxed;
 use std::process::Abort;
 
-const SIGN: &str = "CREATE FUNCTION sign_of(a bigint) RETURNS bigint LANGUAGE plpgsql AS $$ BEGIN IF a > 0 THEN RETURN 1; END IF; RETURN 2; END; $$;";
+const SIGN: &str =
+    "CREATE FUNCTION sign_of(a bigint) RETURNS bigint LANGUAGE plpgsql AS $$ BEGIN IF a > 0 THEN RETURN 1; END IF; RETURN 2; END; $$;";
 
 /// The query of the function's tail form, where a label is each block but the last.
 const PIECES: [&str; 37] = [
@@ -193,16 +196,31 @@ fn each_piece_of_a_query_counts(rt: HostRuntime) {
         (10, "r.fn <= CAST(1 AS bigint)) AS k(v), "),
         (11, "LATERAL (SELECT CAST(1 AS bigint)) AS v(v) UNION ALL "),
         (11, "LATERAL (SELECT 2) AS v(v) UNION ALL "),
-        (11, "LATERAL (SELECT CAST(2 AS bigint) LIMIT 1) AS v(v) UNION ALL "),
-        (11, "LATERAL (SELECT CAST(2 AS bigint)) AS v(v), LATERAL (SELECT CAST(2 AS bigint)) AS w(v) UNION ALL "),
+        (
+            11,
+            "LATERAL (SELECT CAST(2 AS bigint) LIMIT 1) AS v(v) UNION ALL ",
+        ),
+        (
+            11,
+            "LATERAL (SELECT CAST(2 AS bigint)) AS v(v), LATERAL (SELECT CAST(2 AS bigint)) AS w(v) UNION ALL ",
+        ),
         (19, "r.fn > "),
         (19, "r.c >= "),
         (20, "CAST(1 AS bigint)) AS v(v), "),
         (22, "CAST(1 AS bigint), "),
         (24, "NOT v.v) AS k(v) UNION ALL "),
-        (27, "v.v IS FALSE) AS k(v)) AS t(go, fn, c, res, err) UNION ALL "),
-        (27, "v.v IS TRUE) AS k(v)) AS t(go, fn, c, res, err) UNION ALL "),
-        (27, "v.v IS NOT TRUE LIMIT 1) AS k(v)) AS t(go, fn, c, res, err) UNION ALL "),
+        (
+            27,
+            "v.v IS FALSE) AS k(v)) AS t(go, fn, c, res, err) UNION ALL ",
+        ),
+        (
+            27,
+            "v.v IS TRUE) AS k(v)) AS t(go, fn, c, res, err) UNION ALL ",
+        ),
+        (
+            27,
+            "v.v IS NOT TRUE LIMIT 1) AS k(v)) AS t(go, fn, c, res, err) UNION ALL ",
+        ),
         (29, "r.fn, "),
         (29, "CAST(NULL AS bigint), "),
         (33, "WHERE NOT r.go) "),
@@ -220,7 +238,10 @@ fn names_are_not_compared(rt: HostRuntime) {
     let tail = tail_of(&rt, Example::Sign, &mut Edit::none());
     for (place, piece) in [
         (10, "r.fn = CAST(1 AS bigint)) AS other(name), "),
-        (0, "WITH RECURSIVE r(go, fn, c, res, err) AS (SELECT CAST(TRUE AS boolean) AS yes, "),
+        (
+            0,
+            "WITH RECURSIVE r(go, fn, c, res, err) AS (SELECT CAST(TRUE AS boolean) AS yes, ",
+        ),
     ] {
         assert!(rt; accepts(&rt, place, piece, &tail, 0), "{piece}");
     }

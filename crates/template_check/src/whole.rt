@@ -11,7 +11,10 @@ use crate::labels::{params_of, places_of, type_of_name};
 use away_values::Ty;
 use itoa::Buffer;
 use query_signs::{Kind, Sign};
-use template_reads::{all_of, behind, close, close_lateral, column, empty, end_of_body, enter, name, null_of, open, open_lateral, param, rest_of_select, to_list, truth};
+use template_reads::{
+    all_of, behind, close, close_lateral, column, empty, end_of_body, enter, name, null_of, open,
+    open_lateral, param, rest_of_select, to_list, truth,
+};
 
 /// The parameter that has a place, if one has.
 fn place_param(params: &[u32], places: &[u32], column: usize) -> Option<u32>
@@ -74,7 +77,12 @@ fn working_table(signs: &[Sign], at: Option<usize>, tables: usize) -> Option<usi
 }
 
 /// From the query's beginning to the branches.
-pub(crate) fn up_to_branches(g: &Given<'_>, entry: u32, label: usize, tables: usize) -> Option<usize>
+pub(crate) fn up_to_branches(
+    g: &Given<'_>,
+    entry: u32,
+    label: usize,
+    tables: usize,
+) -> Option<usize>
     ensures { Reads (spec.before_put g.now entry label tables) g.now.signs.now (Some 0) result }
 {
     let s = g.signs;

@@ -1,5 +1,4 @@
-use Rattle.std.proofs.Common.{rules, ◌≡◌, List, map, length, ◌+◌, refl, subst, arith}
-use Rattle.away_trees.specs.declared.queries.Expr.{Expr}
+use Rattle.std.proofs.Common.{map, length, ◌+◌, refl, subst, arith}
 use Rattle.sql_meaning.specs.Template.{below}
 use Rattle.sql_meaning.specs.Trees.{col}
 use Rattle.call_forms.specs.Bodies.{goes}

@@ -1,6 +1,4 @@
-use Rattle.std.proofs.Common.{◌≡◌, ◌+◌, ◌*◌, ◌≤◌, ℕ, Option, List, None}
-use Rattle.away_trees.specs.declared.queries.Expr.{Expr}
-use Rattle.template_check.specs.Walks.{GivenOf, Sound, Fresh, WalkRead}
+use Rattle.std.proofs.Common.{◌+◌, ◌*◌}
 use Rattle.template_check.proofs.Walking.{WalksOn}
 use Rattle.template_check.proofs.body.+walk.Given as goal
 

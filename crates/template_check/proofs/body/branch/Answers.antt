@@ -1,4 +1,4 @@
-use Rattle.std.proofs.Common.{rules, ◌≡◌, None, length, refl, sym, ap, ◌∙◌, subst, arith}
+use Rattle.std.proofs.Common.{None, length, refl, sym, ap, ◌∙◌, subst, arith}
 use Rattle.template_reads.specs.declared.scope.Scope as names
 use Rattle.template_check.specs.Walks.{InSight}
 use Rattle.template_check.specs.declared.body.Walk as walk

@@ -8,8 +8,8 @@ pub returns-then-not-are_blocks : goal.returns-then-not-are_blocks
 returns-then-not-are_blocks c = (
   λ never. absurd (cc never),
   λ h. c.if-not-are_blocks.ensures.1 (λ i x e.
-    subst (λ n. suc x ≤ n) (sym c.len.ensures)
-    (trees_are_of_blocks (expressions c.args.f.now.function) c.args.a.now c.args.t.now h.trees i x (ap (λ l. slice_get l i) (sym c.as_slice.ensures) ∙ e))),
+      subst (λ n. suc x ≤ n) (sym c.len.ensures)
+      (trees_are_of_blocks (expressions c.args.f.now.function) c.args.a.now c.args.t.now h.trees i x (ap (λ l. slice_get l i) (sym c.as_slice.ensures) ∙ e))),
 )
 
 pub returns : goal.returns
@@ -30,7 +30,7 @@ returns c =
       labels = λ b label e. c.in_ok-labels.ensures.each b label (ap (λ l. slice_get l b) (sym c.as_slice-7.ensures) ∙ e) ∙ ap (λ l. place_from 0 l b) c.as_slice-2.ensures;
       all_blocks = ap length c.as_slice-7.ensures ∙ (c.in_ok-labels.ensures.many ∙ (c.len-2.ensures ∙ ap length (sym c.as_slice-6.ensures)));
       of_form = λ i x e.
-        subst (λ n. suc x ≤ n) (c.len.ensures ∙ ap length (sym c.as_slice-6.ensures))
-        (c.if-not-are_blocks.ensures.0 refl i x (ap (λ l. slice_get l i) c.as_slice.ensures ∙ e));
+          subst (λ n. suc x ≤ n) (c.len.ensures ∙ ap length (sym c.as_slice-6.ensures))
+          (c.if-not-are_blocks.ensures.0 refl i x (ap (λ l. slice_get l i) c.as_slice.ensures ∙ e));
     })
     c.is_query.ensures

@@ -1,4 +1,4 @@
-use Rattle.std.proofs.Common.{◌≡◌, sym, arith}
+use Rattle.std.proofs.Common.{sym, arith}
 use Rattle.template_check.proofs.LabelPlaces.{not_placed}
 use Rattle.template_check.proofs.labels.label_of.Goals as goal
 

@@ -1,7 +1,7 @@
-use Rattle.std.proofs.Common.{◌≡◌, ◌+◌, ℕ, suc, ◌<◌, ◌≤◌, length, [], ◌∷◌, ◌++◌, List, slice_get, get_or, Option, Some, None, refl, sym, ap, ◌∙◌, arith}
+use Rattle.std.proofs.Common.{◌+◌, length, [], ◌∷◌, slice_get, None, sym, ap, ◌∙◌, arith}
 use Rattle.std.proofs.lemmas.List.{length-append}
 use Rattle.call_forms.specs.Forms.{place_from}
-use Rattle.template_check.specs.Labels.{first_label, marked}
+use Rattle.template_check.specs.Labels.{first_label}
 use Rattle.template_check.proofs.LabelPlaces.{marking_next, marking_over, marked_as_many, only_none, no_label}
 use Rattle.template_check.proofs.labels.label_table.Goals as goal
 
@@ -24,7 +24,7 @@ pub loop-i-preserved : goal.loop-i-preserved
 loop-i-preserved c = record {
   many = ap length c.mark.ensures ∙ (marked_as_many _ _ _ ∙ c.loop-i.invariant.many);
   marking = λ b label e.
-    marking_next c.args.labels.now c.loop-i.i c.loop-i.table c.loop-i-test.true c.loop-i.invariant.marking b label (ap (λ l. slice_get l b) (sym c.mark.ensures) ∙ e);
+      marking_next c.args.labels.now c.loop-i.i c.loop-i.table c.loop-i-test.true c.loop-i.invariant.marking b label (ap (λ l. slice_get l b) (sym c.mark.ensures) ∙ e);
 }
 
 pub returns-clause-many : goal.returns-clause-many

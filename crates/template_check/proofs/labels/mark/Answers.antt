@@ -1,4 +1,4 @@
-use Rattle.std.proofs.Common.{◌≡◌, sym, ◌∙◌, arith}
+use Rattle.std.proofs.Common.{sym, ◌∙◌, arith}
 use Rattle.template_check.proofs.LabelPlaces.{marked_past, marked_now, none_there, one_there}
 use Rattle.template_check.proofs.labels.mark.Goals as goal
 

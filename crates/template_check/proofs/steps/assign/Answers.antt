@@ -1,4 +1,3 @@
-use Rattle.std.proofs.Common.{rules, ◌≡◌}
 use Rattle.template_check.proofs.Walking as walking
 use Rattle.template_check.proofs.steps.assign.Goals as goal
 

@@ -1,4 +1,4 @@
-use Rattle.std.proofs.Common.{rules, ◌≡◌, List, length, sym, ap, ◌∙◌, subst}
+use Rattle.std.proofs.Common.{length, sym, ap, ◌∙◌, subst}
 use Rattle.call_forms.specs.Bodies.{calls}
 use Rattle.template_reads.specs.Puts.{exprs_put}
 use Rattle.template_reads.specs.Read.{Reads}

@@ -1,4 +1,4 @@
-use Rattle.std.proofs.Common.{rules, ◌≡◌, List, None, length, refl, sym, ap, ◌∙◌, subst}
+use Rattle.std.proofs.Common.{None, length, refl, sym, ap, ◌∙◌, subst}
 use Rattle.call_forms.specs.Bodies.{enters}
 use Rattle.template_reads.specs.declared.scope.Scope as names
 use Rattle.template_check.specs.Walks.{BodyRead, further_blocks}

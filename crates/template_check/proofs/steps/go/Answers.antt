@@ -1,5 +1,4 @@
-use Rattle.std.proofs.Common.{rules, ◌≡◌, Some, None, Option, sym, ap, ◌∙◌}
-use Rattle.call_forms.specs.Forms.{label_of}
+use Rattle.std.proofs.Common.{sym, ap, ◌∙◌}
 use Rattle.template_check.specs.Walks.{further_blocks}
 use Rattle.template_check.proofs.Walking as walking
 use Rattle.template_reads.specs.References.{founds}

@@ -1,4 +1,4 @@
-use Rattle.std.proofs.Common.{rules, ◌≡◌, subst}
+use Rattle.std.proofs.Common.{subst}
 use Rattle.template_reads.specs.Puts.{exprs_put}
 use Rattle.template_reads.specs.Read.{Reads}
 use Rattle.template_reads.specs.Rows.{value_list}

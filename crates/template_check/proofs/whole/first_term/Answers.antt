@@ -5,7 +5,7 @@ use Rattle.template_check.proofs.WholeSigns.{row_select_signs}
 use Rattle.template_check.proofs.whole.first_term.Goals as goal
 
 pub returns : goal.returns
-returns c = 
+returns c =
     let given = as_reads (λ rest t. exprs_put (spec.arguments c.args.g.now (c.params_of.ensures t) (c.places_of.ensures t)) rest) c.arguments-at.ensures in
     as_reads (row_select_signs c.args.label _ c.args.g.now.result)
     (then_reads c.enter.ensures (then_reads c.empty-at.ensures (then_reads c.open.ensures (then_reads c.truth-at.ensures (then_reads c.behind-at.ensures

@@ -1,4 +1,4 @@
-use Rattle.std.proofs.Common.{◌≡◌, ℕ, suc, ◌+◌, decimal, [], ◌∷◌, Some, length, ap, ◌∙◌, arith}
+use Rattle.std.proofs.Common.{◌≡◌, suc, ◌+◌, decimal, [], ◌∷◌, Some, length, ap, ◌∙◌, arith}
 use Rattle.away_trees.specs.declared.queries.Expr.TheVariants as expr
 use Rattle.sql_meaning.specs.Trees.{col, table_by}
 use Rattle.template_reads.specs.Puts.{expr_put}
@@ -7,7 +7,7 @@ use Rattle.template_reads.proofs.OneByOne.{then_reads, as_reads}
 use Rattle.template_check.proofs.whole.last.Goals as goal
 
 pub returns : goal.returns
-returns c = 
+returns c =
     let n = length c.args.g.now.tail.now.columns in
     let two : length c.as_slice-columns.result.now + 2 ≡ suc (suc n) = ap (λ l. length l + 2) c.as_slice-columns.ensures ∙ (let q : n + 2 ≡ suc (suc n) = omega arith in q) in
     let three : length c.as_slice-columns.result.now + 3 ≡ suc (suc (suc n)) = ap (λ l. length l + 3) c.as_slice-columns.ensures ∙ (let q : n + 3 ≡ suc (suc (suc n)) = omega arith in q) in
