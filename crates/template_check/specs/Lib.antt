@@ -1,0 +1,3 @@
+pub mod Walks
+pub mod Labels
+pub mod Whole
