@@ -1,5 +1,5 @@
 -- A tree with names again, by its parts.
-use Rattle.std.proofs.Common.{◌≡◌, refl, ap, sym, ◌∙◌, ℕ, ℤ, Bool, List, [], ◌∷◌, map, fold, drop, Option, Some, None, option_map}
+use Rattle.std.proofs.Common.{◌≡◌, refl, ap, sym, ◌∙◌, ℕ, ℤ, Bool, List, [], ◌∷◌, map, drop, Option, Some, None, option_map}
 use Rattle.away_values.specs.declared.types.Ty.{Ty}
 use Rattle.away_trees.specs.declared.queries.Col.{Col}
 use Rattle.away_values.specs.declared.operators.ChainOp.{ChainOp}
@@ -16,11 +16,10 @@ use Rattle.away_trees.specs.declared.queries.Recursive.{Recursive}
 use Rattle.away_trees.specs.declared.queries.Query.{Query}
 use Rattle.away_trees.specs.declared.queries.Expr.TheViews.{out-Item, out-FromItem, out-Key, out-Select, out-Recursive, out-Query, roll-Key, roll-Recursive}
 use Rattle.away_trees.specs.declared.queries.Expr.TheViews as view
-use Rattle.away_trees.specs.Algebra.{expr_of, item_of, key_of, from_of, select_of, query_of, recursive_of}
+use Rattle.away_trees.specs.Algebra.{expr_of, item_of, key_of, from_of, select_of, recursive_of}
 use Rattle.away_trees.proofs.Equations as e
 use Rattle.away_names.specs.Lookups.{Name, Level}
 use Rattle.away_names.specs.Naming.{plain_names, before, shaped, of_query}
-use Rattle.away_names.specs.declared.note.Shown.{Shown}
 use Rattle.away_names.proofs.NamingRules.{fold_map, map_map}
 use Rattle.dotted_names.specs.Sight.{Sight, spoken}
 use Rattle.dotted_names.specs.Dotting as d

@@ -16,11 +16,7 @@ use sqlite_items::{Boxed, Items};
 use std::alloc::Global;
 
 /// An item of a list.
-pub(crate) fn entry_of(
-    alloc: Global,
-    alias: &Option<Name>,
-    e: Expr,
-) -> Result<Column, NoMemory>
+pub(crate) fn entry_of(alloc: Global, alias: &Option<Name>, e: Expr) -> Result<Column, NoMemory>
     ensures { IfOk result (λ c. c ≡ spec.entry_of alias.now e) }
 {
     let name = column_name(alloc, alias, &e)?;

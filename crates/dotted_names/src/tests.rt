@@ -45,12 +45,7 @@ fn item(expr: Expr) -> Item {
     Item { expr, alias: None }
 }
 
-fn table(
-    rt: &(impl Abort + AllocGlobal),
-    name: &str,
-    alias: &str,
-    columns: &[&str],
-) -> FromItem {
+fn table(rt: &(impl Abort + AllocGlobal), name: &str, alias: &str, columns: &[&str]) -> FromItem {
     FromItem {
         source: Source::Table(named(rt, name)),
         alias: named(rt, alias),
@@ -158,10 +153,12 @@ fn a_column_has_the_alias_of_its_item(rt: HostRuntime) {
 fn a_table_keeps_its_name_alone(rt: HostRuntime) {
     let q = dotted(&rt, &over_t(&rt, column(0, 0, 1)));
     let f = &q.selects.as_slice()[0].from.as_slice()[0];
-    assert!(rt; match &f.source {
-        Source::Table(n) => n.text() == "t",
-        Source::Sub(_, _) => false,
-    });
+    assert!(rt;
+        match &f.source {
+            Source::Table(n) => n.text() == "t",
+            Source::Sub(_, _) => false,
+        }
+    );
     assert_eq!(rt; f.alias.text(), "a");
     assert_eq!(rt; f.columns.len(), 0);
 }
