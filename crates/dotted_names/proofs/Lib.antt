@@ -1,2 +1,5 @@
 pub mod DottingRules
 pub mod FirstNames
+pub mod Gives
+pub mod BackExpressions
+pub mod BackQueries

@@ -2,3 +2,4 @@ pub mod Sight
 pub mod Dotting
 pub mod Trees
 pub mod Examples
+pub mod Unambiguous
