@@ -16,7 +16,7 @@ next s a x = record { it = a.it ++ (dotted_select x s).it ∷ []; names = first_
 abbrev behind : Shown (List Select) → List (Shown Select) → Shown (List Select)
 behind a xs = record { it = a.it ++ map (λ x. x.it) xs; names = first_names a.it a.names (first_of xs) }
 
-first_stay : (xs : List Select) (x : Select) (names more : List (Option Name)) → first_names (xs ++ x ∷ []) names more ≡ names
+pub first_stay : (xs : List Select) (x : Select) (names more : List (Option Name)) → first_names (xs ++ x ∷ []) names more ≡ names
 unfolding first_names
 first_stay [] x names more = refl
 first_stay (y ∷ ys) x names more = refl

@@ -3,3 +3,4 @@ pub mod FirstNames
 pub mod Gives
 pub mod BackExpressions
 pub mod BackQueries
+pub mod BackSelects
