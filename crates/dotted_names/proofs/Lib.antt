@@ -4,3 +4,5 @@ pub mod Gives
 pub mod BackExpressions
 pub mod BackQueries
 pub mod BackSelects
+pub mod ClearBack
+pub mod FilesBack

@@ -13,11 +13,15 @@ use Rattle.away_trees.specs.declared.queries.FromItem.{FromItem}
 use Rattle.away_trees.specs.declared.queries.Item.{Item}
 use Rattle.away_trees.specs.declared.queries.Key.{Key}
 use Rattle.away_trees.specs.declared.queries.Select.{Select}
+use Rattle.away_trees.specs.declared.queries.Recursive.{Recursive}
 use Rattle.away_trees.specs.declared.queries.Query.{Query}
-use Rattle.away_trees.specs.declared.queries.Expr.TheViews.{out-FromItem, roll-Item, roll-FromItem, roll-Key, roll-Select, roll-Query}
+use Rattle.away_trees.specs.declared.schemas.Schema.{Schema}
+use Rattle.away_trees.specs.declared.queries.Expr.TheViews.{out-FromItem, out-Recursive, out-Query, roll-Item, roll-FromItem, roll-Key, roll-Select, roll-Query}
 use Rattle.away_names.specs.Functions.{function}
 use Rattle.away_names.specs.Lookups.{Name, Level, Scope, inside, column_dotted, has_double}
 use Rattle.away_names.specs.Naming.{before}
+use Rattle.away_names.specs.Tables.{outermost}
+use Rattle.away_names.specs.Files.{with_working}
 use Rattle.dotted_names.specs.Sight.{spoken}
 use Rattle.dotted_names.specs.Trees.{dotted_part, dotted_from}
 
@@ -106,3 +110,13 @@ pub data IsClear : (n : Sort) → Scope → Tree n → Type 0 where
   no_select : {s : Scope} → IsClear selects s []
   one_select : {s : Scope} {x : Select} {xs : List Select} → IsClear select s x → IsClear selects s xs → IsClear selects s (x ∷ xs)
   union : {s : Scope} {xs : List Select} → IsClear selects s xs → IsClear query s (roll-Query (record { recursive = None; selects = xs }))
+
+-- a whole query under a schema: its terms and it see the recursive table
+abbrev pub AreClear : Schema → Option Recursive → List Select → Type 0
+AreClear schema None xs = IsClear selects (outermost schema) xs
+AreClear schema (Some r) xs =
+    let s : Scope = with_working schema r in
+    (has_double (out-Recursive r).columns ≡ false) × IsClear selects s (out-Recursive r).first × IsClear select s (out-Recursive r).second × IsClear selects s xs
+
+abbrev pub IsClearFile : Schema → Query → Type 0
+IsClearFile schema q = AreClear schema (out-Query q).recursive (out-Query q).selects

@@ -1,16 +1,14 @@
 //! Queries whose columns stand by their places, with names again.
 #![tactic(auto)]
 
-mod back;
 mod dotting;
 mod dotting_queries;
 mod laws;
 mod parts;
 pub mod sight;
 
-pub use back::scratch;
 pub use dotting_queries::dotted_query;
-pub use laws::worked_queries_have_names;
+pub use laws::{what_is_named_again_is_read_as_it_was, worked_queries_have_names};
 
 #[cfg(test)]
 mod tests;

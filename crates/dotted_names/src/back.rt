@@ -1,7 +1,0 @@
-//! What has names again is read as it was.
-
-ghost use Rattle.std.specs.Prelude.{◌≡◌, ℕ};
-
-pub fn scratch()
-    ensures { (n : ℕ) → n ≡ n }
-{}
