@@ -49,7 +49,7 @@ item_back s x alias h k =
     let i : Item = roll-Item (record { expr = x; alias = alias }) in
     let is : dotted_item i s.levels ≡ dot.entry_of alias w = d.item_rule i s.levels in
     let read : named_item (dotted_item i s.levels).it s ≡ also (n.maybe_written s alias) (mapped (n.item_of alias (last_of w)) (named_expr w s)) =
-        ap (λ (c : Column). named_item c.it s) is ∙ r.item_rule (roll-Item (record { expr = w; alias = alias })) s in
+    ap (λ (c : Column). named_item c.it s) is ∙ r.item_rule (roll-Item (record { expr = w; alias = alias })) s in
     record {
       it = ap (λ (c : Named Column). c.it.it) read ∙ ap (λ (e : Expr). roll-Item (record { expr = e; alias = alias })) k.gives.0;
       name = ap (λ (c : Named Column). c.it.name) read ∙ (ap (λ (e : Expr). n.named_as alias e (last_of w)) k.gives.0 ∙ (own_as alias x w k.called ∙ ap (λ (c : Column). c.name) (sym is)));
@@ -225,7 +225,7 @@ one_from_back s level f fs one more = record {
       let q : Named Part = named_part p.item s level in
       let rest : List Part = parts s.levels (level ++ p.seen ∷ []) fs in
       let next : n.with_part (framed_so items level note) q ≡ framed_so (items ++ f ∷ []) (level ++ p.seen ∷ []) (joined note q.note) =
-          λ i. framed_so (items ++ one.item i ∷ []) (level ++ one.seen i ∷ []) (joined note q.note) in
+      λ i. framed_so (items ++ one.item i ∷ []) (level ++ one.seen i ∷ []) (joined note q.note) in
       let all = more.reads (items ++ f ∷ []) (joined note q.note) (both_quiet note q.note h one.quiet) in
       let same = ap (λ (a : Named Framed). fold (λ a f. n.with_part a (named_part f s a.it.seen)) a (all_items rest)) next in
       record {

@@ -73,7 +73,7 @@ select_back s list from filter limit order differ f l w o m =
     let is : ReadsFrom found from fr.seen = from_read s from f in
     let over : named_over y (inside found.it.seen s) found.it.items ≡ named_over y here from = λ i. named_over y (inside (is.seen_is i) s) (is.items_are i) in
     let read : named_select (dotted_select (roll-Select x) s.levels).it s ≡ also head (named_over y here from) =
-        ap (λ (z : Shown Select). named_select z.it s) (dotted_fields x s.levels) ∙ (named_fields y s ∙ ap (also head) over) in
+    ap (λ (z : Shown Select). named_select z.it s) (dotted_fields x s.levels) ∙ (named_fields y s ∙ ap (also head) over) in
     let is_list = items_back here list l in
     let is_filter = maybe_back here filter w in
     let is_order = keys_back here (map (λ i. (out-Item i).alias) y.list) order o in
@@ -123,10 +123,11 @@ query_back s xs e =
     let found : Named (Shown (List Select)) = named_selects s ys.it in
     let is = selects_back s xs e in
     let dotted : dotted_shown q s.levels ≡ record { it = w; names = ys.names } =
-        d.query_rule q s.levels ∙ ap (λ (x : QueryFields). dot.query_of (option_map (λ r. dotted_recursive r s.levels) x.recursive) (dotted_selects s.levels x.selects)) (out-roll-Query (record { recursive = None; selects = xs })) in
+    d.query_rule q s.levels ∙ ap (λ (x : QueryFields). dot.query_of (option_map (λ r. dotted_recursive r s.levels) x.recursive) (dotted_selects s.levels x.selects)) (out-roll-Query (record { recursive = None; selects = xs })) in
     let read : named_query (dotted_shown q s.levels).it s ≡ also (breaks 13 false) (mapped n.query_with found) =
-        ap (λ (x : Shown Query). named_query x.it s) dotted
-        ∙ (r.query_rule w s ∙ ap (λ (x : QueryFields). also (breaks 13 (is_some x.recursive)) (mapped n.query_with (named_selects s x.selects))) (out-roll-Query (record { recursive = None; selects = ys.it }))) in
-    (ap (λ (z : Named (Shown Query)). z.it.it) read ∙ ap (λ xs. roll-Query (record { recursive = None; selects = xs })) is.it,
+    ap (λ (x : Shown Query). named_query x.it s) dotted
+    ∙ (r.query_rule w s ∙ ap (λ (x : QueryFields). also (breaks 13 (is_some x.recursive)) (mapped n.query_with (named_selects s x.selects))) (out-roll-Query (record { recursive = None; selects = ys.it }))) in (
+      ap (λ (z : Named (Shown Query)). z.it.it) read ∙ ap (λ xs. roll-Query (record { recursive = None; selects = xs })) is.it,
       ap (λ (z : Named (Shown Query)). z.it.names) read ∙ (is.names_are ∙ ap (λ (x : Shown Query). x.names) (sym dotted)),
-      ap (λ (z : Named (Shown Query)). z.note.least) read ∙ both_quiet (breaks 13 false) found.note (unbroken 13) is.quiet)
+      ap (λ (z : Named (Shown Query)). z.note.least) read ∙ both_quiet (breaks 13 false) found.note (unbroken 13) is.quiet,
+    )

@@ -84,6 +84,6 @@ file_back schema q k =
     let x : QueryFields = out-Query q in
     let w : QueryFields = record { recursive = option_map (λ r. dotted_recursive r []) x.recursive; selects = (dotted_selects [] x.selects).it } in
     let is : file schema (dotted q) ≡ file_of schema w.recursive w.selects =
-        ap (λ (y : Shown Query). file_of schema (out-Query y.it).recursive (out-Query y.it).selects) (d.query_rule q []) ∙ ap (λ (y : QueryFields). file_of schema y.recursive y.selects) (out-roll-Query w) in
+    ap (λ (y : Shown Query). file_of schema (out-Query y.it).recursive (out-Query y.it).selects) (d.query_rule q []) ∙ ap (λ (y : QueryFields). file_of schema y.recursive y.selects) (out-roll-Query w) in
     let read = terms_back schema x.recursive x.selects k in
     record { query = ap (λ (f : File). f.query) is ∙ (read.query ∙ roll-out-Query q); quiet = ap (λ (f : File). f.note.least) is ∙ read.quiet }
