@@ -6,3 +6,4 @@ pub mod BackQueries
 pub mod BackSelects
 pub mod ClearBack
 pub mod FilesBack
+pub mod ReadColumns
