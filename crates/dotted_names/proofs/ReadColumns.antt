@@ -83,6 +83,7 @@ dotted_held a n depth i (o ∷ os) hit e = by (dotted_held a n depth (i + 1) os 
   where
     later : HoldsAs a n depth (i + 1) os hit → HoldsAs a n depth i (o ∷ os) hit
     later r = record { held = later_held n depth i o os hit r.held; alias = r.alias; many = r.many }
+
     by : (in_item a n depth (i + 1) os ≡ Some hit → HoldsAs a n depth (i + 1) os hit) → (b : Bool) → bytes_eq o.alias a ≡ b → (p : Option ℕ) → place_of n o.columns ≡ p
         → or_else (if b then option_map (hit_at depth i false) p else None) (in_item a n depth (i + 1) os) ≡ Some hit → HoldsAs a n depth i (o ∷ os) hit
     by more true same (Some c) is e =
@@ -167,10 +168,12 @@ pub dotted_read : (a n : Name) (levels : Sight) (hit : Hit) → column_dotted a 
 unfolding column_dotted
 dotted_read a n levels hit e =
     let r = near (by_alias a n) 0 levels hit e in
-    let h = dotted_held a n (0 + r.d) 0 r.level hit r.hits in
-    (ap (spoken levels) (h.held.column ∙ (λ i. record { level = from_zero r.d i; item = from_zero h.held.j i; column = h.held.place }))
-    ∙ (spoken_so levels r.level h.held.item n r.d h.held.j h.held.place r.there h.held.there (name_there n h.held.item.columns h.held.place h.held.named)
-    ∙ ap (λ a. expr.Dotted a n) h.alias), h.many)
+    let h = dotted_held a n (0 + r.d) 0 r.level hit r.hits in (
+      ap (spoken levels) (h.held.column ∙ (λ i. record { level = from_zero r.d i; item = from_zero h.held.j i; column = h.held.place }))
+          ∙ (spoken_so levels r.level h.held.item n r.d h.held.j h.held.place r.there h.held.there (name_there n h.held.item.columns h.held.place h.held.named)
+          ∙ ap (λ a. expr.Dotted a n) h.alias),
+      h.many,
+    )
 
 pub record IsRead (n : Name) (levels : Sight) (c : Col) : Type 0 where
   pub alias : Name

@@ -71,7 +71,8 @@ pub data IsClear : (n : Sort) → Scope → Tree n → Type 0 where
   is : {s : Scope} {x : Expr} (t : IsTest) (v : Bool) → IsClear value s x → IsClear value s (expr.Is x t v)
   chain : {s : Scope} {x : Expr} {ls : List (ChainOp × Expr)} → IsClear value s x → IsClear links s ls → IsClear value s (expr.Chain x ls)
   compare : {s : Scope} {x y : Expr} (op : CmpOp) → IsClear value s x → IsClear value s y → IsClear value s (expr.Compare op x y)
-  between : {s : Scope} {x y z : Expr} (v : Bool) → IsClear value s x → IsClear value s y → IsClear value s z → IsClear value s (expr.Between v x y z)
+  between : {s : Scope} {x y z : Expr} (v : Bool) → IsClear value s x → IsClear value s y → IsClear value s z
+      → IsClear value s (expr.Between v x y z)
   one_of : {s : Scope} {x : Expr} {es : List Expr} (v : Bool) → IsClear value s x → IsClear values s es → IsClear value s (expr.OneOf v x es)
   cast : {s : Scope} {x : Expr} (t : Ty) → IsClear value s x → IsClear value s (expr.Cast x t)
   cases : {s : Scope} {as_ : List (Expr × Expr)} {o : Option Expr} → IsClear arms s as_ → IsClear maybe s o → IsClear value s (expr.Cases as_ o)
@@ -84,7 +85,8 @@ pub data IsClear : (n : Sort) → Scope → Tree n → Type 0 where
   no_link : {s : Scope} → IsClear links s []
   one_link : {s : Scope} {x : Expr} {ls : List (ChainOp × Expr)} (op : ChainOp) → IsClear value s x → IsClear links s ls → IsClear links s ((op, x) ∷ ls)
   no_arm : {s : Scope} → IsClear arms s []
-  one_arm : {s : Scope} {x y : Expr} {as_ : List (Expr × Expr)} → IsClear value s x → IsClear value s y → IsClear arms s as_ → IsClear arms s ((x, y) ∷ as_)
+  one_arm : {s : Scope} {x y : Expr} {as_ : List (Expr × Expr)}
+      → IsClear value s x → IsClear value s y → IsClear arms s as_ → IsClear arms s ((x, y) ∷ as_)
   nothing : {s : Scope} → IsClear maybe s None
   something : {s : Scope} {x : Expr} → IsClear value s x → IsClear maybe s (Some x)
   no_item : {s : Scope} → IsClear items s []
@@ -94,18 +96,24 @@ pub data IsClear : (n : Sort) → Scope → Tree n → Type 0 where
   one_key : {s : Scope} {x : Expr} {ks : List Key} (descending : Bool) → IsClear value s x → IsClear keys s ks
       → IsClear keys s (roll-Key (record { expr = x; descending = descending }) ∷ ks)
   -- a table's item lists the digits of its place and its columns
-  table : {s : Scope} {level : Level} (name alias : Name) (columns : List Name) (recursive : Bool) → s.table name ≡ Some (record { written = columns; recursive = recursive })
+  table : {s : Scope} {level : Level} (name alias : Name) (columns : List Name) (recursive : Bool)
+      → s.table name ≡ Some (record { written = columns; recursive = recursive })
       → IsClear (from_item level) s (roll-FromItem (record { source = source.Table name; alias = alias; columns = columns }))
   -- a subquery sees the items before it where it's LATERAL
-  subquery : {s : Scope} {level : Level} {q : Query} (alias : Name) (columns : List Name) (lateral : Bool) → has_double columns ≡ false → IsClear query (inside (before lateral level) s) q
+  subquery : {s : Scope} {level : Level} {q : Query} (alias : Name) (columns : List Name) (lateral : Bool) → has_double columns ≡ false
+      → IsClear query (inside (before lateral level) s) q
       → IsClear (from_item level) s (roll-FromItem (record { source = source.Sub q lateral; alias = alias; columns = columns }))
   no_from : {s : Scope} {level : Level} → IsClear (from_items level) s []
   one_from : {s : Scope} {level : Level} {f : FromItem} {fs : List FromItem} → IsClear (from_item level) s f
       → IsClear (from_items (level ++ (dotted_part f s.levels level).seen ∷ [])) s fs → IsClear (from_items level) s (f ∷ fs)
   -- the parts of a select see the items of its FROM
-  whole : {s : Scope} {list : List Item} {from : List FromItem} {filter limit : Option Expr} {order : List Key} → has_double (map (λ f. (out-FromItem f).alias) from) ≡ false
-      → IsClear (from_items []) s from → IsClear items (inside (dotted_from s.levels from).seen s) list → IsClear maybe (inside (dotted_from s.levels from).seen s) filter
-      → IsClear keys (inside (dotted_from s.levels from).seen s) order → IsClear maybe (inside (dotted_from s.levels from).seen s) limit
+  whole : {s : Scope} {list : List Item} {from : List FromItem} {filter limit : Option Expr} {order : List Key}
+      → has_double (map (λ f. (out-FromItem f).alias) from) ≡ false
+      → IsClear (from_items []) s from
+      → IsClear items (inside (dotted_from s.levels from).seen s) list
+      → IsClear maybe (inside (dotted_from s.levels from).seen s) filter
+      → IsClear keys (inside (dotted_from s.levels from).seen s) order
+      → IsClear maybe (inside (dotted_from s.levels from).seen s) limit
       → IsClear select s (roll-Select (record { list = list; from = from; filter = filter; order = order; limit = limit }))
   no_select : {s : Scope} → IsClear selects s []
   one_select : {s : Scope} {x : Select} {xs : List Select} → IsClear select s x → IsClear selects s xs → IsClear selects s (x ∷ xs)
@@ -116,7 +124,8 @@ abbrev pub AreClear : Schema → Option Recursive → List Select → Type 0
 AreClear schema None xs = IsClear selects (outermost schema) xs
 AreClear schema (Some r) xs =
     let s : Scope = with_working schema r in
-    (has_double (out-Recursive r).columns ≡ false) × IsClear selects s (out-Recursive r).first × IsClear select s (out-Recursive r).second × IsClear selects s xs
+    (has_double (out-Recursive r).columns ≡ false) × IsClear selects s (out-Recursive r).first
+    × IsClear select s (out-Recursive r).second × IsClear selects s xs
 
 abbrev pub IsClearFile : Schema → Query → Type 0
 IsClearFile schema q = AreClear schema (out-Query q).recursive (out-Query q).selects

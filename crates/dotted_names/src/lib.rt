@@ -8,7 +8,10 @@ mod parts;
 pub mod sight;
 
 pub use dotting_queries::dotted_query;
-pub use laws::{what_is_named_again_is_read_as_it_was, worked_queries_have_names};
+pub use laws::{
+    what_is_found_is_found_by_its_alias, what_is_named_again_is_read_as_it_was,
+    worked_queries_have_names,
+};
 
 #[cfg(test)]
 mod tests;

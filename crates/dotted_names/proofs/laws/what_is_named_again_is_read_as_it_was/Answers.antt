@@ -1,4 +1,3 @@
-use Rattle.dotted_names.proofs.ReadColumns.{named_read}
 use Rattle.dotted_names.proofs.FilesBack.{file_back}
 use Rattle.dotted_names.proofs.laws.what_is_named_again_is_read_as_it_was.Goals as goal
 
