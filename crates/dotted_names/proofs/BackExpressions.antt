@@ -15,14 +15,14 @@ use Rattle.away_names.specs.declared.scope.Hit.{Hit}
 use Rattle.away_names.specs.Functions.{function}
 use Rattle.away_names.specs.Lookups.{Name, Scope, column_dotted}
 use Rattle.away_names.specs.Naming as n
-use Rattle.away_names.specs.Notes.{pure, noted, joined, breaks, mapped, also, paired, each, held}
+use Rattle.away_names.specs.Notes.{joined, breaks, mapped, also, each, held}
 use Rattle.away_names.specs.Trees.{named_expr, named_query, last_of, alone_of}
 use Rattle.away_names.specs.NamingLists.{named_in, named_link, named_arm}
 use Rattle.away_names.proofs.NamingRules as r
 use Rattle.dotted_names.specs.Sight.{spoken, own_name}
 use Rattle.dotted_names.specs.Trees.{dotted_expr, dotted_shown, dotted_in, dotted_link, dotted_arm}
 use Rattle.dotted_names.proofs.DottingRules as d
-use Rattle.dotted_names.proofs.Gives.{Gives, Every, EveryOption, clean_quiet, both_quiet, unbroken, written_quiet, same_gives, pure_gives, mapped_gives, also_gives, paired_gives, each_gives, held_gives}
+use Rattle.dotted_names.proofs.Gives.{Gives, Every, EveryOption, both_quiet, unbroken, written_quiet, same_gives, pure_gives, mapped_gives, also_gives, paired_gives, each_gives, held_gives}
 
 -- The written expression stands for the other; a column's own name is that of the written one; and no name stands alone.
 pub record Spells (s : Scope) (w e : Expr) : Type 0 where

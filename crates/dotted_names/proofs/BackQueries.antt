@@ -1,14 +1,13 @@
 -- Lists of items, FROM, selects and queries that are read back, by their parts.
-use Rattle.std.proofs.Common.{◌≡◌, refl, ap, sym, subst, ◌∙◌, ℕ, Bool, true, false, List, [], ◌∷◌, ◌++◌, map, fold, drop, Option, Some, None, option_map}
+use Rattle.std.proofs.Common.{◌≡◌, refl, ap, sym, ◌∙◌, Bool, false, List, [], ◌∷◌, ◌++◌, map, fold, drop, Option, Some, None}
 use Rattle.std.proofs.lemmas.List.{append_assoc, append-nil}
 use Rattle.away_trees.specs.declared.queries.Expr.{Expr}
 use Rattle.away_trees.specs.declared.queries.Source.TheVariants as source
 use Rattle.away_trees.specs.declared.queries.FromItem.{FromItem}
 use Rattle.away_trees.specs.declared.queries.Item.{Item}
 use Rattle.away_trees.specs.declared.queries.Key.{Key}
-use Rattle.away_trees.specs.declared.queries.Select.{Select}
 use Rattle.away_trees.specs.declared.queries.Query.{Query}
-use Rattle.away_trees.specs.declared.queries.Expr.TheViews.{out-Item, out-FromItem, out-Key, roll-Item, roll-FromItem, roll-Key}
+use Rattle.away_trees.specs.declared.queries.Expr.TheViews.{out-FromItem, roll-Item, roll-FromItem, roll-Key}
 use Rattle.away_names.specs.declared.note.Note.{Note}
 use Rattle.away_names.specs.declared.note.Named.{Named}
 use Rattle.away_names.specs.declared.note.Shown.{Shown}
@@ -17,16 +16,15 @@ use Rattle.away_names.specs.declared.note.Framed.{Framed}
 use Rattle.away_names.specs.declared.note.Part.{Part}
 use Rattle.away_names.specs.declared.note.Origin.{Origin}
 use Rattle.away_names.specs.declared.scope.Listed.{Listed}
-use Rattle.away_names.specs.declared.scope.Seen.{Seen}
 use Rattle.away_names.specs.Lookups.{Name, Level, Scope, inside, has_double}
 use Rattle.away_names.specs.Naming as n
-use Rattle.away_names.specs.Notes.{clean, pure, joined, breaks, mapped, also, each}
-use Rattle.away_names.specs.Trees.{named_expr, named_item, named_key, named_source, named_part, named_select, named_query, last_of, alone_of}
-use Rattle.away_names.specs.NamingLists.{named_items, named_key_in, named_from}
+use Rattle.away_names.specs.Notes.{joined, breaks, mapped, also, each}
+use Rattle.away_names.specs.Trees.{named_expr, named_item, named_key, named_part, named_query, last_of, alone_of}
+use Rattle.away_names.specs.NamingLists.{named_items, named_key_in}
 use Rattle.away_names.proofs.NamingRules as r
 use Rattle.dotted_names.specs.Sight.{Sight, column_name, own_name}
 use Rattle.dotted_names.specs.Dotting as dot
-use Rattle.dotted_names.specs.Trees.{dotted_expr, dotted_item, dotted_key, dotted_source, dotted_part, dotted_shown, dotted_items, dotted_keys, dotted_from}
+use Rattle.dotted_names.specs.Trees.{dotted_expr, dotted_item, dotted_key, dotted_part, dotted_shown, dotted_items, dotted_keys, dotted_from}
 use Rattle.dotted_names.proofs.DottingRules as d
 use Rattle.dotted_names.proofs.Gives.{IsQuiet, Gives, Every, clean_quiet, both_quiet, unbroken, written_quiet, all_quiet, maybe_quiet, same_gives, mapped_gives, also_gives, each_gives}
 use Rattle.dotted_names.proofs.BackExpressions.{Back, BackQuery}

@@ -1,5 +1,5 @@
 -- Selects and queries that are read back, by their parts.
-use Rattle.std.proofs.Common.{◌≡◌, refl, ap, sym, subst, ◌∙◌, ℕ, Bool, true, false, List, [], ◌∷◌, ◌++◌, map, fold, Option, Some, None, option_map}
+use Rattle.std.proofs.Common.{◌≡◌, refl, ap, sym, subst, ◌∙◌, false, List, [], ◌∷◌, ◌++◌, map, fold, Option, None, option_map}
 use Rattle.std.specs.Prelude.{is_some}
 use Rattle.std.proofs.lemmas.List.{append_assoc, append-nil}
 use Rattle.away_trees.specs.declared.queries.Expr.{Expr}
@@ -16,20 +16,20 @@ use Rattle.away_names.specs.declared.note.Note.{Note}
 use Rattle.away_names.specs.declared.note.Named.{Named}
 use Rattle.away_names.specs.declared.note.Shown.{Shown}
 use Rattle.away_names.specs.declared.note.Framed.{Framed}
-use Rattle.away_names.specs.Lookups.{Name, Level, Scope, inside, has_double}
+use Rattle.away_names.specs.Lookups.{Name, Scope, inside, has_double}
 use Rattle.away_names.specs.Naming as n
-use Rattle.away_names.specs.Notes.{clean, joined, breaks, mapped, also, each, held}
+use Rattle.away_names.specs.Notes.{clean, joined, breaks, mapped, also}
 use Rattle.away_names.specs.Trees.{named_select, named_query}
-use Rattle.away_names.specs.NamingLists.{named_in, named_key_in, named_items, named_selects, named_from, named_over}
+use Rattle.away_names.specs.NamingLists.{named_selects, named_from, named_over}
 use Rattle.away_names.proofs.NamingRules as r
 use Rattle.dotted_names.specs.Sight.{Sight}
 use Rattle.dotted_names.specs.Dotting as dot
 use Rattle.dotted_names.specs.Trees.{dotted_in, dotted_items, dotted_keys, dotted_select, dotted_selects, dotted_from, dotted_over, dotted_shown, dotted_recursive}
 use Rattle.dotted_names.proofs.DottingRules as d
 use Rattle.dotted_names.proofs.FirstNames.{first_stay}
-use Rattle.dotted_names.proofs.Gives.{IsQuiet, Gives, Every, EveryOption, clean_quiet, both_quiet, unbroken}
+use Rattle.dotted_names.proofs.Gives.{IsQuiet, Every, EveryOption, clean_quiet, both_quiet, unbroken}
 use Rattle.dotted_names.proofs.BackExpressions.{Back, BackQuery, maybe_back}
-use Rattle.dotted_names.proofs.BackQueries.{BackItem, BackKey, BackFrom, ReadsFrom, ReadsItems, parts, all_items, all_seen, from_is, items_back, keys_back}
+use Rattle.dotted_names.proofs.BackQueries.{BackItem, BackKey, BackFrom, ReadsFrom, from_is, items_back, keys_back}
 
 abbrev Fields : Type 0
 Fields = Select-F Expr Source FromItem Item Key Query Recursive Select

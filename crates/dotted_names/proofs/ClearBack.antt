@@ -1,5 +1,5 @@
 -- Where names are unambiguous, a tree with names again is read back as it was.
-use Rattle.std.proofs.Common.{◌≡◌, ℕ, false, List, [], ◌∷◌, Option, Some, None}
+use Rattle.std.proofs.Common.{◌≡◌, false}
 use Rattle.away_names.specs.Lookups.{Scope}
 use Rattle.dotted_names.specs.Unambiguous as c
 use Rattle.dotted_names.specs.Unambiguous.{Sort, value, values, links, arms, maybe, items, keys, from_item, from_items, select, selects, query, Tree, IsClear}

@@ -1,5 +1,5 @@
 -- Whole queries in which names are unambiguous are read back as they were.
-use Rattle.std.proofs.Common.{◌≡◌, refl, ap, sym, ◌∙◌, ℕ, true, false, List, [], ◌∷◌, length, Option, Some, None, option_map}
+use Rattle.std.proofs.Common.{◌≡◌, refl, ap, ◌∙◌, true, List, [], ◌∷◌, length, Option, Some, None, option_map}
 use Rattle.std.specs.Prelude.{decimal}
 use Rattle.away_trees.specs.declared.queries.Expr.{Expr}
 use Rattle.away_trees.specs.declared.queries.Source.{Source}
@@ -13,20 +13,18 @@ use Rattle.away_trees.specs.declared.queries.Expr.TheOpen.{Recursive-F, Query-F}
 use Rattle.away_trees.specs.declared.queries.Expr.TheViews.{out-Recursive, out-Query, roll-Recursive, roll-Query, out-roll-Recursive, out-roll-Query, roll-out-Recursive, roll-out-Query}
 use Rattle.away_trees.specs.declared.schemas.Schema.{Schema}
 use Rattle.away_names.specs.declared.note.File.{File}
-use Rattle.away_names.specs.declared.note.Named.{Named}
 use Rattle.away_names.specs.declared.note.Shown.{Shown}
 use Rattle.away_names.specs.Files.{with_working, file_of, file}
 use Rattle.away_names.specs.Lookups.{Scope, table_before, has_double}
 use Rattle.away_names.specs.NamingLists.{named_selects}
-use Rattle.away_names.specs.Notes.{clean, joined, breaks}
+use Rattle.away_names.specs.Notes.{joined, breaks}
 use Rattle.away_names.specs.Tables.{table_of, outermost}
 use Rattle.away_names.specs.Trees.{named_select}
-use Rattle.dotted_names.specs.Dotting as dot
-use Rattle.dotted_names.specs.Trees.{dotted, dotted_recursive, dotted_select, dotted_selects, dotted_shown}
+use Rattle.dotted_names.specs.Trees.{dotted, dotted_recursive, dotted_select, dotted_selects}
 use Rattle.dotted_names.specs.Unambiguous.{AreClear, IsClearFile}
 use Rattle.dotted_names.proofs.DottingRules as d
 use Rattle.dotted_names.proofs.Gives.{IsQuiet, both_quiet, unbroken}
-use Rattle.dotted_names.proofs.BackSelects.{ReadsSelects, selects_back}
+use Rattle.dotted_names.proofs.BackSelects.{selects_back}
 use Rattle.dotted_names.proofs.ClearBack.{back}
 
 abbrev Fields : Type 0
