@@ -1,0 +1,5 @@
+pub mod Sight
+pub mod Dotting
+pub mod Trees
+pub mod Examples
+pub mod Unambiguous
