@@ -1,0 +1,5 @@
+pub mod Draws
+pub mod Parts
+pub mod Texts
+pub mod Valid
+pub mod Worked

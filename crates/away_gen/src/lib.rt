@@ -1,0 +1,10 @@
+//! Cases made from a number: a schema of one table, a function over it, the table's file, and two arguments.
+#![tactic(auto)]
+
+mod case;
+mod draws;
+mod judging;
+mod parts;
+mod texts;
+
+pub use case::{DemoCase, make_case};
