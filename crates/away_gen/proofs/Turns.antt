@@ -1,5 +1,5 @@
 -- Things that are drawn in turn, when some are drawn and others are left.
-use Rattle.std.proofs.Common.{◌≡◌, ℕ, ◌+◌, ◌-◌, ◌*◌, ◌<◌, List, ◌∷◌, ◌++◌, arith, refl, append_assoc, suc}
+use Rattle.std.proofs.Common.{◌≡◌, ℕ, ◌+◌, ◌-◌, ◌*◌, ◌<◌, List, ◌∷◌, ◌++◌, arith, refl, append_assoc, suc, []}
 use Rattle.away_gen.specs.Draws.{after, in_turn}
 
 -- the first of those that are left is drawn

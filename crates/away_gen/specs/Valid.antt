@@ -1,8 +1,9 @@
 -- What a case is that runs: its texts read and break no rule, its table fits, and its arguments have the types of the parameters.
-use Rattle.std.specs.Prelude.{◌≡◌, ℕ, List, [], ◌∷◌, Ok}
+use Rattle.std.specs.Prelude.{◌≡◌, ℕ, List, [], ◌∷◌, Ok, map}
 use Rattle.std.specs.List.{AllZip}
 use Rattle.away_values.specs.Values.{HasType}
 use Rattle.away_values.specs.declared.types.Ty.{Ty}
+use Rattle.away_values.specs.declared.types.Ty.TheVariants.{Bigint}
 use Rattle.away_values.specs.declared.values.Value.{Value}
 use Rattle.away_trees.specs.declared.schemas.Schema.{Schema}
 use Rattle.away_trees.specs.declared.schemas.TableSchema.{TableSchema}
@@ -39,9 +40,15 @@ pub record IsTableFile (schema : Schema) (bytes : List ℕ) (rows : List (List V
   pub holds : rows_in table bytes ≡ Ok rows
   pub fits : FitsTable table rows
 
--- A value for each parameter, of its type.
-abbrev pub AreArguments : List (List ℕ × Ty) → List Value → Type 0
-AreArguments params args = AllZip (λ (p : List ℕ × Ty) v. HasType v p.1) params args
+-- A value for each type, of that type.
+abbrev pub HaveTypes : List Ty → List Value → Type 0
+HaveTypes types values = AllZip (λ t v. HasType v t) types values
+
+abbrev pub two_bigints : List Ty
+two_bigints = Bigint ∷ Bigint ∷ []
+
+abbrev pub types_of : List (List ℕ × Ty) → List Ty
+types_of params = map (λ (p : List ℕ × Ty). p.1) params
 
 pub record IsValid (case : DemoCase) : Type 0 where
   pub schema : Schema
@@ -50,4 +57,4 @@ pub record IsValid (case : DemoCase) : Type 0 where
   pub function_reads : IsFunctionText schema case.function.items function
   pub rows : List (List Value)
   pub table_holds : IsTableFile schema case.table.items rows
-  pub arguments : AreArguments function.params case.args
+  pub arguments : HaveTypes (types_of function.params) case.args

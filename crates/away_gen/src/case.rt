@@ -1,8 +1,9 @@
 //! The case of a number.
 
-ghost use Rattle.std.specs.Prelude.{◌≡◌, IfOk};
+ghost use Rattle.std.specs.Prelude.{◌≡◌, ◌<◌, ◌∷◌, [], IfOk, pos};
 ghost use Rattle.away_gen.specs.Texts.{IsCase};
-ghost use Rattle.away_gen.specs.Valid.{IsValid};
+ghost use Rattle.away_gen.specs.Valid.{HaveTypes, IsValid, two_bigints};
+ghost use Rattle.away_values.specs.declared.values.Value.TheVariants as val;
 
 use crate::judging::judge;
 use crate::parts::draw_parts;
@@ -33,16 +34,26 @@ pub fn make_case(alloc: Global, number: u64) -> Result<DemoCase, NoMemory>
 
 /// The case as it is written, not yet read again.
 fn written_case(alloc: Global, number: u64) -> Result<DemoCase, NoMemory>
-    ensures { IfOk result (IsCase number) }
+    ensures texts { IfOk result (IsCase number) }
+    ensures bigints { IfOk result (λ made. HaveTypes two_bigints made.args) }
 {
     let parts = draw_parts(alloc, number)?;
-    let mut args = Items::new(alloc);
-    args.push(Value::Int(parts.first as i64))?;
-    args.push(Value::Int(parts.second as i64))?;
     Ok(DemoCase {
         schema: schema_text(alloc)?.into_bytes(),
         function: function_text(alloc, parts.statements.as_slice())?.into_bytes(),
         table: table_text(alloc, parts.rows.as_slice())?.into_bytes(),
-        args,
+        args: arguments(alloc, parts.first, parts.second)?,
     })
+}
+
+fn arguments(alloc: Global, first: u64, second: u64) -> Result<Items<Value>, NoMemory>
+    requires first { first < 1000 }
+    requires second { second < 1000 }
+    ensures values { IfOk result (λ args. args ≡ val.Int (pos first) ∷ val.Int (pos second) ∷ []) }
+    ensures bigints { IfOk result (HaveTypes two_bigints) }
+{
+    let mut args = Items::new(alloc);
+    args.push(Value::Int(first as i64))?;
+    args.push(Value::Int(second as i64))?;
+    Ok(args)
 }

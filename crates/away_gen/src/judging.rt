@@ -1,29 +1,40 @@
 //! Whether a case runs: its texts are read again and judged.
 
-ghost use Rattle.std.specs.Prelude.{◌≡◌, IfOk, OnOk};
+ghost use Rattle.std.specs.Prelude.{◌≡◌, IfOk, IsTrue, OnOk};
 ghost use Rattle.away_trees.specs.declared.statements.Function.{Function as FunctionTree};
-ghost use Rattle.away_gen.specs.Valid.{IsFunctionText, IsSchemaText, IsTableFile, IsValid};
+ghost use Rattle.away_gen.specs.Valid.{HaveTypes, IsFunctionText, IsSchemaText, IsTableFile, IsValid, two_bigints, types_of};
 
 use crate::DemoCase;
 use away_trees::{Function, Schema};
 use away_types::{CheckedFunction, CheckedSchema, check_function, check_schema};
-use away_values::{NoMemory, Table, Ty};
+use away_values::{Name, NoMemory, Table, Ty};
 use csv_tables::read_table;
 use plsql_parse::read_function;
 use sql_text::read_schema;
 use sqlite_items::Boxed;
 use std::alloc::Global;
 
-/// Goes on where the case runs.
+/// Goes on where the case runs, if its arguments are two bigints.
 pub fn judge(alloc: Global, case: &DemoCase) -> Result<(), NoMemory>
+    requires { HaveTypes two_bigints case.now.args }
     ensures { OnOk result (IsValid case.now) }
 {
     let schema = schema_of(alloc, &case.schema)?;
     let function = function_of(alloc, &schema, &case.function)?;
     let _table = table_of(alloc, &schema.schema, &case.table)?;
-    match function.get().function.params.as_slice() {
-        [(_, Ty::Bigint), (_, Ty::Bigint)] => Ok(()),
-        _ => Err(NoMemory),
+    if are_two_bigints(function.get().function.params.as_slice()) {
+        Ok(())
+    } else {
+        Err(NoMemory)
+    }
+}
+
+fn are_two_bigints(params: &[(Name, Ty)]) -> bool
+    ensures { IsTrue result → types_of params.now ≡ two_bigints }
+{
+    match params {
+        [(_, Ty::Bigint), (_, Ty::Bigint)] => true,
+        _ => false,
     }
 }
 

@@ -4,7 +4,9 @@
 mod case;
 mod draws;
 mod judging;
+mod laws;
 mod parts;
 mod texts;
 
 pub use case::{DemoCase, make_case};
+pub use laws::{every_case_is_small, the_case_of_seven};

@@ -51,7 +51,8 @@ pub struct Parts {
 
 /// The parts of the case of a number.
 pub fn draw_parts(alloc: Global, number: u64) -> Result<Parts, AllocError>
-    ensures { IfOk result (λ parts. parts ≡ parts_of number) }
+    ensures parts { IfOk result (λ parts. parts ≡ parts_of number) }
+    ensures below { IfOk result (λ parts. (parts.first < 1000) × (parts.second < 1000)) }
 {
     let mut draws = Draws::new(number);
     let count = 50 + draws.below(50);
