@@ -1,5 +1,5 @@
 -- Each case is small.
-use Rattle.std.proofs.Common.{◌≡◌, ℕ, ◌+◌, ◌*◌, ◌/◌, ◌^◌, ◌%◌, ◌<◌, ◌≤◌, List, [], ◌∷◌, length, arith, ap, refl, subst, sym, suc, zero}
+use Rattle.std.proofs.Common.{◌≡◌, ℕ, ◌+◌, ◌*◌, ◌/◌, ◌^◌, ◌<◌, length, arith, ap, refl, suc, zero}
 use Rattle.std.proofs.lemmas.Nat.{mod_below}
 use Rattle.std.specs.List.{AllByRecursion}
 use Rattle.away_gen.specs.Draws.{after, draw, in_turn, upper}

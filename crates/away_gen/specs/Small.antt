@@ -1,5 +1,5 @@
 -- How large a case is.
-use Rattle.std.specs.Prelude.{ℕ, ◌<◌, ◌≤◌, List, length}
+use Rattle.std.specs.Prelude.{◌<◌, ◌≤◌, length}
 use Rattle.std.specs.List.{AllByRecursion}
 use Rattle.away_gen.specs.declared.parts.Parts.{Parts}
 use Rattle.away_gen.specs.declared.parts.Row.{Row}

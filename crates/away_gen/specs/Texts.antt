@@ -3,7 +3,6 @@ use Rattle.std.specs.Prelude.{◌≡◌, ℕ, pos, List, [], ◌∷◌, ◌++◌
 use Rattle.std.specs.Fmt.{decimal}
 use Rattle.std.specs.List.{concat}
 use Rattle.away_values.specs.declared.values.Value.TheVariants.{Int}
-use Rattle.away_values.specs.declared.values.Value.{Value}
 use Rattle.away_gen.specs.declared.case.DemoCase.{DemoCase}
 use Rattle.away_gen.specs.declared.parts.Kind.{Kind}
 use Rattle.away_gen.specs.declared.parts.Kind.TheVariants.{Add, Multiply, Subtract, Loop, Query}

@@ -29,9 +29,7 @@ impl Draws {
         ensures drawn { result ≡ draw 1 bound self.old.state }
         ensures below { result < bound }
     {
-        self.state = MULTIPLIER
-            .wrapping_mul(self.state)
-            .wrapping_add(INCREMENT);
+        self.state = MULTIPLIER.wrapping_mul(self.state).wrapping_add(INCREMENT);
         (self.state >> 33) % bound
     }
 }

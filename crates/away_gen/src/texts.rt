@@ -83,9 +83,49 @@ fn push_over(text: &mut String, kind: Kind, x: &str, y: &str, c: &str) -> Result
     match kind {
         Kind::Add => push_all(text, &[x, " := ", y, " + ", c, ";"]),
         Kind::Multiply => push_all(text, &[x, " := ", y, " * ", c, " % 1000000;"]),
-        Kind::Subtract => push_all(text, &["IF ", x, " > ", y, " THEN ", x, " := ", x, " - ", y, "; ELSE ", y, " := ", y, " + 1; END IF;"]),
-        Kind::Loop => push_all(text, &["FOR k IN 1..", c, " LOOP ", x, " := ", x, " + k; EXIT WHEN ", x, " % 7 = 3; END LOOP;"]),
-        Kind::Query => push_all(text, &[x, " := COALESCE((SELECT max(r.cost) FROM route r WHERE r.src = ", y, " % 10), 0);"]),
+        Kind::Subtract => push_all(
+            text,
+            &[
+                "IF ",
+                x,
+                " > ",
+                y,
+                " THEN ",
+                x,
+                " := ",
+                x,
+                " - ",
+                y,
+                "; ELSE ",
+                y,
+                " := ",
+                y,
+                " + 1; END IF;",
+            ],
+        ),
+        Kind::Loop => push_all(
+            text,
+            &[
+                "FOR k IN 1..",
+                c,
+                " LOOP ",
+                x,
+                " := ",
+                x,
+                " + k; EXIT WHEN ",
+                x,
+                " % 7 = 3; END LOOP;",
+            ],
+        ),
+        Kind::Query => push_all(
+            text,
+            &[
+                x,
+                " := COALESCE((SELECT max(r.cost) FROM route r WHERE r.src = ",
+                y,
+                " % 10), 0);",
+            ],
+        ),
     }
 }
 

@@ -8,11 +8,11 @@ pub returns-in_ok-new-in-Ok-check_function : goal.returns-in_ok-new-in-Ok-check_
 returns-in_ok-new-in-Ok-check_function c =
     let function = c.in-Ok.function in
     let reads : IsFunctionText c.args.schema.now.schema c.args.bytes.now function =
-        record {
-          may_be_read = c.in-Ok.ensures.ok.0;
-          reads = c.in-Ok.ensures.ok.1;
-          within_limits = c.in-Ok.ensures.ok.2;
-          unbroken = c.in-Ok-check_function.ensures.ok.unbroken;
-        } in
+    record {
+      may_be_read = c.in-Ok.ensures.ok.0;
+      reads = c.in-Ok.ensures.ok.1;
+      within_limits = c.in-Ok.ensures.ok.2;
+      unbroken = c.in-Ok-check_function.ensures.ok.unbroken;
+    } in
     let boxed = c.in_ok-new-in-Ok-check_function.ensures in
     (function, reads, ap (λ (checked : CheckedFunction). checked.function.params) boxed ∙ ap (λ (f : Function). f.params) c.in-Ok-check_function.ensures.ok.function)

@@ -9,8 +9,8 @@ returns-then-are_two_bigints c =
     let function = c.in_ok-function.ensures.0 in
     let rows = c.in_ok-_table._table.rows in
     let params : types_of function.params ≡ two_bigints =
-        ap types_of (sym (c.as_slice.ensures ∙ (ap (λ (checked : CheckedFunction). checked.function.params) c.get.ensures ∙ c.in_ok-function.ensures.2)))
-        ∙ c.if-are_two_bigints.ensures refl in
+    ap types_of (sym (c.as_slice.ensures ∙ (ap (λ (checked : CheckedFunction). checked.function.params) c.get.ensures ∙ c.in_ok-function.ensures.2)))
+    ∙ c.if-are_two_bigints.ensures refl in
     record {
       schema = schema;
       schema_reads = subst (λ bytes. IsSchemaText bytes schema) c.deref.ensures.value c.in_ok-schema.ensures;
