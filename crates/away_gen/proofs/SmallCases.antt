@@ -14,7 +14,8 @@ length-in_turn : {A : Type 0} (make : ℕ → A) (draws count state : ℕ) → l
 length-in_turn make draws zero state = refl
 length-in_turn make draws (suc count) state = ap suc (length-in_turn make draws count (after draws state))
 
-all_in_turn : {A : Type 0} (P : A → Type 0) (make : ℕ → A) (draws count state : ℕ) → ((s : ℕ) → P (make s)) → AllByRecursion P (in_turn make draws count state)
+all_in_turn : {A : Type 0} (P : A → Type 0) (make : ℕ → A) (draws count state : ℕ) → ((s : ℕ) → P (make s))
+    → AllByRecursion P (in_turn make draws count state)
 all_in_turn P make draws zero state each = tt
 all_in_turn P make draws (suc count) state each = (each state, all_in_turn P make draws count (after draws state) each)
 
@@ -46,7 +47,8 @@ small number =
     let rows_below : draw 1 50 number < 50 = draw_below 1 50 number (omega arith) in
     let statements_below : draw 1 24 function < 24 = draw_below 1 24 function (omega arith) in
     let rows_are : length (in_turn row_from 3 count table) ≡ count = length-in_turn row_from 3 count table in
-    let statements_are : length (in_turn statement_from 4 statements (after 1 function)) ≡ statements = length-in_turn statement_from 4 statements (after 1 function) in
+    let statements_are : length (in_turn statement_from 4 statements (after 1 function)) ≡ statements =
+    length-in_turn statement_from 4 statements (after 1 function) in
     record {
       rows = (omega arith, omega arith);
       each_row = all_in_turn IsSmallRow row_from 3 count table small_row;

@@ -40,7 +40,8 @@ statement_over Subtract x y c =
     concat (codes "IF " ∷ x ∷ codes " > " ∷ y ∷ codes " THEN " ∷ x ∷ codes " := " ∷ x ∷ codes " - " ∷ y
     ∷ codes "; ELSE " ∷ y ∷ codes " := " ∷ y ∷ codes " + 1; END IF;" ∷ [])
 statement_over Loop x y c =
-    concat (codes "FOR k IN 1.." ∷ c ∷ codes " LOOP " ∷ x ∷ codes " := " ∷ x ∷ codes " + k; EXIT WHEN " ∷ x ∷ codes " % 7 = 3; END LOOP;" ∷ [])
+    concat (codes "FOR k IN 1.." ∷ c ∷ codes " LOOP " ∷ x ∷ codes " := " ∷ x ∷ codes " + k; EXIT WHEN " ∷ x
+    ∷ codes " % 7 = 3; END LOOP;" ∷ [])
 statement_over Query x y c =
     concat (x ∷ codes " := COALESCE((SELECT max(r.cost) FROM route r WHERE r.src = " ∷ y ∷ codes " % 10), 0);" ∷ [])
 

@@ -5,7 +5,7 @@ ghost use Rattle.away_trees.specs.declared.statements.Function.{Function as Func
 ghost use Rattle.away_gen.specs.Valid.{HaveTypes, IsFunctionText, IsSchemaText, IsTableFile, IsValid, two_bigints, types_of};
 
 use crate::DemoCase;
-use away_trees::{Function, Schema};
+use away_trees::Schema;
 use away_types::{CheckedFunction, CheckedSchema, check_function, check_schema};
 use away_values::{Name, NoMemory, Table, Ty};
 use csv_tables::read_table;

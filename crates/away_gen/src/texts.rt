@@ -5,7 +5,6 @@ ghost use Rattle.away_gen.specs.Texts.{function_text as text_of_function, line, 
 ghost use Rattle.std.specs.Fmt.{decimal};
 
 use crate::parts::{Kind, Row, Statement};
-use sqlite_items::Items;
 use std::alloc::{AllocError, Global};
 
 const SCHEMA: &str = "CREATE TABLE route (src bigint, dst bigint, cost bigint);";

@@ -15,4 +15,5 @@ returns-in_ok-new-in-Ok-check_function c =
       unbroken = c.in-Ok-check_function.ensures.ok.unbroken;
     } in
     let boxed = c.in_ok-new-in-Ok-check_function.ensures in
-    (function, reads, ap (λ (checked : CheckedFunction). checked.function.params) boxed ∙ ap (λ (f : Function). f.params) c.in-Ok-check_function.ensures.ok.function)
+    let params = ap (λ (f : Function). f.params) c.in-Ok-check_function.ensures.ok.function in
+    (function, reads, ap (λ (checked : CheckedFunction). checked.function.params) boxed ∙ params)
