@@ -1,0 +1,8 @@
+//! From a checked function to the text of its query, with the forms between them.
+#![tactic(auto)]
+
+mod compiler;
+mod forms;
+mod spelling;
+
+pub use compiler::{Compiled, compile};
