@@ -113,16 +113,16 @@ class Comparison:
     def _judge(self, case, words, answers, interpreted):
         """What differs, and why where that is known."""
         function, query, in_sql = answers
-        names = [name for name, answer in (("query", query), ("in sql", in_sql), ("away fn: " + interpreted, interpreted))
-                 if answer != function]
-        if not names:
+        sides = {"query": query, "in sql": in_sql, f"away fn: {interpreted}": interpreted}
+        others = [name for name, answer in sides.items() if answer != function]
+        if not others:
             return ""
-        reason = KNOWN.get((case.name, tuple(words)))
-        if reason and interpreted == function:
+        instead, reason = KNOWN.get((case.name, tuple(words)), (None, None))
+        if interpreted == function and {query, in_sql} <= {function, instead}:
             self.known += 1
             return f"known: {reason}"
         self.unmarked += 1
-        return "DIFFERS: " + ", ".join(names)
+        return "DIFFERS: " + ", ".join(others)
 
     def _timed(self, text, answer_of, result):
         """The answer, and the least time of three runs; of one where that is long already."""

@@ -118,6 +118,8 @@ class Server:
 
     def _end(self):
         """Asks the server (or initdb) for a fast end first, and takes its whole session down where it doesn't come."""
+        for number in (signal.SIGINT, signal.SIGTERM, signal.SIGHUP):
+            signal.signal(number, signal.SIG_IGN)
         if self.process is not None:
             for number, seconds in ((signal.SIGINT, 10), (signal.SIGQUIT, 5)):
                 self.process.send_signal(number)
