@@ -1,0 +1,4 @@
+CREATE TABLE public.pair (
+    k bigint NOT NULL,
+    v text
+);

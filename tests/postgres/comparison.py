@@ -1,0 +1,176 @@
+"""Runs the cases in a server and prints what each side answers."""
+
+import os
+import pathlib
+import subprocess
+import sys
+import tempfile
+import time
+from dataclasses import dataclass
+
+from cases import TOP, rows_of, write_case
+from connection import Fault, literal
+from known import KNOWN
+
+TURNS = "1000000"
+SHORT_SECONDS = 0.5
+OVER_TIME = "over time"
+HEADINGS = ("arguments", "function", "ms", "query", "ms", "in sql", "ms", "differs")
+
+
+@dataclass
+class Loaded:
+    """What the server knows of a case's function."""
+
+    function: str
+    types: list  # of its parameters
+    result: str
+
+
+class Comparison:
+    def __init__(self, server, options):
+        self.connection = server.connect()
+        self.seconds = options.seconds
+        self.away = options.away or os.environ.get("AWAY") or str(TOP / "away")
+        self.compared = self.known = self.unmarked = self.unrun = 0
+        print(f"PostgreSQL {self._one('SHOW server_version')}, {self.away}")
+
+    def compare(self, case):
+        """Prints the case's table."""
+        print(f"\n{case.name}")
+        with tempfile.TemporaryDirectory(prefix="away-case-") as folder:
+            files = write_case(case, pathlib.Path(folder))
+            compiled = self._call_away("compile", files.schema, files.function)
+            if compiled.returncode != 0:
+                self.unrun += 1
+                print(f"  not compiled: {_line(compiled)}")
+                return
+            try:
+                loaded = self._load(case, compiled.stdout)
+            except Fault as fault:
+                self.unrun += 1
+                print(f"  not loaded: {fault}")
+                return
+            rows = [self._row(case, loaded, words, files) for words in case.arguments]
+        _print_table(rows)
+
+    def conclude(self):
+        """Prints the count, and answers the status."""
+        print(f"\n{self.compared} lists of arguments: {self.unmarked} unmarked differences, {self.known} known ones"
+              + (f"; {self.unrun} cases didn't run" if self.unrun else ""))
+        return 1 if self.unmarked or self.unrun else 0
+
+    def _call_away(self, *arguments):
+        return subprocess.run([self.away, *arguments], capture_output=True, text=True)
+
+    def _one(self, text):
+        return self.connection.run(text)[0][0]
+
+    def _load(self, case, query):
+        """Loads all that the case needs into an empty schema."""
+        run = self.connection.run
+        run("DEALLOCATE ALL; RESET statement_timeout; DROP SCHEMA IF EXISTS public CASCADE; CREATE SCHEMA public")
+        run(case.schema)
+        for table, text in case.tables.items():
+            self._fill(table, rows_of(text))
+        run("ANALYZE")
+        run(case.function)
+        function, result, types = run(
+            "SELECT proname, prorettype::regtype, array_to_string(proargtypes::regtype[], ',') FROM pg_proc"
+            " WHERE pronamespace = 'public'::regnamespace")[0]
+        loaded = Loaded(function, types.split(",") if types else [], result)
+        listed = ", ".join(loaded.types)
+        run(f"PREPARE away_query{f'({listed})' if listed else ''} AS {query}")
+        run(f"CREATE FUNCTION public.away_in_sql({listed}) RETURNS TABLE (away_result {result}, away_fault text)"
+            f" LANGUAGE sql AS $away${query}$away$")
+        run(f"SET statement_timeout = '{self.seconds}s'")
+        return loaded
+
+    def _fill(self, table, rows):
+        types = [row[0] for row in self.connection.run(
+            "SELECT atttypid::regtype FROM pg_attribute WHERE attnum > 0 AND attrelid = "
+            + literal("public." + table, "regclass") + " ORDER BY attnum")]
+        if rows:
+            written = ", ".join("(" + ", ".join(map(literal, row, types)) + ")" for row in rows)
+            self.connection.run(f"INSERT INTO public.{table} VALUES {written}")
+
+    def _row(self, case, loaded, words, files):
+        """The row of the table for one list of arguments."""
+        self.compared += 1
+        given = ", ".join(map(literal, words, loaded.types))
+        in_parentheses = f"({given})" if words else ""
+        answers = [
+            self._timed(f"SELECT public.{loaded.function}({given})", _function_answer, loaded.result),
+            self._timed(f"EXECUTE away_query{in_parentheses}", _query_answer, loaded.result),
+            self._timed(f"SELECT * FROM public.away_in_sql({given})", _query_answer, loaded.result),
+        ]
+        interpreted = _line(self._call_away("fn", TURNS, files.schema, files.function, files.tables, *words))
+        shown = [_short(" ".join(word or "''" for word in words))]
+        for answer, seconds in answers:
+            shown += [_short(answer), f"{seconds * 1000:.2f}"]
+        return shown + [self._judge(case, words, [answer for answer, _ in answers], interpreted)]
+
+    def _judge(self, case, words, answers, interpreted):
+        """What differs, and why where that is known."""
+        function, query, in_sql = answers
+        sides = {"query": query, "in sql": in_sql, f"away fn: {interpreted}": interpreted}
+        others = [name for name, answer in sides.items() if answer != function]
+        if not others:
+            return ""
+        instead, reason = KNOWN.get((case.name, tuple(words)), (None, None))
+        if interpreted == function and {query, in_sql} <= {function, instead}:
+            self.known += 1
+            return f"known: {reason}"
+        self.unmarked += 1
+        return "DIFFERS: " + ", ".join(others)
+
+    def _timed(self, text, answer_of, result):
+        """The answer, and the least time of three runs; of one where that is long already."""
+        answers, least, begun = set(), float("inf"), time.perf_counter()
+        for _ in range(3):
+            start = time.perf_counter()
+            try:
+                answer = answer_of(self.connection.run(text), result)
+            except Fault as fault:
+                answer = OVER_TIME if fault.sqlstate == "57014" else f"fault {fault.sqlstate}"
+            least = min(least, time.perf_counter() - start)
+            answers.add(answer)
+            if time.perf_counter() - begun > SHORT_SECONDS:
+                break
+        return " or ".join(sorted(answers)), least
+
+
+def _function_answer(rows, result):
+    return _value(rows[0][0], result)
+
+
+def _query_answer(rows, result):
+    if len(rows) != 1:
+        return f"shape {len(rows)}"
+    value, fault = rows[0]
+    return f"fault {fault}" if fault is not None else _value(value, result)
+
+
+def _value(value, result):
+    if value is None:
+        return "null"
+    return "value " + ({"t": "true", "f": "false"}[value] if result == "boolean" else value)
+
+
+def _line(said):
+    """The one line that a call of away wrote."""
+    return said.stdout.strip("\n") or f"status {said.returncode} and nothing written"
+
+
+def _short(text):
+    return text if len(text) <= 40 else text[:36] + " ..."
+
+
+def _print_table(rows):
+    rows = [list(HEADINGS)] + rows
+    widths = [max(len(row[column]) for row in rows) for column in range(len(HEADINGS))]
+    for row in rows:
+        cells = [cell.rjust(width) if HEADINGS[column] == "ms" else cell.ljust(width)
+                 for column, (cell, width) in enumerate(zip(row, widths))]
+        print(("  " + "  ".join(cells)).rstrip())
+    sys.stdout.flush()
