@@ -12,6 +12,3 @@ pub use laws::{
     what_is_found_is_found_by_its_alias, what_is_named_again_is_read_as_it_was,
     worked_queries_have_names,
 };
-
-#[cfg(test)]
-mod tests;
