@@ -31,7 +31,7 @@ class Comparison:
         self.seconds, self.with_demo = options.seconds, options.demo
         self.away = away
         self.compared = self.known = self.unmarked = self.unrun = 0
-        print(f"PostgreSQL {self.connection.run('SHOW server_version')[0][0]}, {away.path}")
+        print(f"PostgreSQL {self.connection.run('SHOW server_version')[0][0]}, {away.line('--version')}")
 
     def compare(self, case):
         """Prints the case's table."""
