@@ -29,6 +29,7 @@ class Case:
     function: str
     tables: dict  # each table's file, as text, by the table's name
     arguments: list  # lists of words, as `away fn` takes them
+    number: int = None  # of `away demo`, where the case is one of its cases
 
 
 def folder_cases():
@@ -51,7 +52,7 @@ def demo_cases(count):
     cases = []
     for number in range(count):
         table, function, arguments = generated_case(number)
-        cases.append(Case(f"demo-{number}", SCHEMA, function, {"route": table}, [arguments]))
+        cases.append(Case(f"demo-{number}", SCHEMA, function, {"route": table}, [arguments], number))
     return cases
 
 

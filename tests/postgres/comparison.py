@@ -1,14 +1,12 @@
 """Runs the cases in a server and prints what each side answers."""
 
-import os
 import pathlib
-import subprocess
 import sys
 import tempfile
 import time
 from dataclasses import dataclass
 
-from cases import TOP, rows_of, write_case
+from cases import rows_of, write_case
 from connection import Fault, literal
 from known import KNOWN
 
@@ -28,22 +26,22 @@ class Loaded:
 
 
 class Comparison:
-    def __init__(self, server, options):
+    def __init__(self, server, away, options):
         self.connection = server.connect()
-        self.seconds = options.seconds
-        self.away = options.away or os.environ.get("AWAY") or str(TOP / "away")
+        self.seconds, self.with_demo = options.seconds, options.demo
+        self.away = away
         self.compared = self.known = self.unmarked = self.unrun = 0
-        print(f"PostgreSQL {self._one('SHOW server_version')}, {self.away}")
+        print(f"PostgreSQL {self.connection.run('SHOW server_version')[0][0]}, {away.line('--version')}")
 
     def compare(self, case):
         """Prints the case's table."""
         print(f"\n{case.name}")
         with tempfile.TemporaryDirectory(prefix="away-case-") as folder:
             files = write_case(case, pathlib.Path(folder))
-            compiled = self._call_away("compile", files.schema, files.function)
+            compiled = self.away.call("compile", files.schema, files.function)
             if compiled.returncode != 0:
                 self.unrun += 1
-                print(f"  not compiled: {_line(compiled)}")
+                print(f"  not compiled: {compiled.stdout.strip()}")
                 return
             try:
                 loaded = self._load(case, compiled.stdout)
@@ -59,12 +57,6 @@ class Comparison:
         print(f"\n{self.compared} lists of arguments: {self.unmarked} unmarked differences, {self.known} known ones"
               + (f"; {self.unrun} cases didn't run" if self.unrun else ""))
         return 1 if self.unmarked or self.unrun else 0
-
-    def _call_away(self, *arguments):
-        return subprocess.run([self.away, *arguments], capture_output=True, text=True)
-
-    def _one(self, text):
-        return self.connection.run(text)[0][0]
 
     def _load(self, case, query):
         """Loads all that the case needs into an empty schema."""
@@ -104,21 +96,30 @@ class Comparison:
             self._timed(f"EXECUTE away_query{in_parentheses}", _query_answer, loaded.result),
             self._timed(f"SELECT * FROM public.away_in_sql({given})", _query_answer, loaded.result),
         ]
-        interpreted = _line(self._call_away("fn", TURNS, files.schema, files.function, files.tables, *words))
+        said = {"away fn": self.away.line("fn", TURNS, files.schema, files.function, files.tables, *words)}
+        if self.with_demo and case.number is not None:
+            said["away demo"] = self._demo_answer(case.number)
         shown = [_short(" ".join(word or "''" for word in words))]
         for answer, seconds in answers:
             shown += [_short(answer), f"{seconds * 1000:.2f}"]
-        return shown + [self._judge(case, words, [answer for answer, _ in answers], interpreted)]
+        return shown + [self._judge(case, words, [answer for answer, _ in answers], said)]
 
-    def _judge(self, case, words, answers, interpreted):
+    def _demo_answer(self, number):
+        """The answer of the function where the query has the same; else all that was written."""
+        whole = self.away.line("demo", str(number))
+        lines = dict(line.split(" ", 1) for line in whole.splitlines() if " " in line)
+        return lines["function"] if lines.get("function", 0) == lines.get("query", 1) else whole.replace("\n", "; ")
+
+    def _judge(self, case, words, answers, said):
         """What differs, and why where that is known."""
         function, query, in_sql = answers
-        sides = {"query": query, "in sql": in_sql, f"away fn: {interpreted}": interpreted}
+        sides = {"query": query, "in sql": in_sql}
+        sides.update((f"{command} says {answer}", answer) for command, answer in said.items())
         others = [name for name, answer in sides.items() if answer != function]
         if not others:
             return ""
         instead, reason = KNOWN.get((case.name, tuple(words)), (None, None))
-        if interpreted == function and {query, in_sql} <= {function, instead}:
+        if set(said.values()) == {function} and {query, in_sql} <= {function, instead}:
             self.known += 1
             return f"known: {reason}"
         self.unmarked += 1
@@ -155,11 +156,6 @@ def _value(value, result):
     if value is None:
         return "null"
     return "value " + ({"t": "true", "f": "false"}[value] if result == "boolean" else value)
-
-
-def _line(said):
-    """The one line that a call of away wrote."""
-    return said.stdout.strip("\n") or f"status {said.returncode} and nothing written"
 
 
 def _short(text):

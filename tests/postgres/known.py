@@ -1,8 +1,8 @@
 """The differences that are known, with their reasons: by the case's name and the words of the arguments, each with what
 the query answers there.
 
-PostgreSQL is free to drop an expression whose value nothing uses, and to evaluate one before its turn. A query can't forbid
-it, so a fault of the function can vanish in the query, or come where the function has none.
+PostgreSQL is free to drop an expression whose value nothing uses, and to evaluate one before its turn. A query can't
+forbid it, so a fault of the function can vanish in the query, or come where the function has none.
 """
 
 KNOWN = {
