@@ -39,7 +39,7 @@ fn replaced(alloc: Global, text: &str, old: &str, new: &str) -> Result<String, A
     Ok(made)
 }
 
-fn run(alloc: Global, query: &str, cert: &str) -> Result<Run, AllocError> {
+fn run<'x>(alloc: Global, query: &'x str, cert: &'x str) -> Result<Run, AllocError> {
     let files: [(&str, &[u8]); 4] = [
         ("s.sql", b" "),
         ("f.sql", FUNCTION),

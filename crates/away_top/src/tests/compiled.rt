@@ -142,12 +142,12 @@ static ROWS: [(&str, &str, &str, &str, u8, &str); 25] = [
 ];
 
 /// A run over the function and the query.
-fn run(
+fn run<'x>(
     alloc: Global,
-    words: &[&str],
-    function: &str,
-    query: &[u8],
-    cert: &[u8],
+    words: &[&'x str],
+    function: &'x str,
+    query: &'x [u8],
+    cert: &'x [u8],
 ) -> Result<Run, AllocError> {
     let files: [(&str, &[u8]); 7] = [
         ("s.sql", SCHEMA),
