@@ -10,18 +10,18 @@ use Rattle.away_trees.specs.declared.statements.Stmt.{Stmt}
 use Rattle.away_trees.specs.declared.statements.Stmt.TheBlock as b
 use Rattle.away_trees.specs.StatementAlgebra.{stmt_of, stmts_of, branches_of}
 use Rattle.away_types.specs.declared.slots.Slot.{Slot}
-use Rattle.plsql_meaning.specs.Outcomes.{Label, case_not_found}
+use Rattle.plsql_meaning.specs.Outcomes.{case_not_found}
 use Rattle.block_forms.specs.declared.places.Place.{Place}
 use Rattle.block_forms.specs.declared.forms.Block.{Block}
 use Rattle.block_forms.specs.declared.forms.Term.{Term}
 use Rattle.block_forms.specs.Around.{Around}
 use Rattle.block_forms.specs.Lowered.{one_of}
 use Rattle.block_forms.specs.Patterns.{Part, own, shared, same, never, jumps, node, no_of, slot_parts, set_parts, leave_parts}
-use Rattle.block_forms.specs.Laid.{Setting, Laid, LaidArm, laying, laid, laid_row, after, a_node, with_expr, decl_size, kind_size, row_size, first_block, default_term, lack_parts, lack, inside_of, arms_size, else_parts, row_parts, arms_parts, decl_parts, decls_parts, assign_parts, kind_parts, again_of}
+use Rattle.block_forms.specs.Laid.{Setting, Laid, LaidArm, laying, laid, laid_row, after, a_node, with_expr, decl_size, kind_size, row_size, first_block, lack_parts, lack, inside_of, arms_size, else_parts, row_parts, arms_parts, decl_parts, decls_parts, assign_parts, kind_parts, again_of}
 use Rattle.goto_check.specs.declared.asking.Asking.{Asking}
 use Rattle.goto_check.specs.declared.asking.Question.{Question}
 use Rattle.goto_check.specs.declared.asking.Question.TheVariants as question
-use Rattle.goto_check.specs.Asking.{says, setting_in}
+use Rattle.goto_check.specs.Asking.{says}
 use Rattle.goto_check.specs.Counted.{tally, capped, counted}
 
 -- ---- parts without what stands there
@@ -135,8 +135,8 @@ module _ (s : Setting) where
     bare_stmt (b.Block' label decls k body closing) p A B n m =
         let L = stmts_of laying body in
         ap (λ z. same 0 0 ∷ z) (bare_both (decls_parts s decls (after p a_node) (first_block s (length L) (inside_of s decls p).node n)) (row_parts s L (inside_of s decls p) (record { label = label; exit = n; again = None } ∷ A) n)
-            (decls_parts s decls (after p a_node) (first_block s (length L) (inside_of s decls p).node m)) (row_parts s L (inside_of s decls p) (record { label = label; exit = m; again = None } ∷ B) m)
-            (bare_decls decls (after p a_node) _ _) (bare_row body (inside_of s decls p) _ _ n m))
+        (decls_parts s decls (after p a_node) (first_block s (length L) (inside_of s decls p).node m)) (row_parts s L (inside_of s decls p) (record { label = label; exit = m; again = None } ∷ B) m)
+        (bare_decls decls (after p a_node) _ _) (bare_row body (inside_of s decls p) _ _ n m))
     bare_stmt (b.Assign name slot e) p A B n m = bare_assign slot e p n m
     bare_stmt (b.If' k arms b.None') p A B n m = bare_choice (branches_of laying arms) None p A B n m (bare_arms arms (after p a_node) A B n m _)
     bare_stmt (b.If' k arms (b.Some' j body)) p A B n m = bare_other (branches_of laying arms) (stmts_of laying body) p A B n m (bare_arms arms (after p a_node) A B n m _) (bare_row body _ A B n m)
@@ -170,8 +170,8 @@ module _ (s : Setting) where
         let R = branches_of laying rest in
         let z = after p (after with_expr (row_size L)) in
         ap (λ q. same 0 0 ∷ own c (jumps false 0) ∷ q) (bare_both (row_parts s L (after p with_expr) A n) (arms_parts s R z A n (no_of s.goto c))
-            (row_parts s L (after p with_expr) B m) (arms_parts s R z B m (no_of s.goto c))
-            (bare_row body (after p with_expr) A B n m) (bare_arms rest z A B n m (no_of s.goto c)))
+        (row_parts s L (after p with_expr) B m) (arms_parts s R z B m (no_of s.goto c))
+        (bare_row body (after p with_expr) A B n m) (bare_arms rest z A B n m (no_of s.goto c)))
 
   pub bare_statement : (x : Stmt) (p : Place) (A B : Around) (n m : ℕ) → bare ((laid x).parts s p A n) ≡ bare ((laid x).parts s p B m)
   unfolding laid

@@ -209,16 +209,28 @@ pub(crate) fn ask_statement(
         Stmt::Assign(_, slot, e) => behind(ask_assign(a, *slot, e, p, next), s, p),
         Stmt::Exit(label, when) => {
             let to = exit_to(around, label, a.goto.finish as usize);
-            behind(ask_leave(a, when, p.expr, node(a.goto, p.node), to, next), s, p)
+            behind(
+                ask_leave(a, when, p.expr, node(a.goto, p.node), to, next),
+                s,
+                p,
+            )
         }
         Stmt::Continue(label, when) => {
             let to = again_to(around, label, a.goto.finish as usize);
-            behind(ask_leave(a, when, p.expr, node(a.goto, p.node), to, next), s, p)
+            behind(
+                ask_leave(a, when, p.expr, node(a.goto, p.node), to, next),
+                s,
+                p,
+            )
         }
         Stmt::Return(e) => behind(ask_return(a, e, p), s, p),
         Stmt::Raise(raised) => behind(ask_raise(a, raised, p), s, p),
         Stmt::Into { .. } => behind(ask_never(a), s, p),
-        Stmt::Nothing => behind(ask_own(a, node(a.goto, p.node), &Shape::Jump(false, next)), s, p),
+        Stmt::Nothing => behind(
+            ask_own(a, node(a.goto, p.node), &Shape::Jump(false, next)),
+            s,
+            p,
+        ),
     }
 }
 
@@ -337,13 +349,7 @@ fn ask_arms(
 /// The node of an IF or a CASE, and its arms.
 #[cycle(stand)]
 #[tactic(auto, using(crate::proofs::Rooms::room_rules))]
-fn ask_tests(
-    a: &Asking<'_>,
-    arms: &[Arm],
-    p: Spot,
-    around: &Enclosing<'_>,
-    next: usize,
-) -> Tested
+fn ask_tests(a: &Asking<'_>, arms: &[Arm], p: Spot, around: &Enclosing<'_>, next: usize) -> Tested
     requires { Room (numbers_in a.now) (after (here p) (after a_node (arms_size (laid_arms arms.now)))) }
     ensures count { result.count ≡ counted a.now (arms_parts (setting_in a.now) (laid_arms arms.now) (after (here p) a_node) (around_of around.now) next (form.node a.now.goto.now p.node)) }
     ensures end { here result.end ≡ after (here p) (after a_node (arms_size (laid_arms arms.now))) }

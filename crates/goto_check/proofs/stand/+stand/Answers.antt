@@ -2,7 +2,7 @@ use Rattle.std.proofs.Common.{◌≡◌, ◌+◌, ◌≤◌, false, drop, [], �
 use Rattle.away_trees.specs.declared.statements.Stmt.{the_lemmas}
 use Rattle.away_trees.specs.declared.statements.Stmt.TheVariants as stmt
 use Rattle.plsql_meaning.specs.Outcomes.{case_not_found}
-use Rattle.block_forms.specs.Laid.{laid, after, laid_arm, first_block, laid_row, laid_arms, decls_size, row_parts, arms_parts}
+use Rattle.block_forms.specs.Laid.{laid, after, laid_arm, first_block, laid_row, laid_arms, row_parts, arms_parts}
 use Rattle.block_forms.specs.Patterns.{own, same, branches}
 use Rattle.goto_check.specs.Asking.{numbers_in, setting_in}
 use Rattle.goto_check.specs.Counted.{counted}
