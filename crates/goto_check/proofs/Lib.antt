@@ -8,5 +8,6 @@ pub mod Occurrences
 pub mod Passes
 pub mod NodeCounts
 pub mod ClassTexts
+pub mod Bare
 pub mod Walk
 pub mod Deciding

@@ -7,6 +7,7 @@ ghost use Rattle.goto_check.specs.Counted.{capped, counted};
 ghost use Rattle.goto_check.specs.Wanted.{shape};
 
 use crate::shapes::{Shape, is_shape};
+use crate::spots::Spot;
 use away_types::Slot;
 use block_forms::Goto;
 
@@ -26,6 +27,13 @@ pub(crate) struct Asking<'a> {
     pub(crate) fixed: usize,
     pub(crate) counters: usize,
     pub(crate) question: Question,
+}
+
+/// How many parts of a text answer yes, and where the text behind it begins.
+#[derive(Clone, Copy)]
+pub(crate) struct Answer {
+    pub(crate) count: u8,
+    pub(crate) end: Spot,
 }
 
 /// Two counts together.

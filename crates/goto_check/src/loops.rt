@@ -3,12 +3,12 @@
 ghost use Rattle.std.specs.Prelude.{◌≡◌, ◌+◌, ◌*◌, ◌<◌, ◌^◌};
 ghost use Rattle.block_forms.specs.Laid.{after, kind_size, again_of, kind_parts};
 ghost use Rattle.block_forms.specs.Patterns.{by_way, bound_parts, step_parts, turn_parts, for_parts, head_after, for_test};
-ghost use Rattle.goto_check.specs.Asking.{numbers_in, setting_in};
+ghost use Rattle.goto_check.specs.Asking.{IsAsked, numbers_in, setting_in};
 ghost use Rattle.goto_check.specs.Counted.{counted};
 ghost use Rattle.goto_check.specs.Room.{here, Room};
 ghost use Rattle.goto_check.specs.Wanted.{wanted};
 
-use crate::asking::{Asking, ask_own, ask_shared, plus};
+use crate::asking::{Asking, Question, ask_own, ask_shared, plus};
 use crate::patterns::{NULL_NOT_ALLOWED, is_null, source_term};
 use crate::read::{after_bound, first_test, jump_of, no_of, node, yes_of};
 use crate::shapes::{Reads, Shape, Wanted};
@@ -194,8 +194,7 @@ fn ask_for(
     )
 }
 
-/// The block to which the body of a loop leads.
-pub(crate) fn again_of(a: &Asking<'_>, kind: &LoopKind, p: Spot) -> usize
+fn again_of(a: &Asking<'_>, kind: &LoopKind, p: Spot) -> usize
     requires { Room (numbers_in a.now) (here p) }
     ensures { result ≡ again_of (setting_in a.now) kind.now (here p) }
 {
@@ -203,6 +202,18 @@ pub(crate) fn again_of(a: &Asking<'_>, kind: &LoopKind, p: Spot) -> usize
         LoopKind::Plain => node(a.goto, p.node),
         LoopKind::While(_) => node(a.goto, p.node),
         LoopKind::Count { reverse, .. } => for_test(a, *reverse, p),
+    }
+}
+
+/// The block to which the body of a loop leads, where the question asks for what follows.
+pub(crate) fn turns_to(a: &Asking<'_>, kind: &LoopKind, p: Spot) -> usize
+    requires { Room (numbers_in a.now) (here p) }
+    ensures { IsAsked a.now result (again_of (setting_in a.now) kind.now (here p)) }
+{
+    match a.question {
+        Question::Fails => again_of(a, kind, p),
+        Question::Owns(_) => 0,
+        Question::Shares(_) => 0,
     }
 }
 

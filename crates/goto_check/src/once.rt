@@ -47,8 +47,7 @@ fn is_once(a: &Asking<'_>, f: &Function, b: usize) -> bool
     ensures { IsTrue result ↔ IsOnce (parts_in (setting_in a.now) f.now) b }
 {
     let own = owners(a, f, b);
-    let shared = sharers(a, f, b);
-    own < 2 && (own > 0 || shared > 0)
+    own == 1 || (own == 0 && sharers(a, f, b) > 0)
 }
 
 pub(crate) fn each_once(a: &Asking<'_>, f: &Function) -> bool

@@ -70,5 +70,5 @@ pub(crate) fn ask_function(a: &Asking<'_>, f: &Function) -> u8
     let end = ask_shared(a, finish, &Shape::Fail(NO_RETURN));
     let params = ask_params(a, f.strict, f.result, 0, f.params.as_slice());
     let inside = ask_statement(a, &f.body, body, &Enclosing::Outside, finish);
-    plus(entry, plus(end, plus(params, inside)))
+    plus(entry, plus(end, plus(params, inside.count)))
 }

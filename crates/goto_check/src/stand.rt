@@ -1,26 +1,28 @@
 //! What the patterns of statements ask.
 
-ghost use Rattle.std.specs.Prelude.{◌≡◌, ◌+◌, ◌<◌, ◌^◌, length, slice_get};
+ghost use Rattle.std.specs.Prelude.{◌≡◌, ◌+◌, ◌<◌, ◌^◌, [], ◌∷◌, Some, None, slice_get};
 ghost use Rattle.block_forms.specs.Laid as l;
-ghost use Rattle.block_forms.specs.Laid.{after, laid, laid_row, laid_arms, row_size, arms_size, decls_size, row_parts, arms_parts, decls_parts};
-ghost use Rattle.goto_check.specs.Asking.{numbers_in, setting_in};
-ghost use Rattle.goto_check.specs.Counted.{counted};
+ghost use Rattle.block_forms.specs.Patterns as form;
+ghost use Rattle.plsql_meaning.specs.Statements as meaning;
+ghost use Rattle.block_forms.specs.Laid.{a_node, after, laid, laid_row, laid_arms, row_size, arms_size, decls_size, kind_size, row_parts, arms_parts, decls_parts};
+ghost use Rattle.goto_check.specs.Asking.{IsAsked, numbers_in, setting_in};
+ghost use Rattle.goto_check.specs.Counted.{capped, counted};
 ghost use Rattle.goto_check.specs.Enclosing.{around_of};
-ghost use Rattle.goto_check.specs.Room.{here, Room};
+ghost use Rattle.goto_check.specs.Room.{here, Room, Small};
 ghost use Rattle.goto_check.specs.Wanted.{wanted};
 
-use crate::asking::{Asking, ask_never, ask_own, ask_same, ask_shared, plus};
+use crate::asking::{Answer, Asking, Question, ask_never, ask_own, ask_same, ask_shared, plus};
 use crate::classes::class_of;
 use crate::enclosing::{Enclosing, again_to, exit_to};
-use crate::loops::{again_of, ask_kind};
+use crate::loops::{ask_kind, turns_to};
 use crate::patterns::{ask_leave, ask_slot, null_of, source_term};
 use crate::read::{no_of, node};
 use crate::shapes::{Shape, Wanted};
-use crate::sizes::{decl_size, decls_size, kind_size, size_of, size_of_arm, size_of_arms};
+use crate::sizes::{decl_size, decls_size, kind_size, size_of};
 use crate::spots::{Spot, after, spot_of};
-use away_trees::{Arm, Decl, Expr, Stmt};
+use away_trees::{Arm, Decl, Expr, LoopKind, Raised, Stmt};
 use away_types::Slot;
-use away_values::{Class, Ty};
+use away_values::{Class, Name, Ty};
 use block_forms::Goto;
 
 /// case_not_found
@@ -99,23 +101,69 @@ fn ask_assign(a: &Asking<'_>, slot: Option<u32>, e: &Expr, p: Spot, next: usize)
     }
 }
 
-/// Where the last arm leads.
-fn lack(a: &Asking<'_>, arms: &[Arm], b: usize) -> usize
-    ensures { result ≡ l.lack (setting_in a.now) (laid_arms arms.now) b }
+/// What the node and the arms of an IF or a CASE answer, where the text behind them begins, and the block where no arm is taken.
+#[derive(Clone, Copy)]
+struct Tested {
+    count: u8,
+    end: Spot,
+    lack: usize,
+}
+
+/// What follows where no arm is taken and there is no ELSE.
+#[tactic(auto, using(crate::proofs::Counting::count_rules))]
+fn ask_lack(a: &Asking<'_>, tested: Tested, without: Option<Class>, next: usize) -> Answer
+    ensures count { result.count ≡ capped (tested.count + counted a.now (l.lack_parts (setting_in a.now) without tested.lack next)) }
+    ensures end { result.end ≡ tested.end }
 {
-    match arms {
-        [] => b,
-        [_, rest @ ..] => lack(a, rest, no_of(a.goto, b)),
+    let count = match without {
+        None => ask_same(a, tested.lack, next),
+        Some(c) => ask_shared(a, tested.lack, &Shape::Fail(c)),
+    };
+    Answer {
+        count: plus(tested.count, count),
+        end: tested.end,
     }
 }
 
-fn ask_lack(a: &Asking<'_>, without: Option<Class>, b: usize, next: usize) -> u8
-    ensures { result ≡ counted a.now (l.lack_parts (setting_in a.now) without b next) }
+/// What a statement without statements inside answers, which ends with itself.
+fn behind(count: u8, s: &Stmt, p: Spot) -> Answer
+    requires { Small (after (here p) (laid s.now).size) }
+    ensures count { result.count ≡ count }
+    ensures end { here result.end ≡ after (here p) (laid s.now).size }
 {
-    match without {
-        None => ask_same(a, b, next),
-        Some(c) => ask_shared(a, b, &Shape::Fail(c)),
+    Answer {
+        count,
+        end: after(p, size_of(s)),
     }
+}
+
+/// The block that follows a statement with so many others behind it, where the question asks for what follows: only
+/// then is the statement sized before it is walked.
+fn follows(a: &Asking<'_>, s: &Stmt, p: Spot, many: usize, next: usize) -> usize
+    requires { Room (numbers_in a.now) (after (here p) (laid s.now).size) }
+    ensures { IsAsked a.now result (l.first_block (setting_in a.now) many (after (here p) (laid s.now).size).node next) }
+{
+    if many == 0 {
+        return next;
+    }
+    match a.question {
+        Question::Fails => first_block(a, many, after(p, size_of(s)).node, next),
+        Question::Owns(_) => next,
+        Question::Shares(_) => next,
+    }
+}
+
+fn ask_return(a: &Asking<'_>, e: &Expr, p: Spot) -> u8
+    ensures { result ≡ counted a.now (form.own (form.node a.now.goto.now p.node) (form.returns (form.source_term p.expr e.now)) ∷ []) }
+{
+    let term = source_term(p.expr, e);
+    ask_own(a, node(a.goto, p.node), &Shape::Return(&term))
+}
+
+fn ask_raise(a: &Asking<'_>, raised: &Raised, p: Spot) -> u8
+    ensures { result ≡ counted a.now (form.shared (form.node a.now.goto.now p.node) (form.fails (meaning.class_of raised.now)) ∷ []) }
+{
+    ask_shared(a, node(a.goto, p.node), &Shape::Fail(class_of(raised)))
 }
 
 #[cycle(stand)]
@@ -126,9 +174,10 @@ pub(crate) fn ask_statement(
     p: Spot,
     around: &Enclosing<'_>,
     next: usize,
-) -> u8
+) -> Answer
     requires { Room (numbers_in a.now) (after (here p) (laid s.now).size) }
-    ensures { result ≡ counted a.now ((laid s.now).parts (setting_in a.now) (here p) (around_of around.now) next) }
+    ensures count { result.count ≡ counted a.now ((laid s.now).parts (setting_in a.now) (here p) (around_of around.now) next) }
+    ensures end { here result.end ≡ after (here p) (laid s.now).size }
 {
     match s {
         Stmt::Block {
@@ -136,53 +185,19 @@ pub(crate) fn ask_statement(
             decls,
             body,
             ..
-        } => {
-            let one = spot_of(1, 0, 0, 0);
-            let inside = after(p, after(one, decls_size(decls.as_slice())));
-            let then = first_block(a, body.len(), inside.node, next);
-            let first = first_block(a, decls.len(), p.node + 1, then);
-            let inner = Enclosing::Block(label.as_ref(), next, &*around);
-            plus(
-                ask_same(a, node(a.goto, p.node), first),
-                plus(
-                    ask_decls(a, decls.as_slice(), after(p, one), then),
-                    ask_row(a, body.as_slice(), inside, &inner, next),
-                ),
-            )
-        }
-        Stmt::Assign(_, slot, e) => ask_assign(a, *slot, e, p, next),
+        } => ask_block(a, label, decls.as_slice(), body.as_slice(), p, around, next),
         Stmt::If(arms, other) => {
-            let first = node(a.goto, p.node);
-            let one = spot_of(1, 0, 0, 0);
-            let none = lack(a, arms.as_slice(), first);
-            let of_arms = ask_arms(a, arms.as_slice(), after(p, one), around, next, first);
+            let tested = ask_tests(a, arms.as_slice(), p, around, next);
             match other {
-                None => plus(of_arms, ask_lack(a, None, none, next)),
-                Some(body) => {
-                    let q = after(p, after(one, size_of_arms(arms.as_slice())));
-                    let to = first_block(a, body.len(), q.node + 1, next);
-                    let here = ask_same(a, none, node(a.goto, q.node));
-                    let begins = ask_same(a, none, to);
-                    let inside = ask_row(a, body.as_slice(), after(q, one), around, next);
-                    plus(of_arms, plus(here, plus(begins, inside)))
-                }
+                None => ask_lack(a, tested, None, next),
+                Some(body) => ask_else(a, tested, body.as_slice(), around, next),
             }
         }
         Stmt::Cases(arms, other) => {
-            let first = node(a.goto, p.node);
-            let one = spot_of(1, 0, 0, 0);
-            let none = lack(a, arms.as_slice(), first);
-            let of_arms = ask_arms(a, arms.as_slice(), after(p, one), around, next, first);
+            let tested = ask_tests(a, arms.as_slice(), p, around, next);
             match other {
-                None => plus(of_arms, ask_lack(a, Some(CASE_NOT_FOUND), none, next)),
-                Some(body) => {
-                    let q = after(p, after(one, size_of_arms(arms.as_slice())));
-                    let to = first_block(a, body.len(), q.node + 1, next);
-                    let here = ask_same(a, none, node(a.goto, q.node));
-                    let begins = ask_same(a, none, to);
-                    let inside = ask_row(a, body.as_slice(), after(q, one), around, next);
-                    plus(of_arms, plus(here, plus(begins, inside)))
-                }
+                None => ask_lack(a, tested, Some(CASE_NOT_FOUND), next),
+                Some(body) => ask_else(a, tested, body.as_slice(), around, next),
             }
         }
         Stmt::Loop {
@@ -190,51 +205,107 @@ pub(crate) fn ask_statement(
             kind,
             body,
             ..
-        } => {
-            let again = again_of(a, kind, p);
-            let first = first_block(a, body.len(), p.node + 1, again);
-            let inner = Enclosing::Loop(label.as_ref(), next, again, &*around);
-            plus(
-                ask_kind(a, kind, p, first, next),
-                ask_row(a, body.as_slice(), after(p, kind_size(kind)), &inner, again),
-            )
-        }
+        } => ask_loop(a, label, kind, body.as_slice(), p, around, next),
+        Stmt::Assign(_, slot, e) => behind(ask_assign(a, *slot, e, p, next), s, p),
         Stmt::Exit(label, when) => {
             let to = exit_to(around, label, a.goto.finish as usize);
-            ask_leave(a, when, p.expr, node(a.goto, p.node), to, next)
+            behind(
+                ask_leave(a, when, p.expr, node(a.goto, p.node), to, next),
+                s,
+                p,
+            )
         }
         Stmt::Continue(label, when) => {
             let to = again_to(around, label, a.goto.finish as usize);
-            ask_leave(a, when, p.expr, node(a.goto, p.node), to, next)
+            behind(
+                ask_leave(a, when, p.expr, node(a.goto, p.node), to, next),
+                s,
+                p,
+            )
         }
-        Stmt::Return(e) => {
-            let term = source_term(p.expr, e);
-            ask_own(a, node(a.goto, p.node), &Shape::Return(&term))
-        }
-        Stmt::Raise(raised) => {
-            ask_shared(a, node(a.goto, p.node), &Shape::Fail(class_of(raised)))
-        }
-        Stmt::Into { .. } => ask_never(a),
-        Stmt::Nothing => ask_own(a, node(a.goto, p.node), &Shape::Jump(false, next)),
+        Stmt::Return(e) => behind(ask_return(a, e, p), s, p),
+        Stmt::Raise(raised) => behind(ask_raise(a, raised, p), s, p),
+        Stmt::Into { .. } => behind(ask_never(a), s, p),
+        Stmt::Nothing => behind(
+            ask_own(a, node(a.goto, p.node), &Shape::Jump(false, next)),
+            s,
+            p,
+        ),
     }
 }
 
 #[cycle(stand)]
 #[tactic(auto, using(crate::proofs::Counting::count_rules, crate::proofs::Rooms::room_rules))]
-fn ask_row(a: &Asking<'_>, list: &[Stmt], p: Spot, around: &Enclosing<'_>, next: usize) -> u8
+fn ask_row(a: &Asking<'_>, list: &[Stmt], p: Spot, around: &Enclosing<'_>, next: usize) -> Answer
     requires { Room (numbers_in a.now) (after (here p) (row_size (laid_row list.now))) }
-    ensures { result ≡ counted a.now (row_parts (setting_in a.now) (laid_row list.now) (here p) (around_of around.now) next) }
+    ensures count { result.count ≡ counted a.now (row_parts (setting_in a.now) (laid_row list.now) (here p) (around_of around.now) next) }
+    ensures end { here result.end ≡ after (here p) (row_size (laid_row list.now)) }
 {
     let mut count = 0;
     let mut at = p;
     for i in 0..list.len() {
         let s = &list[i];
-        let then = after(at, size_of(s));
-        let to = first_block(a, list.len() - (i + 1), then.node, next);
-        count = plus(count, ask_statement(a, s, at, around, to));
-        at = then;
+        let to = follows(a, s, at, list.len() - (i + 1), next);
+        let answer = ask_statement(a, s, at, around, to);
+        count = plus(count, answer.count);
+        at = answer.end;
     }
-    count
+    Answer { count, end: at }
+}
+
+#[cycle(stand)]
+#[tactic(auto, using(crate::proofs::Counting::count_rules, crate::proofs::Rooms::room_rules))]
+fn ask_block(
+    a: &Asking<'_>,
+    label: &Option<Name>,
+    decls: &[Decl],
+    body: &[Stmt],
+    p: Spot,
+    around: &Enclosing<'_>,
+    next: usize,
+) -> Answer
+    requires { Room (numbers_in a.now) (after (here p) (after (after a_node (decls_size decls.now)) (row_size (laid_row body.now)))) }
+    ensures count { result.count ≡ counted a.now (l.block_parts (setting_in a.now) label.now decls.now (laid_row body.now) (here p) (around_of around.now) next) }
+    ensures end { here result.end ≡ after (here p) (after (after a_node (decls_size decls.now)) (row_size (laid_row body.now))) }
+{
+    let one = spot_of(1, 0, 0, 0);
+    let begin = after(p, after(one, decls_size(decls)));
+    let then = first_block(a, body.len(), begin.node, next);
+    let first = first_block(a, decls.len(), p.node + 1, then);
+    let begins = ask_same(a, node(a.goto, p.node), first);
+    let declared = ask_decls(a, decls, after(p, one), then);
+    let inner = Enclosing::Block(label.as_ref(), next, &*around);
+    let inside = ask_row(a, body, begin, &inner, next);
+    Answer {
+        count: plus(begins, plus(declared, inside.count)),
+        end: inside.end,
+    }
+}
+
+#[cycle(stand)]
+#[tactic(auto, using(crate::proofs::Counting::count_rules, crate::proofs::Rooms::room_rules))]
+fn ask_loop(
+    a: &Asking<'_>,
+    label: &Option<Name>,
+    kind: &LoopKind,
+    body: &[Stmt],
+    p: Spot,
+    around: &Enclosing<'_>,
+    next: usize,
+) -> Answer
+    requires { Room (numbers_in a.now) (after (here p) (after (kind_size kind.now) (row_size (laid_row body.now)))) }
+    ensures count { result.count ≡ counted a.now (l.loop_parts (setting_in a.now) label.now kind.now (laid_row body.now) (here p) (around_of around.now) next) }
+    ensures end { here result.end ≡ after (here p) (after (kind_size kind.now) (row_size (laid_row body.now))) }
+{
+    let again = turns_to(a, kind, p);
+    let first = first_block(a, body.len(), p.node + 1, again);
+    let around_body = ask_kind(a, kind, p, first, next);
+    let inner = Enclosing::Loop(label.as_ref(), next, again, &*around);
+    let inside = ask_row(a, body, after(p, kind_size(kind)), &inner, again);
+    Answer {
+        count: plus(around_body, inside.count),
+        end: inside.end,
+    }
 }
 
 #[cycle(stand)]
@@ -246,9 +317,11 @@ fn ask_arms(
     around: &Enclosing<'_>,
     next: usize,
     b: usize,
-) -> u8
+) -> Tested
     requires { Room (numbers_in a.now) (after (here p) (arms_size (laid_arms arms.now))) }
-    ensures { result ≡ counted a.now (arms_parts (setting_in a.now) (laid_arms arms.now) (here p) (around_of around.now) next b) }
+    ensures count { result.count ≡ counted a.now (arms_parts (setting_in a.now) (laid_arms arms.now) (here p) (around_of around.now) next b) }
+    ensures end { here result.end ≡ after (here p) (arms_size (laid_arms arms.now)) }
+    ensures lack { result.lack ≡ l.lack (setting_in a.now) (laid_arms arms.now) b }
 {
     let mut count = 0;
     let mut at = p;
@@ -261,10 +334,52 @@ fn ask_arms(
         let test = source_term(at.expr, &arm.test);
         let own = ask_own(a, from, &Shape::Branch(false, &test, body, other));
         let here = plus(ask_same(a, from, node(a.goto, at.node)), own);
-        let of_body = ask_row(a, arm.body.as_slice(), inside, around, next);
-        count = plus(count, plus(here, of_body));
-        at = after(at, size_of_arm(arm));
+        let answer = ask_row(a, arm.body.as_slice(), inside, around, next);
+        count = plus(count, plus(here, answer.count));
+        at = answer.end;
         from = other;
     }
-    count
+    Tested {
+        count,
+        end: at,
+        lack: from,
+    }
+}
+
+/// The node of an IF or a CASE, and its arms.
+#[cycle(stand)]
+#[tactic(auto, using(crate::proofs::Rooms::room_rules))]
+fn ask_tests(a: &Asking<'_>, arms: &[Arm], p: Spot, around: &Enclosing<'_>, next: usize) -> Tested
+    requires { Room (numbers_in a.now) (after (here p) (after a_node (arms_size (laid_arms arms.now)))) }
+    ensures count { result.count ≡ counted a.now (arms_parts (setting_in a.now) (laid_arms arms.now) (after (here p) a_node) (around_of around.now) next (form.node a.now.goto.now p.node)) }
+    ensures end { here result.end ≡ after (here p) (after a_node (arms_size (laid_arms arms.now))) }
+    ensures lack { result.lack ≡ l.lack (setting_in a.now) (laid_arms arms.now) (form.node a.now.goto.now p.node) }
+{
+    let first = node(a.goto, p.node);
+    ask_arms(a, arms, after(p, spot_of(1, 0, 0, 0)), around, next, first)
+}
+
+/// The ELSE behind the arms.
+#[cycle(stand)]
+#[tactic(auto, using(crate::proofs::Counting::count_rules, crate::proofs::Rooms::room_rules))]
+fn ask_else(
+    a: &Asking<'_>,
+    tested: Tested,
+    body: &[Stmt],
+    around: &Enclosing<'_>,
+    next: usize,
+) -> Answer
+    requires { Room (numbers_in a.now) (after (here tested.end) (after a_node (row_size (laid_row body.now)))) }
+    ensures count { result.count ≡ capped (tested.count + counted a.now (l.else_parts (setting_in a.now) (Some (laid_row body.now)) None (here tested.end) (around_of around.now) next tested.lack)) }
+    ensures end { here result.end ≡ after (here tested.end) (after a_node (row_size (laid_row body.now))) }
+{
+    let q = tested.end;
+    let to = first_block(a, body.len(), q.node + 1, next);
+    let here = ask_same(a, tested.lack, node(a.goto, q.node));
+    let begins = ask_same(a, tested.lack, to);
+    let inside = ask_row(a, body, after(q, spot_of(1, 0, 0, 0)), around, next);
+    Answer {
+        count: plus(tested.count, plus(here, plus(begins, inside.count))),
+        end: inside.end,
+    }
 }

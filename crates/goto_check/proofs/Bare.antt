@@ -1,0 +1,187 @@
+-- Who has a block is told by where parts are, whatever stands there: not by what follows a statement, and not by what is around it.
+use Rattle.std.proofs.Common.{◌≡◌, ℕ, ◌+◌, Bool, true, false, List, [], ◌∷◌, ◌++◌, length, slice_get, Option, Some, None, refl, sym, ap, ◌∙◌}
+use Rattle.away_values.specs.declared.types.Ty.{Ty}
+use Rattle.away_values.specs.declared.values.Class.{Class}
+use Rattle.away_trees.specs.declared.queries.Expr.{Expr}
+use Rattle.away_trees.specs.declared.statements.Decl.{Decl}
+use Rattle.away_trees.specs.declared.statements.LoopKind.{LoopKind}
+use Rattle.away_trees.specs.declared.statements.LoopKind.TheVariants as kind
+use Rattle.away_trees.specs.declared.statements.Stmt.{Stmt}
+use Rattle.away_trees.specs.declared.statements.Stmt.TheBlock as b
+use Rattle.away_trees.specs.StatementAlgebra.{stmt_of, stmts_of, branches_of}
+use Rattle.away_types.specs.declared.slots.Slot.{Slot}
+use Rattle.plsql_meaning.specs.Outcomes.{case_not_found}
+use Rattle.block_forms.specs.declared.places.Place.{Place}
+use Rattle.block_forms.specs.declared.forms.Block.{Block}
+use Rattle.block_forms.specs.declared.forms.Term.{Term}
+use Rattle.block_forms.specs.Around.{Around}
+use Rattle.block_forms.specs.Lowered.{one_of}
+use Rattle.block_forms.specs.Patterns.{Part, own, shared, same, never, jumps, node, no_of, slot_parts, set_parts, leave_parts}
+use Rattle.block_forms.specs.Laid.{Setting, Laid, LaidArm, laying, laid, laid_row, after, a_node, with_expr, decl_size, kind_size, row_size, first_block, lack_parts, lack, inside_of, arms_size, else_parts, row_parts, arms_parts, decl_parts, decls_parts, assign_parts, kind_parts, again_of}
+use Rattle.goto_check.specs.declared.asking.Asking.{Asking}
+use Rattle.goto_check.specs.declared.asking.Question.{Question}
+use Rattle.goto_check.specs.declared.asking.Question.TheVariants as question
+use Rattle.goto_check.specs.Asking.{says}
+use Rattle.goto_check.specs.Counted.{tally, capped, counted}
+
+-- ---- parts without what stands there
+
+abbrev bare_part : Part → Part
+bare_part (own b x) = own b (jumps false 0)
+bare_part (shared b x) = shared b (jumps false 0)
+bare_part (same b c) = same 0 0
+bare_part never = never
+
+abbrev pub bare : List Part → List Part
+bare [] = []
+bare (p ∷ ps) = bare_part p ∷ bare ps
+
+bare_append : (xs ys : List Part) → bare (xs ++ ys) ≡ bare xs ++ bare ys
+bare_append [] ys = refl
+bare_append (x ∷ xs) ys = ap (λ z. bare_part x ∷ z) (bare_append xs ys)
+
+bare_both : (xs ys xs' ys' : List Part) → bare xs ≡ bare xs' → bare ys ≡ bare ys' → bare (xs ++ ys) ≡ bare (xs' ++ ys')
+bare_both xs ys xs' ys' e f = bare_append xs ys ∙ ((λ i. e i ++ f i) ∙ sym (bare_append xs' ys'))
+
+owned_bare : (blocks : List Block) (c : ℕ) (ps : List Part) → tally blocks (question.Owns c) ps ≡ tally blocks (question.Owns c) (bare ps)
+owned_bare blocks c [] = refl
+owned_bare blocks c (own b x ∷ ps) = ap (λ n. one_of (says blocks (question.Owns c) (own b x)) + n) (owned_bare blocks c ps)
+owned_bare blocks c (shared b x ∷ ps) = ap (λ n. 0 + n) (owned_bare blocks c ps)
+owned_bare blocks c (same a b ∷ ps) = ap (λ n. 0 + n) (owned_bare blocks c ps)
+owned_bare blocks c (never ∷ ps) = ap (λ n. 0 + n) (owned_bare blocks c ps)
+
+shared_bare : (blocks : List Block) (c : ℕ) (ps : List Part) → tally blocks (question.Shares c) ps ≡ tally blocks (question.Shares c) (bare ps)
+shared_bare blocks c [] = refl
+shared_bare blocks c (own b x ∷ ps) = ap (λ n. 0 + n) (shared_bare blocks c ps)
+shared_bare blocks c (shared b x ∷ ps) = ap (λ n. one_of (says blocks (question.Shares c) (shared b x)) + n) (shared_bare blocks c ps)
+shared_bare blocks c (same a b ∷ ps) = ap (λ n. 0 + n) (shared_bare blocks c ps)
+shared_bare blocks c (never ∷ ps) = ap (λ n. 0 + n) (shared_bare blocks c ps)
+
+-- parts that are the same where a part that fails is asked for, and are at the same blocks, count the same
+pub counted_bare : (a : Asking) (xs ys : List Part) → (a.question ≡ question.Fails → xs ≡ ys) → bare xs ≡ bare ys → counted a xs ≡ counted a ys
+unfolding counted
+counted_bare a xs ys equal e = by a.question refl
+  where
+    by : (q : Question) → a.question ≡ q → capped (tally a.goto.now.blocks a.question xs) ≡ capped (tally a.goto.now.blocks a.question ys)
+    by question.Fails is = ap (λ ps. capped (tally a.goto.now.blocks a.question ps)) (equal is)
+    by (question.Owns c) is =
+        ap (λ q. capped (tally a.goto.now.blocks q xs)) is
+        ∙ (ap capped (owned_bare a.goto.now.blocks c xs ∙ (ap (λ ps. tally a.goto.now.blocks (question.Owns c) ps) e ∙ sym (owned_bare a.goto.now.blocks c ys)))
+        ∙ ap (λ q. capped (tally a.goto.now.blocks q ys)) (sym is))
+    by (question.Shares c) is =
+        ap (λ q. capped (tally a.goto.now.blocks q xs)) is
+        ∙ (ap capped (shared_bare a.goto.now.blocks c xs ∙ (ap (λ ps. tally a.goto.now.blocks (question.Shares c) ps) e ∙ sym (shared_bare a.goto.now.blocks c ys)))
+        ∙ ap (λ q. capped (tally a.goto.now.blocks q ys)) (sym is))
+
+-- ---- the patterns
+
+module _ (s : Setting) where
+  bare_set : (not_null : Bool) (t : Ty) (b slot : ℕ) (e : Term) (n m : ℕ) → bare (set_parts s.goto s.numbers not_null t b slot e n) ≡ bare (set_parts s.goto s.numbers not_null t b slot e m)
+  bare_set false t b slot e n m = refl
+  bare_set true t b slot e n m = refl
+
+  bare_slot : (o : Option Slot) (b slot : ℕ) (e : Term) (n m : ℕ) → bare (slot_parts s.goto s.numbers o b slot e n) ≡ bare (slot_parts s.goto s.numbers o b slot e m)
+  bare_slot None b slot e n m = refl
+  bare_slot (Some x) b slot e n m = bare_set x.not_null x.ty b slot e n m
+
+  bare_assign : (slot : Option ℕ) (e : Expr) (p : Place) (n m : ℕ) → bare (assign_parts s slot e p n) ≡ bare (assign_parts s slot e p m)
+  bare_assign None e p n m = refl
+  bare_assign (Some slot) e p n m = bare_slot (slice_get s.slots slot) _ slot _ n m
+
+  bare_leave : (when : Option Expr) (k b to next to' next' : ℕ) → bare (leave_parts s.goto s.numbers when k b to next) ≡ bare (leave_parts s.goto s.numbers when k b to' next')
+  bare_leave None k b to next to' next' = refl
+  bare_leave (Some e) k b to next to' next' = refl
+
+  bare_decls : (ds : List Decl) (p : Place) (n m : ℕ) → bare (decls_parts s ds p n) ≡ bare (decls_parts s ds p m)
+  bare_decls [] p n m = refl
+  bare_decls (d ∷ ds) p n m =
+      bare_both (decl_parts s d p (first_block s (length ds) (p.node + 1) n)) (decls_parts s ds (after p (decl_size d)) n)
+      (decl_parts s d p (first_block s (length ds) (p.node + 1) m)) (decls_parts s ds (after p (decl_size d)) m)
+      (bare_slot (slice_get s.slots p.slot) _ p.slot _ _ _) (bare_decls ds (after p (decl_size d)) n m)
+
+  bare_lack : (without : Option Class) (b n m : ℕ) → bare (lack_parts s without b n) ≡ bare (lack_parts s without b m)
+  bare_lack None b n m = refl
+  bare_lack (Some c) b n m = refl
+
+  pub bare_kind : (k : LoopKind) (p : Place) (body next body' next' : ℕ) → bare (kind_parts s k p body next) ≡ bare (kind_parts s k p body' next')
+  bare_kind kind.Plain p body next body' next' = refl
+  bare_kind (kind.While e) p body next body' next' = refl
+  bare_kind (kind.Count var reverse first last None) p body next body' next' = refl
+  bare_kind (kind.Count var reverse first last (Some e)) p body next body' next' = refl
+
+  bare_choice : (L : List LaidArm) (without : Option Class) (p : Place) (A B : Around) (n m : ℕ) →
+      bare (arms_parts s L (after p a_node) A n (node s.goto p.node)) ≡ bare (arms_parts s L (after p a_node) B m (node s.goto p.node)) →
+      bare (arms_parts s L (after p a_node) A n (node s.goto p.node) ++ lack_parts s without (lack s L (node s.goto p.node)) n)
+      ≡ bare (arms_parts s L (after p a_node) B m (node s.goto p.node) ++ lack_parts s without (lack s L (node s.goto p.node)) m)
+  bare_choice L without p A B n m e =
+      bare_both (arms_parts s L (after p a_node) A n (node s.goto p.node)) (lack_parts s without (lack s L (node s.goto p.node)) n)
+      (arms_parts s L (after p a_node) B m (node s.goto p.node)) (lack_parts s without (lack s L (node s.goto p.node)) m)
+      e (bare_lack without _ n m)
+
+  bare_other : (L : List LaidArm) (R : List Laid) (p : Place) (A B : Around) (n m : ℕ) →
+      bare (arms_parts s L (after p a_node) A n (node s.goto p.node)) ≡ bare (arms_parts s L (after p a_node) B m (node s.goto p.node)) →
+      bare (row_parts s R (after (after p (after a_node (arms_size L))) a_node) A n) ≡ bare (row_parts s R (after (after p (after a_node (arms_size L))) a_node) B m) →
+      bare (arms_parts s L (after p a_node) A n (node s.goto p.node) ++ else_parts s (Some R) None (after p (after a_node (arms_size L))) A n (lack s L (node s.goto p.node)))
+      ≡ bare (arms_parts s L (after p a_node) B m (node s.goto p.node) ++ else_parts s (Some R) None (after p (after a_node (arms_size L))) B m (lack s L (node s.goto p.node)))
+  bare_other L R p A B n m e f =
+      let z = after p (after a_node (arms_size L)) in
+      let l = lack s L (node s.goto p.node) in
+      bare_both (arms_parts s L (after p a_node) A n (node s.goto p.node)) (else_parts s (Some R) None z A n l)
+      (arms_parts s L (after p a_node) B m (node s.goto p.node)) (else_parts s (Some R) None z B m l)
+      e (ap (λ q. same 0 0 ∷ same 0 0 ∷ q) f)
+
+  mutual
+    bare_stmt : (x : Stmt) (p : Place) (A B : Around) (n m : ℕ) → bare ((stmt_of laying x).parts s p A n) ≡ bare ((stmt_of laying x).parts s p B m)
+    bare_stmt (b.Block' label decls k body closing) p A B n m =
+        let L = stmts_of laying body in
+        ap (λ z. same 0 0 ∷ z) (bare_both (decls_parts s decls (after p a_node) (first_block s (length L) (inside_of s decls p).node n)) (row_parts s L (inside_of s decls p) (record { label = label; exit = n; again = None } ∷ A) n)
+        (decls_parts s decls (after p a_node) (first_block s (length L) (inside_of s decls p).node m)) (row_parts s L (inside_of s decls p) (record { label = label; exit = m; again = None } ∷ B) m)
+        (bare_decls decls (after p a_node) _ _) (bare_row body (inside_of s decls p) _ _ n m))
+    bare_stmt (b.Assign name slot e) p A B n m = bare_assign slot e p n m
+    bare_stmt (b.If' k arms b.None') p A B n m = bare_choice (branches_of laying arms) None p A B n m (bare_arms arms (after p a_node) A B n m _)
+    bare_stmt (b.If' k arms (b.Some' j body)) p A B n m = bare_other (branches_of laying arms) (stmts_of laying body) p A B n m (bare_arms arms (after p a_node) A B n m _) (bare_row body _ A B n m)
+    bare_stmt (b.Cases' k arms b.None') p A B n m = bare_choice (branches_of laying arms) (Some case_not_found) p A B n m (bare_arms arms (after p a_node) A B n m _)
+    bare_stmt (b.Cases' k arms (b.Some' j body)) p A B n m = bare_other (branches_of laying arms) (stmts_of laying body) p A B n m (bare_arms arms (after p a_node) A B n m _) (bare_row body _ A B n m)
+    bare_stmt (b.Loop' label k j body closing) p A B n m =
+        let L = stmts_of laying body in
+        bare_both (kind_parts s k p (first_block s (length L) (p.node + 1) (again_of s k p)) n) (row_parts s L (after p (kind_size k)) (record { label = label; exit = n; again = Some (again_of s k p) } ∷ A) (again_of s k p))
+        (kind_parts s k p (first_block s (length L) (p.node + 1) (again_of s k p)) m) (row_parts s L (after p (kind_size k)) (record { label = label; exit = m; again = Some (again_of s k p) } ∷ B) (again_of s k p))
+        (bare_kind k p _ n _ m) (bare_row body (after p (kind_size k)) _ _ _ _)
+    bare_stmt (b.Exit label when) p A B n m = bare_leave when p.expr _ _ n _ m
+    bare_stmt (b.Continue label when) p A B n m = bare_leave when p.expr _ _ n _ m
+    bare_stmt (b.Return e) p A B n m = refl
+    bare_stmt (b.Raise r) p A B n m = refl
+    bare_stmt (b.Into strict targets query) p A B n m = refl
+    bare_stmt b.Nothing p A B n m = refl
+
+    bare_row : {k : _} → (r : b.Row_of-Stmt k) (p : Place) (A B : Around) (n m : ℕ) → bare (row_parts s (stmts_of laying r) p A n) ≡ bare (row_parts s (stmts_of laying r) p B m)
+    bare_row b.end_of-Stmt p A B n m = refl
+    bare_row (b.more_of-Stmt x rest) p A B n m =
+        let L = stmts_of laying rest in
+        let z = stmt_of laying x in
+        bare_both (z.parts s p A (first_block s (length L) (p.node + z.size.node) n)) (row_parts s L (after p z.size) A n)
+        (z.parts s p B (first_block s (length L) (p.node + z.size.node) m)) (row_parts s L (after p z.size) B m)
+        (bare_stmt x p A B _ _) (bare_row rest (after p z.size) A B n m)
+
+    bare_arms : {k : _} → (r : b.Row_of-Arm k) (p : Place) (A B : Around) (n m c : ℕ) → bare (arms_parts s (branches_of laying r) p A n c) ≡ bare (arms_parts s (branches_of laying r) p B m c)
+    bare_arms b.end_of-Arm p A B n m c = refl
+    bare_arms (b.more_of-Arm test k body rest) p A B n m c =
+        let L = stmts_of laying body in
+        let R = branches_of laying rest in
+        let z = after p (after with_expr (row_size L)) in
+        ap (λ q. same 0 0 ∷ own c (jumps false 0) ∷ q) (bare_both (row_parts s L (after p with_expr) A n) (arms_parts s R z A n (no_of s.goto c))
+        (row_parts s L (after p with_expr) B m) (arms_parts s R z B m (no_of s.goto c))
+        (bare_row body (after p with_expr) A B n m) (bare_arms rest z A B n m (no_of s.goto c)))
+
+  pub bare_statement : (x : Stmt) (p : Place) (A B : Around) (n m : ℕ) → bare ((laid x).parts s p A n) ≡ bare ((laid x).parts s p B m)
+  unfolding laid
+  bare_statement x p A B n m = bare_stmt x p A B n m
+
+  pub bare_body : (xs : List Stmt) (p : Place) (A B : Around) (n m : ℕ) → bare (row_parts s (laid_row xs) p A n) ≡ bare (row_parts s (laid_row xs) p B m)
+  bare_body [] p A B n m = refl
+  bare_body (x ∷ xs) p A B n m =
+      let L = laid_row xs in
+      let z = laid x in
+      bare_both (z.parts s p A (first_block s (length L) (p.node + z.size.node) n)) (row_parts s L (after p z.size) A n)
+      (z.parts s p B (first_block s (length L) (p.node + z.size.node) m)) (row_parts s L (after p z.size) B m)
+      (bare_statement x p A B _ _) (bare_body xs (after p z.size) A B n m)
