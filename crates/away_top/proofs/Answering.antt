@@ -74,7 +74,7 @@ pub record SchemaRead (held : Held) (name : List ℕ) (s : Schema) : Type 0 wher
   pub tables : IsSchema bytes
   pub is : s ≡ tables.schema
 
-record QueryRead (held : Held) (s : Schema) (name : List ℕ) (q : Asked) : Type 0 where
+pub record QueryRead (held : Held) (s : Schema) (name : List ℕ) (q : Asked) : Type 0 where
   pub bytes : List ℕ
   pub are_its : AreBytesOf held name bytes
   pub asked : IsQuery s bytes
@@ -118,7 +118,7 @@ module _ {D : Type 0} (F : Files D) where
   schema_read now after name s (inr (middle, read, inr (bytes, holds, inl h))) = absurd h.how
   schema_read now after name s (inr (middle, read, inr (bytes, holds, inr (w, h)))) = record { bytes = bytes; are_its = holds.same; tables = w; is = h.how }
 
-  query_read : (now after : D) (s : Schema) (name : List ℕ) (q : Asked) → Follows F now (query_course s name) after (goes_on q) → QueryRead (F.held now) s name q
+  pub query_read : (now after : D) (s : Schema) (name : List ℕ) (q : Asked) → Follows F now (query_course s name) after (goes_on q) → QueryRead (F.held now) s name q
   query_read now after s name q (inl h) = absurd h.how
   query_read now after s name q (inr (middle, read, inl h)) = absurd h.how
   query_read now after s name q (inr (middle, read, inr (bytes, holds, inl h))) = absurd h.how

@@ -25,7 +25,7 @@ use Rattle.away_top.specs.TableFiles.{tables_course}
 use Rattle.away_top.proofs.Answering.{before, rows_before, schema_read, silent_spelled, silent_tables, tables_read, was_spelled}
 use Rattle.away_top.proofs.Parts.{gone, keeps, silent_refusal}
 
-record FunctionRead (held : Held) (s : Schema) (name : List ℕ) (f : Callable) : Type 0 where
+pub record FunctionRead (held : Held) (s : Schema) (name : List ℕ) (f : Callable) : Type 0 where
   pub bytes : List ℕ
   pub are_its : AreBytesOf held name bytes
   pub called : IsFunction s bytes
@@ -39,7 +39,7 @@ record CallTold (held : Held) (dir : List ℕ) (s : Schema) (f : Callable) (args
   pub tells : Tells (answers f.function (not_nulls f.slots) rows values most) status output
 
 module _ {D : Type 0} (F : Files D) where
-  function_read : (now after : D) (s : Schema) (name : List ℕ) (f : Callable) → Follows F now (function_course s name) after (goes_on f) → FunctionRead (F.held now) s name f
+  pub function_read : (now after : D) (s : Schema) (name : List ℕ) (f : Callable) → Follows F now (function_course s name) after (goes_on f) → FunctionRead (F.held now) s name f
   function_read now after s name f (inl h) = absurd h.how
   function_read now after s name f (inr (middle, read, inl h)) = absurd h.how
   function_read now after s name f (inr (middle, read, inr (bytes, holds, inl h))) = absurd h.how

@@ -19,7 +19,11 @@ use Rattle.plsql_meaning.specs.Equivalent.{answers}
 use Rattle.plsql_run.specs.Settings.{not_nulls}
 use Rattle.away_top.specs.AnswerLines.{answer_end, value_line}
 use Rattle.away_top.specs.Arguments.{bound_of, values_for, values_of}
-use Rattle.away_top.specs.Commands.{about_end, choice, course, usage}
+use Rattle.away_top.specs.Commands.{about_end, choice, course, other_command, usage, without_more}
+use Rattle.cert_json.specs.declared.cert.Cert.{Cert}
+use Rattle.stage_check.specs.declared.verdict.Verdict.TheVariants.{Accepted, Fails}
+use Rattle.away_top.specs.Certificates.{RefusesCert, cert_course}
+use Rattle.away_top.specs.CheckCourse.{IsJudgedSo, check_course, with_function, with_query, with_schema}
 use Rattle.away_top.specs.CompileCourse.{Compiles, compile_course}
 use Rattle.away_top.specs.Course.{Course, and_then, ends, gives, judges, reads, Exactly, RefusedBy}
 use Rattle.away_top.specs.Files.{Callable, function_course, schema_course}
@@ -176,17 +180,48 @@ plain_fn bound schema func dir args =
     plain_then (spelled (bound_of bound)) (call_at_bound schema func dir args) (plain_spelled (bound_of bound))
     (λ n. plain_then (schema_course schema) (λ s. call_over_schema n s func dir args) (λ bytes. (plain_refusal schema (RefusesSchema bytes), λ s. tt)) (λ s. plain_call n s func dir args))
 
+-- ---- a certificate
+
+plain_verdict : (s : Schema) (f : Callable) (q : Asked) (c : Cert) → ArePlain (IsJudgedSo s f q c)
+plain_verdict s f q c status output (Accepted, v, e) = subst IsPlain (sym e.0) tt
+plain_verdict s f q c status output (Fails r, v, e) = subst IsPlain (sym e.0) tt
+
+plain_cert : (s : Schema) (f : Callable) (q : Asked) (cert : List ℕ) → IsPlainCourse (with_query s f q cert)
+plain_cert s f q cert = plain_then {A = Cert} {B = ⊥} (cert_course cert) (λ c. ends (IsJudgedSo s f q c)) (λ bytes. (plain_refusal cert (RefusesCert bytes), λ c. tt)) (plain_verdict s f q)
+
+plain_judged : (s : Schema) (f : Callable) (query cert : List ℕ) → IsPlainCourse (with_function s f query cert)
+plain_judged s f query cert = plain_then {A = Asked} {B = ⊥} (query_course s query) (λ q. with_query s f q cert) (λ bytes. (plain_refusal query (RefusesQuery s bytes), λ q. tt)) (λ q. plain_cert s f q cert)
+
+plain_forms : (s : Schema) (func query cert : List ℕ) → IsPlainCourse (with_schema s func query cert)
+plain_forms s func query cert =
+    plain_then {A = Callable} {B = ⊥} (function_course s func) (λ f. with_function s f query cert) (λ bytes. (plain_refusal func (RefusesFunction s bytes), λ f. tt)) (λ f. plain_judged s f query cert)
+
+plain_check : (schema func query cert : List ℕ) → IsPlainCourse (check_course schema func query cert)
+plain_check schema func query cert =
+    plain_then {A = Schema} {B = ⊥} (schema_course schema) (λ s. with_schema s func query cert) (λ bytes. (plain_refusal schema (RefusesSchema bytes), λ s. tt)) (λ s. plain_forms s func query cert)
+
+plain_alone : (args : List (List ℕ)) (c : Course ⊥) → IsPlainCourse c → IsPlainCourse (without_more args c)
+plain_alone [] c p = p
+plain_alone (word ∷ words) c p = plain_end Usage (line (codes "usage")) tt
+
 -- ---- all words
 
 plain_either : (b : Bool) (left right : Course ⊥) → IsPlainCourse left → IsPlainCourse right → IsPlainCourse (choice b left right)
 plain_either true left right p q = p
 plain_either false left right p q = q
 
+plain_other : (command schema func query cert : List ℕ) (more : List (List ℕ)) → IsPlainCourse (other_command command schema func query cert more)
+unfolding other_command
+plain_other command schema func query cert more =
+    plain_either (bytes_eq command (codes "check")) (without_more more (check_course schema func query cert)) usage
+    (plain_alone more (check_course schema func query cert) (plain_check schema func query cert)) (plain_end Usage (line (codes "usage")) tt)
+
 pub plain_course : (words : List (List ℕ)) (text : List ℕ) → IsPlainCourse (course words text)
 plain_course (word ∷ []) text = plain_end (about_end word).0 (about_end word).1 (plain_about word)
 plain_course (command ∷ schema ∷ func ∷ []) text = plain_choice (bytes_eq command (codes "compile")) (compile_course schema func) (λ text. usage) text (plain_compile schema func text) (plain_end Usage (line (codes "usage")) tt)
 plain_course (command ∷ bound ∷ schema ∷ file ∷ dir ∷ args) text =
     plain_either (bytes_eq command (codes "sql")) (sql_course bound schema file dir args)
-    (choice (bytes_eq command (codes "fn")) (fn_course bound schema file dir args) usage) (plain_sql bound schema file dir args)
-    (plain_either (bytes_eq command (codes "fn")) (fn_course bound schema file dir args) usage (plain_fn bound schema file dir args) (plain_end Usage (line (codes "usage")) tt))
+    (choice (bytes_eq command (codes "fn")) (fn_course bound schema file dir args) (other_command command bound schema file dir args)) (plain_sql bound schema file dir args)
+    (plain_either (bytes_eq command (codes "fn")) (fn_course bound schema file dir args) (other_command command bound schema file dir args) (plain_fn bound schema file dir args)
+    (plain_other command bound schema file dir args))
 plain_course _ text = plain_end Usage (line (codes "usage")) tt

@@ -1,5 +1,6 @@
 //! Runs over files and a sink in memory, and over the system's.
 
+mod checks;
 mod functions;
 mod held;
 mod printed_queries;

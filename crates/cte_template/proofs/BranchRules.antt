@@ -1,0 +1,38 @@
+-- The branches of labels.
+use Rattle.std.proofs.Common.{◌≡◌, ap, sym, ◌∙◌, ℕ, suc, ◌+◌, List, [], ◌∷◌, ◌++◌, length, append_assoc, append-nil, arith}
+use Rattle.std.specs.Prelude.{slice_get, None}
+use Rattle.away_trees.specs.declared.queries.Expr.TheViews.{roll-Select}
+use Rattle.away_trees.specs.declared.queries.Item.{Item}
+use Rattle.away_trees.specs.declared.queries.Select.{Select}
+use Rattle.call_forms.specs.Bodies.{tree}
+use Rattle.call_forms.specs.Forms.{params_of}
+use Rattle.call_forms.specs.Scopes.{Scope, paired}
+use Rattle.cte_template.specs.Making.{Making}
+use Rattle.cte_template.specs.Places.{nowhere, row_place}
+use Rattle.cte_template.specs.Tree.{at_label, branch, branches}
+use Rattle.cte_template.specs.Trees.{gate_as}
+use Rattle.cte_template.specs.Walks.{walk, selected, written, rest, from_block, keys_of}
+use Rattle.cte_template.specs.declared.body.Draft.{Draft}
+use Rattle.cte_template.specs.declared.places.Place.{Place}
+
+-- a branch whose gate stands in the draft, and whose list is written
+pub branch_is : (m : Making) (i b most : ℕ) (places : Scope Place) (d after : Draft) (list : List Item) (s : Select)
+    → places ≡ paired row_place nowhere (params_of (slice_get m.anf.blocks b)) (keys_of m i) → d.items ≡ gate_as 1 (at_label m (i + 1)) ∷ [] → d.next ≡ 2
+    → most ≡ length m.anf.blocks → written after list ≡ rest m 1 places d (from_block m most b) → s ≡ selected (written after list) → s ≡ branch m i b
+unfolding rest from_block
+branch_is m i b most places d after list s here items next many h made =
+    let more : i + 1 ≡ suc i = omega arith in
+    made
+    ∙ ap selected (h ∙ (λ j. walk m 1 (here j) ((items ∙ ap (λ n. gate_as 1 (at_label m n) ∷ []) more) j) (next j) (tree m.anf m.tail (many j) b)))
+
+-- one more branch behind those that are there
+pub one_branch : (m : Making) (i b : ℕ) (xs left : List ℕ) (list now whole : List Select) (s : Select)
+    → xs ≡ b ∷ left → s ≡ branch m i b → now ≡ list ++ (s ∷ []) → list ++ branches m i xs ≡ whole → now ++ branches m (i + 1) left ≡ whole
+one_branch m i b xs left list now whole s here made pushed h =
+    let more : i + 1 ≡ suc i = omega arith in
+    (λ j. pushed j ++ branches m (more j) left)
+    ∙ (append_assoc list (s ∷ []) (branches m (suc i) left)
+    ∙ ((λ j. list ++ (made j ∷ branches m (suc i) left)) ∙ (ap (λ ys. list ++ branches m i ys) (sym here) ∙ h)))
+
+pub all_branches : (m : Making) (i : ℕ) (xs : List ℕ) (list whole : List Select) → xs ≡ [] → list ++ branches m i xs ≡ whole → list ≡ whole
+all_branches m i xs list whole none h = sym (append-nil list) ∙ (ap (λ ys. list ++ branches m i ys) (sym none) ∙ h)

@@ -1,0 +1,10 @@
+-- What holds of a value where there is one.
+use Rattle.std.proofs.Common.{Result, Ok, Err, IfOk}
+
+pub ok_by : {A E : Type 0} (r : Result A E) (P Q : A → Type 0) → ((x : A) → P x → Q x) → IfOk r P → IfOk r Q
+ok_by (Ok x) P Q f h = f x h
+ok_by (Err e) P Q f h = h
+
+pub ok_by_three : {A E : Type 0} (r : Result A E) (P Q R S : A → Type 0) → ((x : A) → P x → Q x → R x → S x) → IfOk r P → IfOk r Q → IfOk r R → IfOk r S
+ok_by_three (Ok x) P Q R S f p q h = f x p q h
+ok_by_three (Err e) P Q R S f p q h = p

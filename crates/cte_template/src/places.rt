@@ -1,0 +1,158 @@
+//! Where names stand: the items and columns of the query that hold their values.
+
+ghost use Rattle.std.specs.Prelude.{◌≡◌, map, IfOk};
+ghost use Rattle.call_forms.specs.Scopes.{paired};
+ghost use Rattle.sql_meaning.specs.Placed.{further};
+ghost use Rattle.cte_template.specs.Places as spec;
+
+use crate::numbers::{small, sum};
+use away_trees::Col;
+use away_values::NoMemory;
+use sqlite_items::Items;
+use std::alloc::Global;
+
+/// A column of an item of a select. The select of the query's step has depth 0, the branches have depth 1, and each test opens selects that are one
+/// deeper.
+#[derive(Clone, Copy, Debug, PartialEq, Eq)]
+pub struct Place {
+    pub depth: usize,
+    pub item: usize,
+    pub column: usize,
+}
+
+/// A column that no row has.
+pub(crate) fn nowhere() -> Place
+    ensures { result ≡ spec.nowhere }
+{
+    Place {
+        depth: 0,
+        item: 1,
+        column: 0,
+    }
+}
+
+/// The column from a list at a depth, and so many selects further in.
+pub(crate) fn seen(place: Place, depth: usize, inside: usize) -> Result<Col, NoMemory>
+    ensures { IfOk result (λ c. c ≡ further inside (spec.seen depth place)) }
+{
+    let level = sum(depth.saturating_sub(place.depth), inside)?;
+    Ok(Col {
+        level: small(level)?,
+        item: small(place.item)?,
+        column: small(place.column)?,
+    })
+}
+
+/// Where a name stands; the last pair with it counts.
+#[tactic(auto, using(crate::proofs::PlaceRules::found))]
+pub(crate) fn place_of(pairs: &[(u32, Place)], name: u32) -> Place
+    ensures { result ≡ spec.place_of pairs.now name }
+{
+    let mut found = nowhere();
+    for pair in pairs {
+        if pair.0 == name {
+            found = pair.1;
+        }
+    }
+    found
+}
+
+/// Where a name stands, if there is one.
+pub(crate) fn at_name(pairs: &[(u32, Place)], name: Option<u32>) -> Place
+    ensures { result ≡ spec.at_name (spec.place_of pairs.now) name }
+{
+    match name {
+        None => nowhere(),
+        Some(name) => place_of(pairs, name),
+    }
+}
+
+/// Where each name of a list stands.
+pub(crate) fn places_of(
+    alloc: Global,
+    pairs: &[(u32, Place)],
+    names: &[u32],
+) -> Result<Items<Place>, NoMemory>
+    ensures { IfOk result (λ list. list ≡ map (spec.place_of pairs.now) names.now) }
+{
+    let mut list = Items::new(alloc);
+    for name in names {
+        list.push(place_of(pairs, *name))?;
+    }
+    Ok(list)
+}
+
+/// The places of a row's columns, behind the flag and the label.
+pub(crate) fn row_places(alloc: Global, columns: &[u32]) -> Result<Items<Place>, NoMemory>
+    ensures { IfOk result (λ list. list ≡ map spec.row_place columns.now) }
+{
+    let mut list = Items::new(alloc);
+    for column in columns {
+        list.push(Place {
+            depth: 0,
+            item: 0,
+            column: *column as usize + 2,
+        })?;
+    }
+    Ok(list)
+}
+
+/// Each key at its place. The first of equal keys counts.
+pub(crate) fn keys_at(
+    alloc: Global,
+    keys: &[u32],
+    places: &[Place],
+) -> Result<Items<(u32, Place)>, NoMemory>
+    ensures { IfOk result (λ pairs. spec.place_of pairs ≡ spec.at_keys keys.now places.now) }
+{
+    let mut pairs = Items::new(alloc);
+    let mut left = keys.len();
+    while left > 0 {
+        left -= 1;
+        if left < places.len() {
+            pairs.push((keys[left], places[left]))?;
+        }
+    }
+    Ok(pairs)
+}
+
+/// The parameters of a block at the places of what is passed.
+pub(crate) fn entered(
+    alloc: Global,
+    pairs: &[(u32, Place)],
+    params: &[u32],
+    args: &[u32],
+) -> Result<Items<(u32, Place)>, NoMemory>
+    ensures { IfOk result (λ list. spec.place_of list ≡ paired (spec.place_of pairs.now) spec.nowhere params.now args.now) }
+{
+    let places = places_of(alloc, pairs, args)?;
+    keys_at(alloc, params, places.as_slice())
+}
+
+/// The parameters of a label's block at the columns of the row.
+pub(crate) fn on_row(
+    alloc: Global,
+    params: &[u32],
+    columns: &[u32],
+) -> Result<Items<(u32, Place)>, NoMemory>
+    ensures { IfOk result (λ list. spec.place_of list ≡ paired spec.row_place spec.nowhere params.now columns.now) }
+{
+    let places = row_places(alloc, columns)?;
+    keys_at(alloc, params, places.as_slice())
+}
+
+/// What stands beside the first key that is the number.
+#[tactic(auto, using(crate::proofs::PlaceRules::beside_rules))]
+pub(crate) fn beside(keys: &[u32], names: &[u32], number: u32) -> Option<u32>
+    ensures { result ≡ spec.beside keys.now names.now number }
+{
+    for i in 0..keys.len() {
+        if i >= names.len() {
+            return None;
+        }
+        if keys[i] == number {
+            return Some(names[i]);
+        }
+    }
+    None
+}

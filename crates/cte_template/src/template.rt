@@ -1,0 +1,188 @@
+//! The whole query.
+
+ghost use Rattle.std.specs.Prelude.{◌≡◌, IfOk, length};
+ghost use Rattle.block_forms.specs.Expressions.{expressions};
+ghost use Rattle.block_forms.specs.Lowered.{Lowered};
+ghost use Rattle.block_forms.specs.Named.{Named};
+ghost use Rattle.block_forms.specs.Places.{Each};
+ghost use Rattle.call_forms.specs.Called.{Called};
+ghost use Rattle.call_forms.specs.Columned.{Columned};
+ghost use Rattle.call_forms.specs.Merged.{Merged};
+ghost use Rattle.call_forms.specs.Templated.{Templated};
+ghost use Rattle.cte_template.specs.Making.{making};
+ghost use Rattle.cte_template.specs.Terms.{FailsByClass};
+ghost use Rattle.cte_template.specs.Tree as spec;
+
+use crate::body::{behind, body_of};
+use crate::names::{Known, row_names};
+use crate::numbers::{after, sum};
+use crate::places::on_row;
+use crate::rows::{add_arguments, all_columns};
+use crate::trees::{
+    add, alone, col, equal, not, null, number, only, select, subquery, truth, working,
+};
+use crate::writer::{Writer, label_of, params_of, places_at};
+use away_trees::{Expr, FromItem, Query, Recursive, Select, Source};
+use away_types::CheckedFunction;
+use away_values::{NoMemory, Ty};
+use block_forms::{ExprTable, Goto, Ssa};
+use call_forms::{Anf, Tail};
+use sqlite_items::Items;
+use std::alloc::Global;
+
+/// Whether the row is at the label with this number.
+fn at_label(alloc: Global, w: &Writer<'_>, label: usize) -> Result<Expr, NoMemory>
+    ensures { IfOk result (λ e. e ≡ spec.at_label (making w.now) label) }
+{
+    equal(alloc, col(2, 0, 1)?, number(alloc, label)?)
+}
+
+/// The branch of a label, counted from 0.
+fn branch(alloc: Global, w: &Writer<'_>, label: usize, block: u32) -> Result<Select, NoMemory>
+    requires classes { Each FailsByClass w.now.anf.now.blocks }
+    ensures { IfOk result (λ s. s ≡ spec.branch (making w.now) label block) }
+{
+    let mut draft = behind(alloc, 1, at_label(alloc, w, after(label)?)?)?;
+    let params = params_of(w, block as usize);
+    let pairs = on_row(alloc, params, places_at(w, label))?;
+    let most = w.anf.blocks.len();
+    let list = body_of(alloc, w, most, 1, block, pairs, &mut draft)?;
+    Ok(select(alloc, list, draft.items, None))
+}
+
+/// The branches of all labels.
+fn branches(alloc: Global, w: &Writer<'_>) -> Result<Items<Select>, NoMemory>
+    requires classes { Each FailsByClass w.now.anf.now.blocks }
+    ensures { IfOk result (λ list. list ≡ spec.branches (making w.now) 0 w.now.tail.now.labels) }
+{
+    let mut list = Items::new(alloc);
+    let labels = w.tail.labels.as_slice();
+    for i in 0..labels.len() {
+        list.push(branch(alloc, w, i, labels[i])?)?;
+    }
+    Ok(list)
+}
+
+/// The first row: the call goes on, at the entry's label, with the arguments, and without a result.
+fn start(alloc: Global, w: &Writer<'_>, entry: u32) -> Result<Select, NoMemory>
+    ensures { IfOk result (λ s. s ≡ spec.start (making w.now) entry) }
+{
+    let label = match label_of(w, entry) {
+        Some(label) => label,
+        None => w.tail.labels.len(),
+    };
+    let mut list = only(alloc, truth(alloc, true)?)?;
+    add(&mut list, number(alloc, after(label)?)?)?;
+    let params = params_of(w, entry as usize);
+    add_arguments(alloc, w, &mut list, places_at(w, label), params)?;
+    add(&mut list, null(alloc, w.result)?)?;
+    add(&mut list, null(alloc, Ty::Text)?)?;
+    Ok(select(alloc, list, Items::new(alloc), None))
+}
+
+/// The rows of the labels.
+fn labels(alloc: Global, w: &Writer<'_>) -> Result<FromItem, NoMemory>
+    requires classes { Each FailsByClass w.now.anf.now.blocks }
+    ensures { IfOk result (λ i. i ≡ spec.label_rows (making w.now)) }
+{
+    let query = subquery(alloc, branches(alloc, w)?)?;
+    Ok(FromItem {
+        source: Source::Sub(query, true),
+        alias: Known::Step.name(alloc)?,
+        columns: row_names(alloc, w.tail.columns.len())?,
+    })
+}
+
+/// The step from a row to the next: the columns of a label's row, while the call goes on.
+fn step(alloc: Global, w: &Writer<'_>, tables: usize) -> Result<Select, NoMemory>
+    requires classes { Each FailsByClass w.now.anf.now.blocks }
+    ensures { IfOk result (λ s. s ≡ spec.step (making w.now) tables) }
+{
+    let mut from = working(alloc, tables, w.tail.columns.len())?;
+    from.push(labels(alloc, w)?)?;
+    let list = all_columns(alloc, w, 1)?;
+    let goes_on = col(0, 0, 0)?;
+    Ok(select(alloc, list, from, Some(goes_on)))
+}
+
+/// The result and the fault of the finished row.
+fn last(alloc: Global, w: &Writer<'_>, tables: usize) -> Result<Select, NoMemory>
+    ensures { IfOk result (λ s. s ≡ spec.last (making w.now) tables) }
+{
+    let columns = w.tail.columns.len();
+    let from = working(alloc, tables, columns)?;
+    let mut list = only(alloc, col(0, 0, sum(columns, 2)?)?)?;
+    add(&mut list, col(0, 0, sum(columns, 3)?)?)?;
+    let over = not(alloc, col(0, 0, 0)?)?;
+    Ok(select(alloc, list, from, Some(over)))
+}
+
+fn working_table(
+    alloc: Global,
+    w: &Writer<'_>,
+    entry: u32,
+    tables: usize,
+) -> Result<Recursive, NoMemory>
+    requires classes { Each FailsByClass w.now.anf.now.blocks }
+    ensures { IfOk result (λ r. r ≡ spec.working_table (making w.now) entry tables) }
+{
+    let name = Known::Table.name(alloc)?;
+    let columns = row_names(alloc, w.tail.columns.len())?;
+    let first = alone(alloc, start(alloc, w, entry)?)?;
+    let second = step(alloc, w, tables)?;
+    Ok(Recursive {
+        name,
+        columns,
+        first,
+        second,
+    })
+}
+
+/// The tree with its names.
+pub(crate) fn tree(
+    alloc: Global,
+    w: &Writer<'_>,
+    entry: u32,
+    tables: usize,
+) -> Result<Query, NoMemory>
+    requires classes { Each FailsByClass w.now.anf.now.blocks }
+    ensures { IfOk result (λ q. q ≡ spec.tree (making w.now) entry tables) }
+{
+    let recursive = working_table(alloc, w, entry, tables)?;
+    let selects = alone(alloc, last(alloc, w, tables)?)?;
+    Ok(Query {
+        recursive: Some(recursive),
+        selects,
+    })
+}
+
+/// The query of a tail form over so many tables, as the check of its text gives it: names of aliases and columns stand in it, and each column stands
+/// by its place.
+pub fn template_tree(
+    alloc: Global,
+    f: &CheckedFunction,
+    g: &Goto,
+    s: &Ssa,
+    a: &Anf,
+    t: &Tail,
+    table: &ExprTable,
+    tables: usize,
+) -> Result<Query, NoMemory>
+    requires lowered { Lowered f.now.function f.now.slots g.now }
+    requires named { Named (length f.now.slots) (length f.now.function.params) g.now s.now }
+    requires called { Called g.now s.now a.now }
+    requires merged { Merged g.now a.now t.now }
+    requires columned { Columned f.now.slots s.now a.now t.now }
+    requires entries { table.now.list ≡ expressions f.now.function }
+    ensures { IfOk result (λ q. Templated f.now.function f.now.slots tables g.now s.now a.now t.now q) }
+{
+    let w = Writer {
+        table: table.list.as_slice(),
+        slots: f.slots.as_slice(),
+        names: s.names.as_slice(),
+        result: f.function.result,
+        anf: a,
+        tail: t,
+    };
+    tree(alloc, &w, g.entry, tables)
+}

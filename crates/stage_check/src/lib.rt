@@ -1,0 +1,8 @@
+//! The checks of all stages in a row, and what acceptance promises.
+#![tactic(auto)]
+
+mod check;
+mod verdict;
+
+pub use check::check_all;
+pub use verdict::{Relation, Verdict};

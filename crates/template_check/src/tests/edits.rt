@@ -1,0 +1,76 @@
+//! A change to one number or one part of a form while it is built.
+
+/// Numbers and parts by the order in which they are built.
+#[derive(Drop)]
+pub struct Edit {
+    changed: Option<(usize, u32)>,
+    left_out: Option<usize>,
+    numbers: usize,
+    parts: usize,
+    same: bool,
+}
+
+impl Edit {
+    pub fn none() -> Edit {
+        Edit {
+            changed: None,
+            left_out: None,
+            numbers: 0,
+            parts: 0,
+            same: false,
+        }
+    }
+
+    /// Another number at this place.
+    pub fn number(place: usize, to: u32) -> Edit {
+        Edit {
+            changed: Some((place, to)),
+            left_out: None,
+            numbers: 0,
+            parts: 0,
+            same: false,
+        }
+    }
+
+    /// The part at this place left out.
+    pub fn without(place: usize) -> Edit {
+        Edit {
+            changed: None,
+            left_out: Some(place),
+            numbers: 0,
+            parts: 0,
+            same: false,
+        }
+    }
+
+    pub fn numbers(&self) -> usize {
+        self.numbers
+    }
+
+    pub fn parts(&self) -> usize {
+        self.parts
+    }
+
+    /// Whether the number that was changed was this already.
+    pub fn changes_nothing(&self) -> bool {
+        self.same
+    }
+
+    pub fn of(&mut self, number: u32) -> u32 {
+        let here = self.numbers;
+        self.numbers = here.saturating_add(1);
+        match self.changed {
+            Some((place, to)) if place == here => {
+                self.same = to == number;
+                to
+            }
+            _ => number,
+        }
+    }
+
+    pub fn keeps(&mut self) -> bool {
+        let here = self.parts;
+        self.parts = here.saturating_add(1);
+        self.left_out != Some(here)
+    }
+}
