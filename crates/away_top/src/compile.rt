@@ -1,16 +1,11 @@
-//! `compile SCHEMA FUNC`.
+//! `compile SCHEMA FUNC` and `certify SCHEMA FUNC`.
 
-ghost use Rattle.away_top.specs.CompileCourse.{compile_course, Compiles};
-ghost use Rattle.away_top.specs.Runs.{IsEnd, Runs};
-ghost use Rattle.away_top.specs.Steps.{run_end};
-ghost use Rattle.std.specs.Prelude.{List, ℕ};
-
-use crate::ending::{Ending, Halt, refused};
+use crate::ending::{Ending, Halt};
 use crate::files::{function_of, schema_of};
 use crate::{Files, Status};
 use away_types::{CheckedFunction, CheckedSchema};
-use one_return::CompileError;
-use std::alloc::Global;
+use cert_json::write_cert;
+use std::alloc::{AllocError, Global};
 
 /// Reads the two files, and writes the function's query over the tables of the schema.
 pub fn compile<F: Files>(
@@ -18,30 +13,55 @@ pub fn compile<F: Files>(
     schema: &str,
     func: &str,
     files: &mut F,
-) -> Result<Ending, Halt>
-    ensures { Runs F.Files files.old (compile_course schema.now func.now) files.new (run_end result) }
-{
+) -> Result<Ending, Halt> {
     let tables = schema_of(alloc, schema, files)?;
     let function = function_of(alloc, &tables, func, files)?;
-    query_of(alloc, &tables, func, function.get())
+    query_of(alloc, &tables, function.get())
 }
 
-/// The function's query, or its refusal.
+/// The function's query.
 fn query_of(
     alloc: Global,
     tables: &CheckedSchema,
-    func: &str,
     function: &CheckedFunction,
-) -> Result<Ending, Halt>
-    ensures { (text : List ℕ) × IsEnd (Compiles func.now tables.now.schema function.now.function text) (run_end result) }
-{
-    let _count = tables.schema.tables.len();
-    match one_return::compile(alloc, function) {
-        Ok(text) => Ok(Ending {
-            status: Status::Done,
-            output: text.into_bytes(),
-        }),
-        Err(CompileError::Unbuilt) => Ok(refused(alloc, func, b"UNBUILT")?),
-        Err(CompileError::NoMemory) => Err(Halt::NoMemory),
-    }
+) -> Result<Ending, Halt> {
+    let compiled = compiling::compile(alloc, tables, function)?;
+    Ok(Ending {
+        status: Status::Done,
+        output: compiled.text.into_bytes(),
+    })
+}
+
+/// Reads the two files, and writes the certificate, a line, and the function's query over the tables of the schema.
+pub fn certify<F: Files>(
+    alloc: Global,
+    schema: &str,
+    func: &str,
+    files: &mut F,
+) -> Result<Ending, Halt> {
+    let tables = schema_of(alloc, schema, files)?;
+    let function = function_of(alloc, &tables, func, files)?;
+    certified(alloc, &tables, function.get())
+}
+
+/// The certificate and the function's query.
+fn certified(
+    alloc: Global,
+    tables: &CheckedSchema,
+    function: &CheckedFunction,
+) -> Result<Ending, Halt> {
+    let compiled = compiling::compile(alloc, tables, function)?;
+    let cert = write_cert(alloc, &compiled.cert)?;
+    Ok(Ending {
+        status: Status::Done,
+        output: line_before(cert, compiled.text.as_str())?,
+    })
+}
+
+/// A line, and a text behind it.
+fn line_before(line: Vec<u8>, text: &str) -> Result<Vec<u8>, AllocError> {
+    let mut output = line;
+    output.push(b'\n')?;
+    output.extend_from_slice(text.as_bytes())?;
+    Ok(output)
 }

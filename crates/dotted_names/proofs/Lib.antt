@@ -1,0 +1,2 @@
+pub mod DottingRules
+pub mod FirstNames

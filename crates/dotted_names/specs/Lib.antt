@@ -1,0 +1,4 @@
+pub mod Sight
+pub mod Dotting
+pub mod Trees
+pub mod Examples

@@ -1,0 +1,1 @@
+//! Queries with names again. A test that finds no memory stops.
