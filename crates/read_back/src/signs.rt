@@ -1,8 +1,13 @@
-//! Whether two queries have the same signs.
+//! Whether lists of signs are equal.
+
+ghost use Rattle.std.specs.Prelude.{◌≡◌, ◌↔◌, IsTrue};
 
 use query_signs::Sign;
 
-fn is_same_sign(a: &Sign, b: &Sign) -> bool {
+/// Whether two signs are equal.
+fn is_same(a: &Sign, b: &Sign) -> bool
+    ensures { IsTrue result ↔ (a.now ≡ b.now) }
+{
     match a {
         Sign::Open(kind) => match b {
             Sign::Open(other) => *kind == *other,
@@ -23,12 +28,14 @@ fn is_same_sign(a: &Sign, b: &Sign) -> bool {
 }
 
 /// Whether two lists of signs are equal.
-pub(crate) fn are_same(a: &[Sign], b: &[Sign]) -> bool {
+pub(crate) fn are_same(a: &[Sign], b: &[Sign]) -> bool
+    ensures { IsTrue result ↔ (a.now ≡ b.now) }
+{
     if a.len() != b.len() {
         return false;
     }
     for i in 0..a.len() {
-        if !is_same_sign(&a[i], &b[i]) {
+        if !is_same(&a[i], &b[i]) {
             return false;
         }
     }
