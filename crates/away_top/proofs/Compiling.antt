@@ -1,10 +1,10 @@
--- The stretches of `compile` make its run, and what a judged file leads to.
+-- The stretches of `compile` and `certify` make their runs, and what a judged file leads to.
 use Rattle.std.proofs.Common.{ℕ, List, [], refl}
 use Rattle.away_trees.specs.declared.schemas.Schema.{Schema}
-use Rattle.away_trees.specs.declared.statements.Function.{Function}
 use Rattle.away_lex.specs.declared.refusals.ReadRefusal.{ReadRefusal}
 use Rattle.away_top.specs.declared.outside.Files.{Ghosts as Files}
 use Rattle.away_top.specs.declared.status.Status.{Status}
+use Rattle.away_top.specs.declared.compile.Wanted.{Wanted}
 use Rattle.away_top.specs.declared.ending.Ending.{Ending}
 use Rattle.away_top.specs.declared.ending.Halt.{Halt}
 use Rattle.away_top.specs.CompileCourse.{Compiles, compile_course}
@@ -25,32 +25,32 @@ pub refused_so : (name : List ℕ) (Some All : List ℕ → Type 0) → ((rule :
     → RefusedBy name Some status output → RefusedBy name All status output
 refused_so name Some All among status output (rule, is, e) = (rule, among rule is, e)
 
--- the run of `compile` ends with the schema's file
-pub schema_stops : {D : Type 0} (F : Files D) (old new : D) (schema func : List ℕ) (halt : Halt) → Follows F old (schema_course schema) new (halt_end halt)
-    → Runs F old (compile_course schema func) new (halt_end halt)
-schema_stops F old new schema func halt first = record {
+-- the run ends with the schema's file
+pub schema_stops : {D : Type 0} (F : Files D) (old new : D) (wanted : Wanted) (schema func : List ℕ) (halt : Halt) → Follows F old (schema_course schema) new (halt_end halt)
+    → Runs F old (compile_course wanted schema func) new (halt_end halt)
+schema_stops F old new wanted schema func halt first = record {
   text = [];
-  follows = stops_early F old new (schema_course schema) (λ tables. and_then (function_course tables func) (λ f. ends (Compiles func tables f.function []))) halt first;
+  follows = stops_early F old new (schema_course schema) (λ tables. and_then (function_course tables func) (λ f. ends (Compiles wanted tables f []))) halt first;
 }
 
-module _ {D : Type 0} (F : Files D) (old middle new : D) (schema func : List ℕ) (tables : Schema) where
-  end_of : (text : List ℕ) (f : Function) (end : End ⊥) → IsEnd (Compiles func tables f text) end → Follows F new (ends (Compiles func tables f text)) new end
+module _ {D : Type 0} (F : Files D) (old middle new : D) (wanted : Wanted) (schema func : List ℕ) (tables : Schema) where
+  end_of : (text : List ℕ) (f : Callable) (end : End ⊥) → IsEnd (Compiles wanted tables f text) end → Follows F new (ends (Compiles wanted tables f text)) new end
   end_of text f end is = record { same = refl; how = is }
 
   -- both files are judged, and the function is compiled
   pub compiles : (f : Callable) (end : End ⊥) → Follows F old (schema_course schema) middle (goes_on tables) → Follows F middle (function_course tables func) new (goes_on f)
-      → ((text : List ℕ) × IsEnd (Compiles func tables f.function text) end) → Runs F old (compile_course schema func) new end
+      → ((text : List ℕ) × IsEnd (Compiles wanted tables f text) end) → Runs F old (compile_course wanted schema func) new end
   compiles f end first second (text, is) = record {
     text = text;
-    follows = goes_further F old middle new (schema_course schema) (λ tables. and_then (function_course tables func) (λ f. ends (Compiles func tables f.function text))) tables end first
-        (goes_further F middle new new (function_course tables func) (λ f. ends (Compiles func tables f.function text)) f end second (end_of text f.function end is));
+    follows = goes_further F old middle new (schema_course schema) (λ tables. and_then (function_course tables func) (λ f. ends (Compiles wanted tables f text))) tables end first
+        (goes_further F middle new new (function_course tables func) (λ f. ends (Compiles wanted tables f text)) f end second (end_of text f end is));
   }
 
   -- the run ends with the function's file
   pub function_stops : (halt : Halt) → Follows F old (schema_course schema) middle (goes_on tables) → Follows F middle (function_course tables func) new (halt_end halt)
-      → Runs F old (compile_course schema func) new (halt_end halt)
+      → Runs F old (compile_course wanted schema func) new (halt_end halt)
   function_stops halt first second = record {
     text = [];
-    follows = goes_further F old middle new (schema_course schema) (λ tables. and_then (function_course tables func) (λ f. ends (Compiles func tables f.function []))) tables (halt_end halt) first
-        (stops_early F middle new (function_course tables func) (λ f. ends (Compiles func tables f.function [])) halt second);
+    follows = goes_further F old middle new (schema_course schema) (λ tables. and_then (function_course tables func) (λ f. ends (Compiles wanted tables f []))) tables (halt_end halt) first
+        (stops_early F middle new (function_course tables func) (λ f. ends (Compiles wanted tables f [])) halt second);
   }

@@ -1,30 +1,32 @@
--- What was written by a run of `compile` that is done.
-use Rattle.std.proofs.Common.{◌≡◌, inl, inr, ℕ, List, Some, IfSome, subst, sym, ◌∙◌}
+-- What was written by a run of `compile` or `certify` that is done.
+use Rattle.std.proofs.Common.{◌≡◌, inl, inr, ℕ, List, [], ◌∷◌, Some, IfSome, refl, subst, sym, ◌∙◌}
 use Rattle.std.specs.declared.option.Option.{Option}
+use Rattle.away_top.specs.declared.compile.Wanted.{Wanted}
+use Rattle.away_top.specs.declared.compile.Wanted.TheVariants.{Query, Certificate}
 use Rattle.away_top.specs.declared.outside.Files.{Ghosts as Files}
 use Rattle.away_top.specs.declared.outside.Sink.{Ghosts as Sink}
 use Rattle.away_top.specs.declared.status.Status.{Status}
 use Rattle.away_top.specs.declared.status.Status.TheVariants.{Done, NoMemory, Refused, ReadFault, WriteFault}
-use Rattle.away_types.specs.FunctionChecks.{resolved_function}
-use Rattle.one_return.specs.Compiled.{IsCompiled}
 use Rattle.away_top.specs.Answer.{Delivers}
 use Rattle.away_top.specs.Commands.{course}
-use Rattle.away_top.specs.CompileCourse.{Compiles, compile_course}
+use Rattle.away_top.specs.CompileCourse.{Compiles, IsWritten, command_of, compile_course}
 use Rattle.away_top.specs.Course.{RefusedBy}
+use Rattle.away_top.specs.Files.{callable_of}
 use Rattle.away_top.specs.Refusals.{IsFunction, IsSchema}
 use Rattle.away_top.specs.Runs.{End, wants_memory, ended, goes_on, Follows, Holds, StopsAt}
 use Rattle.away_top.specs.Translation.{IsTranslation, Translates}
 
-pub translation : (schema func : List ℕ) (s : IsSchema schema) (f : IsFunction s.schema func) (text : List ℕ) → IsCompiled s.schema (resolved_function s.schema f.written) text
-    → IsTranslation schema func text
-translation schema func s f text is = record {
-  tables = s.schema;
-  function = f.written;
-  reads_schema = s.reads_as.reads;
-  tables_unbroken = s.unbroken;
-  reads_function = f.reads_as.reads;
-  function_unbroken = f.unbroken;
-  compiled = is;
+pub translation : (wanted : Wanted) (schema func : List ℕ) (s : IsSchema schema) (f : IsFunction s.schema func) (output : List ℕ) → IsWritten wanted s.schema (callable_of s.schema f.written) output
+    → IsTranslation wanted schema func output
+translation wanted schema func s f output w = record {
+  tables = s;
+  function = f;
+  query = w.is.query;
+  forms = w.forms;
+  text = w.text;
+  compiled = w.is.compiled;
+  equivalent = w.is.equivalent f.written (record { unbroken = f.unbroken; function = refl; slots_are = refl });
+  output_is = w.output_is;
 }
 
 module _ {D : Type 0} (F : Files D) where
@@ -38,34 +40,37 @@ module _ {D : Type 0} (F : Files D) where
   same_bytes : (told : Option (List ℕ)) (limit : ℕ) (bytes known : List ℕ) → told ≡ Some known → Holds told limit bytes → bytes ≡ known
   same_bytes told limit bytes known is holds = subst (λ o. IfSome o (λ h. bytes ≡ h)) is holds.same
 
-  compiled : (schema func : List ℕ) (s : IsSchema schema) (f : IsFunction s.schema func) (name text output : List ℕ) (status : Status) → status ≡ Done
-      → Compiles name s.schema (resolved_function s.schema f.written) text status output → IsTranslation schema func output
-  compiled schema func s f name text output status done (inl refused) = absurd (no_refusal name _ status output done refused)
-  compiled schema func s f name text output status done (inr (is, e)) =
-      subst (IsTranslation schema func) (sym e.1) (translation schema func s f text is)
+  compiled : (wanted : Wanted) (schema func : List ℕ) (s : IsSchema schema) (f : IsFunction s.schema func) (text output : List ℕ) (status : Status)
+      → Compiles wanted s.schema (callable_of s.schema f.written) text status output → IsTranslation wanted schema func output
+  compiled wanted schema func s f text output status (is, e) = subst (IsTranslation wanted schema func) (sym e.1) (translation wanted schema func s f text is)
 
-  pub of_compile : (old new : D) (schema func text tables function output : List ℕ) (status : Status) → status ≡ Done → F.held old schema ≡ Some tables → F.held old func ≡ Some function
-      → Follows F old (compile_course schema func text) new (ended status output) → IsTranslation tables function output
-  of_compile old new schema func text tables function output status done told_schema told_function (inl h) = absurd h.how
-  of_compile old new schema func text tables function output status done told_schema told_function (inr (middle, read, inl h)) = absurd (no_stop old middle schema 67108864 status output done h.how)
-  of_compile old new schema func text tables function output status done told_schema told_function (inr (middle, read, inr (bytes, holds, inl h))) = absurd (no_refusal schema _ status output done h.how)
-  of_compile old new schema func text tables function output status done told_schema told_function (inr (middle, read, inr (bytes, holds, inr (s, inl h)))) = absurd h.how
-  of_compile old new schema func text tables function output status done told_schema told_function (inr (middle, read, inr (bytes, holds, inr (s, inr (last, reread, inl h))))) = absurd (no_stop middle last func 1048576 status output done h.how)
-  of_compile old new schema func text tables function output status done told_schema told_function (inr (middle, read, inr (bytes, holds, inr (s, inr (last, reread, inr (more, held, inl h)))))) = absurd (no_refusal func _ status output done h.how)
-  of_compile old new schema func text tables function output status done told_schema told_function (inr (middle, read, inr (bytes, holds, inr (s, inr (last, reread, inr (more, held, inr (f, h))))))) =
+  pub of_compile : (wanted : Wanted) (old new : D) (schema func text tables function output : List ℕ) (status : Status) → status ≡ Done → F.held old schema ≡ Some tables → F.held old func ≡ Some function
+      → Follows F old (compile_course wanted schema func text) new (ended status output) → IsTranslation wanted tables function output
+  of_compile wanted old new schema func text tables function output status done told_schema told_function (inl h) = absurd h.how
+  of_compile wanted old new schema func text tables function output status done told_schema told_function (inr (middle, read, inl h)) = absurd (no_stop old middle schema 67108864 status output done h.how)
+  of_compile wanted old new schema func text tables function output status done told_schema told_function (inr (middle, read, inr (bytes, holds, inl h))) = absurd (no_refusal schema _ status output done h.how)
+  of_compile wanted old new schema func text tables function output status done told_schema told_function (inr (middle, read, inr (bytes, holds, inr (s, inl h)))) = absurd h.how
+  of_compile wanted old new schema func text tables function output status done told_schema told_function (inr (middle, read, inr (bytes, holds, inr (s, inr (last, reread, inl h))))) = absurd (no_stop middle last func 1048576 status output done h.how)
+  of_compile wanted old new schema func text tables function output status done told_schema told_function (inr (middle, read, inr (bytes, holds, inr (s, inr (last, reread, inr (more, held, inl h)))))) = absurd (no_refusal func _ status output done h.how)
+  of_compile wanted old new schema func text tables function output status done told_schema told_function (inr (middle, read, inr (bytes, holds, inr (s, inr (last, reread, inr (more, held, inr (f, h))))))) =
       let schema_is = same_bytes (F.held old schema) 67108864 bytes tables told_schema holds in
       let function_is = same_bytes (F.held middle func) 1048576 more function (read.kept func function told_function) held in
-      subst (λ b. IsTranslation b function output) schema_is (subst (λ b. IsTranslation bytes b output) function_is (compiled bytes more s f func text output status done h.how))
+      subst (λ b. IsTranslation wanted b function output) schema_is (subst (λ b. IsTranslation wanted bytes b output) function_is (compiled wanted bytes more s f text output status h.how))
 
-module _ {D K : Type 0} (F : Files D) (S : Sink K) (old new : D) (before after : K) (result : Status) where
+of_command : {D : Type 0} (F : Files D) (old new : D) (wanted : Wanted) (schema func text : List ℕ) (end : End ⊥) → Follows F old (course (command_of wanted ∷ schema ∷ func ∷ []) text) new end
+    → Follows F old (compile_course wanted schema func text) new end
+of_command F old new Query schema func text end h = h
+of_command F old new Certificate schema func text end h = h
+
+module _ {D K : Type 0} (F : Files D) (S : Sink K) (old new : D) (before after : K) (result : Status) (wanted : Wanted) where
   pub translated : (words : List (List ℕ)) (text : List ℕ) (end : End ⊥) → Follows F old (course words text) new end → Delivers S before after result end → result ≡ Done
-      → Translates (F.held old) (S.written before) (S.written after) words
+      → Translates wanted (F.held old) (S.written before) (S.written after) words
   translated words text wants_memory h d done = absurd (let wrong : NoMemory ≡ Done = sym d.status_is ∙ done in cc)
   translated words text (goes_on never) h d done = absurd never
   translated words text (ended status output) h (inr broken) done = absurd (let wrong : WriteFault ≡ Done = sym broken.status_is ∙ done in cc)
   translated words text (ended status output) h (inl whole) done = λ schema func tables function is told_schema told_function. (
     output,
-    of_compile F old new schema func text tables function output status (sym whole.status_is ∙ done) told_schema told_function
-        (subst (λ ws. Follows F old (course ws text) new (ended status output)) is h),
+    of_compile F wanted old new schema func text tables function output status (sym whole.status_is ∙ done) told_schema told_function
+        (of_command F old new wanted schema func text (ended status output) (subst (λ ws. Follows F old (course ws text) new (ended status output)) is h)),
     whole.written,
   )

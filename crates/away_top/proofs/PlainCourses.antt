@@ -7,11 +7,11 @@ use Rattle.away_values.specs.declared.values.Answer.{Answer}
 use Rattle.away_values.specs.declared.values.Answer.TheVariants as answer
 use Rattle.away_trees.specs.declared.schemas.Schema.{Schema}
 use Rattle.away_trees.specs.declared.schemas.TableSchema.{TableSchema}
-use Rattle.away_trees.specs.declared.statements.Function.{Function}
+use Rattle.away_top.specs.declared.compile.Wanted.{Wanted}
+use Rattle.away_top.specs.declared.compile.Wanted.TheVariants.{Query, Certificate}
 use Rattle.away_top.specs.declared.outside.Files.{Ghosts as Files}
 use Rattle.away_top.specs.declared.status.Status.{Status}
 use Rattle.away_top.specs.declared.status.Status.TheVariants.{Done, Refused, Usage, ReadFault, WriteFault, NoMemory, More, Fault, NotAccepted, Shape}
-use Rattle.away_types.specs.FunctionChecks.{resolved_function}
 use Rattle.csv_tables.specs.Files.{Or, rows_in}
 use Rattle.sql_meaning.specs.Context.{Rows}
 use Rattle.sql_meaning.specs.Working.{sql}
@@ -19,21 +19,21 @@ use Rattle.plsql_meaning.specs.Equivalent.{answers}
 use Rattle.plsql_run.specs.Settings.{not_nulls}
 use Rattle.away_top.specs.AnswerLines.{answer_end, value_line}
 use Rattle.away_top.specs.Arguments.{bound_of, values_for, values_of}
-use Rattle.away_top.specs.Commands.{about_end, choice, course, other_command, usage, without_more}
+use Rattle.away_top.specs.Commands.{about_end, choice, command_course, course, other_command, usage, without_more}
 use Rattle.cert_json.specs.declared.cert.Cert.{Cert}
 use Rattle.stage_check.specs.declared.verdict.Verdict.TheVariants.{Accepted, Fails}
 use Rattle.away_top.specs.Certificates.{RefusesCert, cert_course}
 use Rattle.away_top.specs.CheckCourse.{IsJudgedSo, check_course, with_function, with_query, with_schema}
 use Rattle.away_top.specs.CompileCourse.{Compiles, compile_course}
 use Rattle.away_top.specs.Course.{Course, and_then, ends, gives, judges, reads, Exactly, RefusedBy}
-use Rattle.away_top.specs.Files.{Callable, function_course, schema_course}
+use Rattle.away_top.specs.Files.{Callable, callable_of, function_course, schema_course}
 use Rattle.away_top.specs.FnCourse.{call_at_bound, call_over_schema, called_course, fn_course, with_arguments}
 use Rattle.away_top.specs.SqlCourse.{Asked, Tells, answer_course, asked_course, at_bound, over_schema, query_course, spelled, sql_course}
 use Rattle.away_top.specs.TableFiles.{IsTableRule, holding, table_course, table_file, tables_behind, tables_course}
 use Rattle.away_top.specs.Help.{help_text, version_text}
 use Rattle.away_top.specs.Lines.{line}
 use Rattle.away_top.specs.Outside.{Rose}
-use Rattle.away_top.specs.Refusals.{RefusesForm, RefusesFunction, RefusesQuery, RefusesSchema}
+use Rattle.away_top.specs.Refusals.{RefusesFunction, RefusesQuery, RefusesSchema}
 use Rattle.away_top.specs.Runs.{ended, Follows}
 
 -- a status that a command ends with by itself
@@ -99,9 +99,8 @@ plain_end s o plain status output e = subst IsPlain (sym e.0) plain
 plain_refusal : (name : List ℕ) (Rules : List ℕ → Type 0) → ArePlain (RefusedBy name Rules)
 plain_refusal name Rules status output (rule, is, e) = subst IsPlain (sym e.0) tt
 
-plain_compiled : (name : List ℕ) (schema : Schema) (f : Function) (text : List ℕ) → ArePlain (Compiles name schema f text)
-plain_compiled name schema f text status output (inl refused) = plain_refusal name (RefusesForm f) status output refused
-plain_compiled name schema f text status output (inr (compiled, e)) = subst IsPlain (sym e.0) tt
+plain_compiled : (wanted : Wanted) (s : Schema) (f : Callable) (text : List ℕ) → ArePlain (Compiles wanted s f text)
+plain_compiled wanted s f text status output (is, e) = subst IsPlain (sym e.0) tt
 
 plain_choice : (b : Bool) (left right : List ℕ → Course ⊥) (text : List ℕ) → IsPlainCourse (left text) → IsPlainCourse (right text) → IsPlainCourse (choice b left right text)
 plain_choice true left right text p q = p
@@ -114,8 +113,13 @@ plain_pair false left right p q = q
 plain_about : (word : List ℕ) → IsPlain (about_end word).0
 plain_about word = plain_pair (bytes_eq word (codes "--help")) (Done, help_text) _ tt (plain_pair (bytes_eq word (codes "--version")) (Done, version_text) (Usage, line (codes "usage")) tt tt)
 
-plain_compile : (schema func text : List ℕ) → IsPlainCourse (compile_course schema func text)
-plain_compile schema func text = λ bytes. (plain_refusal schema (RefusesSchema bytes), λ s more. (plain_refusal func (RefusesFunction s.schema more), λ f. plain_compiled func s.schema (resolved_function s.schema f.written) text))
+plain_compile : (wanted : Wanted) (schema func text : List ℕ) → IsPlainCourse (compile_course wanted schema func text)
+plain_compile wanted schema func text = λ bytes. (plain_refusal schema (RefusesSchema bytes), λ s more. (plain_refusal func (RefusesFunction s.schema more), λ f. plain_compiled wanted s.schema (callable_of s.schema f.written) text))
+
+plain_command : (command schema func text : List ℕ) → IsPlainCourse (command_course command schema func text)
+plain_command command schema func text =
+    plain_choice (bytes_eq command (codes "compile")) (compile_course Query schema func) (choice (bytes_eq command (codes "certify")) (compile_course Certificate schema func) (λ text. usage)) text (plain_compile Query schema func text)
+    (plain_choice (bytes_eq command (codes "certify")) (compile_course Certificate schema func) (λ text. usage) text (plain_compile Certificate schema func text) (plain_end Usage (line (codes "usage")) tt))
 
 -- ---- a query over tables
 
@@ -218,7 +222,7 @@ plain_other command schema func query cert more =
 
 pub plain_course : (words : List (List ℕ)) (text : List ℕ) → IsPlainCourse (course words text)
 plain_course (word ∷ []) text = plain_end (about_end word).0 (about_end word).1 (plain_about word)
-plain_course (command ∷ schema ∷ func ∷ []) text = plain_choice (bytes_eq command (codes "compile")) (compile_course schema func) (λ text. usage) text (plain_compile schema func text) (plain_end Usage (line (codes "usage")) tt)
+plain_course (command ∷ schema ∷ func ∷ []) text = plain_command command schema func text
 plain_course (command ∷ bound ∷ schema ∷ file ∷ dir ∷ args) text =
     plain_either (bytes_eq command (codes "sql")) (sql_course bound schema file dir args)
     (choice (bytes_eq command (codes "fn")) (fn_course bound schema file dir args) (other_command command bound schema file dir args)) (plain_sql bound schema file dir args)

@@ -1,4 +1,4 @@
--- What `compile`, `sql` and `fn` answer over files and a sink in memory that are to meet no failure.
+-- What `compile`, `certify`, `sql` and `fn` answer over files and a sink in memory that are to meet no failure.
 use Rattle.std.specs.Prelude.{◌≡◌, ◌⊎◌, ℕ, ◌≤◌, List, [], ◌∷◌, ◌++◌, length, codes, Ok, Some, IsSome}
 use Rattle.std.specs.List.{AllByRecursion}
 use Rattle.away_trees.specs.declared.schemas.TableSchema.{TableSchema}
@@ -7,13 +7,14 @@ use Rattle.away_top.specs.declared.status.Status.TheVariants.{Done, NoMemory}
 use Rattle.away_top.specs.MemoryFiles.{HeldFiles, held_at}
 use Rattle.away_top.specs.MemorySink.{RoomySink}
 use Rattle.away_types.specs.CheckedQueries.{judged_query}
-use Rattle.away_types.specs.FunctionChecks.{resolved_function}
 use Rattle.csv_tables.specs.Files.{rows_in}
 use Rattle.sql_meaning.specs.Context.{Rows}
+use Rattle.away_top.specs.declared.compile.Wanted.{Wanted}
+use Rattle.away_top.specs.CompileCourse.{command_of}
 use Rattle.away_top.specs.Arguments.{bound_of, values_for, values_of}
 use Rattle.away_top.specs.FunctionAnswers.{IsCalled}
 use Rattle.away_top.specs.QueryAnswers.{Held, IsAnswer, IsAnswered}
-use Rattle.away_top.specs.Refusals.{IsFunction, IsQuery, IsSchema, RefusesForm, RefusesFunction, RefusesQuery, RefusesSchema}
+use Rattle.away_top.specs.Refusals.{IsFunction, IsQuery, IsSchema, RefusesFunction, RefusesQuery, RefusesSchema}
 use Rattle.away_top.specs.TableFiles.{table_file}
 use Rattle.away_top.specs.Translation.{IsTranslation}
 
@@ -22,19 +23,16 @@ pub record IsFitSchema (bytes : List ℕ) : Type 0 where
   pub short : length bytes ≤ 67108864
   pub unrefused : (rule : List ℕ) → ¬ (RefusesSchema bytes rule)
 
--- a function's file is within its limit, and over the schema of these bytes no rule refuses it, nor the function that it
--- reads as
+-- a function's file is within its limit, and over the schema of these bytes no rule refuses it
 pub record IsFitFunction (tables bytes : List ℕ) : Type 0 where
   pub short : length bytes ≤ 1048576
   pub unrefused : (s : IsSchema tables) (rule : List ℕ) → ¬ (RefusesFunction s.schema bytes rule)
-  pub compiled : (s : IsSchema tables) (f : IsFunction s.schema bytes) (rule : List ℕ)
-      → ¬ (RefusesForm (resolved_function s.schema f.written) rule)
 
--- The words are those of `compile`. The two files are held and fit, and no read is to fail.
-pub record MayCompile (files : HeldFiles) (words : List (List ℕ)) (tables function : List ℕ) : Type 0 where
+-- The words are those of the command. The two files are held and fit, and no read is to fail.
+pub record MayCompile (files : HeldFiles) (wanted : Wanted) (words : List (List ℕ)) (tables function : List ℕ) : Type 0 where
   pub schema : List ℕ
   pub func : List ℕ
-  pub words_are : words ≡ codes "compile" ∷ schema ∷ func ∷ []
+  pub words_are : words ≡ command_of wanted ∷ schema ∷ func ∷ []
   pub holds_schema : held_at files.held schema ≡ Some tables
   pub holds_function : held_at files.held func ≡ Some function
   pub fit_schema : IsFitSchema tables
@@ -47,10 +45,10 @@ pub record IsWritten (before after : RoomySink) (result : Status) (text : List �
   pub bytes_are : after.bytes ≡ before.bytes ++ text
 
 -- Memory was wanting, or there is a translation that the call answers with, where the room holds it.
-abbrev pub Translated : RoomySink → RoomySink → Status → List ℕ → List ℕ → Type 0
-Translated before after result tables function =
+abbrev pub Translated : Wanted → RoomySink → RoomySink → Status → List ℕ → List ℕ → Type 0
+Translated wanted before after result tables function =
     (result ≡ NoMemory)
-    ⊎ ((text : List ℕ) × IsTranslation tables function text
+    ⊎ ((text : List ℕ) × IsTranslation wanted tables function text
     × (length text ≤ before.room → IsWritten before after result text))
 
 -- ---- sql

@@ -15,7 +15,6 @@ use Rattle.away_types.specs.CheckedQueries.{query_note}
 use Rattle.away_types.specs.FunctionChecks.{function_note}
 use Rattle.away_types.specs.Refusals.{IsUnbroken}
 use Rattle.away_names.specs.Schemas.{schema_note}
-use Rattle.one_return.specs.Form.{HasForm}
 use Rattle.away_top.specs.Lines.{bad_token, limit_rule, numbered_rule, outside_word}
 
 -- The rule that a reader's refusal is printed as, with its details. Want of memory is no refusal of the file.
@@ -98,9 +97,3 @@ abbrev pub RefusesQuery : Schema → List ℕ → List ℕ → Type 0
 RefusesQuery schema bytes rule =
     RefusesRead (texts.Refuses (ReadsQuery bytes) bytes) rule
     ⊎ ((query : Query) × ReadsAsQuery bytes query × BreaksRule (query_note schema query) rule)
-
--- ---- the form that is compiled
-
--- the function, whose names are resolved, isn't of the form that is compiled
-abbrev pub RefusesForm : Function → List ℕ → Type 0
-RefusesForm function rule = ¬ (HasForm function) × (rule ≡ codes "UNBUILT")

@@ -1,65 +1,94 @@
 //! `compile SCHEMA FUNC` and `certify SCHEMA FUNC`.
 
+ghost use Rattle.std.specs.Prelude.{◌≡◌, ◌++◌, ◌∷◌, ◌↔◌, IfOk, IsTrue, List, string_bytes, ℕ};
+ghost use Rattle.away_top.specs.CompileCourse.{compile_course, Compiles, IsLine, IsOutput};
+ghost use Rattle.away_top.specs.declared.compile.Wanted.TheVariants as made;
+ghost use Rattle.away_top.specs.Files.{as_callable};
+ghost use Rattle.away_top.specs.Runs.{IsEnd, Runs};
+ghost use Rattle.away_top.specs.Steps.{run_end};
+ghost use Rattle.cert_json.specs.Writable.{HasSpelling};
+
 use crate::ending::{Ending, Halt};
 use crate::files::{function_of, schema_of};
 use crate::{Files, Status};
 use away_types::{CheckedFunction, CheckedSchema};
+use away_values::NoMemory;
 use cert_json::write_cert;
+use compiling::Compiled;
 use std::alloc::{AllocError, Global};
 
-/// Reads the two files, and writes the function's query over the tables of the schema.
+/// What is to be written of a compiled function.
+#[derive(Clone, Copy)]
+pub(crate) enum Wanted {
+    /// Its query.
+    Query,
+    /// Its certificate, a line, and behind it the query.
+    Certificate,
+}
+
+/// Reads the two files, and writes what is wanted of the function's query over the tables of the schema.
 pub fn compile<F: Files>(
     alloc: Global,
+    wanted: Wanted,
     schema: &str,
     func: &str,
     files: &mut F,
-) -> Result<Ending, Halt> {
+) -> Result<Ending, Halt>
+    ensures { Runs F.Files files.old (compile_course wanted schema.now func.now) files.new (run_end result) }
+{
     let tables = schema_of(alloc, schema, files)?;
     let function = function_of(alloc, &tables, func, files)?;
-    query_of(alloc, &tables, function.get())
+    written(alloc, wanted, &tables, function.get())
 }
 
-/// The function's query.
-fn query_of(
+/// What is written of a function.
+fn written(
     alloc: Global,
+    wanted: Wanted,
     tables: &CheckedSchema,
     function: &CheckedFunction,
-) -> Result<Ending, Halt> {
+) -> Result<Ending, Halt>
+    ensures { (text : List ℕ) × IsEnd (Compiles wanted tables.now.schema (as_callable function.now) text) (run_end result) }
+{
     let compiled = compiling::compile(alloc, tables, function)?;
     Ok(Ending {
         status: Status::Done,
-        output: compiled.text.into_bytes(),
+        output: output_of(alloc, wanted, compiled)?,
     })
 }
 
-/// Reads the two files, and writes the certificate, a line, and the function's query over the tables of the schema.
-pub fn certify<F: Files>(
-    alloc: Global,
-    schema: &str,
-    func: &str,
-    files: &mut F,
-) -> Result<Ending, Halt> {
-    let tables = schema_of(alloc, schema, files)?;
-    let function = function_of(alloc, &tables, func, files)?;
-    certified(alloc, &tables, function.get())
+/// What is written of a compiled function.
+fn output_of(alloc: Global, wanted: Wanted, compiled: Compiled) -> Result<Vec<u8>, NoMemory>
+    ensures { IfOk result (λ output. HasSpelling compiled.cert → IsOutput wanted compiled.cert (string_bytes compiled.text) output.items) }
+{
+    match wanted {
+        Wanted::Query => Ok(compiled.text.into_bytes()),
+        Wanted::Certificate => certified(alloc, &compiled),
+    }
 }
 
-/// The certificate and the function's query.
-fn certified(
-    alloc: Global,
-    tables: &CheckedSchema,
-    function: &CheckedFunction,
-) -> Result<Ending, Halt> {
-    let compiled = compiling::compile(alloc, tables, function)?;
+/// The certificate of a compiled function, a line, and behind it the query. A certificate of several lines stands for want of memory.
+fn certified(alloc: Global, compiled: &Compiled) -> Result<Vec<u8>, NoMemory>
+    ensures { IfOk result (λ output. HasSpelling compiled.now.cert → IsOutput made.Certificate compiled.now.cert (string_bytes compiled.now.text) output.items) }
+{
     let cert = write_cert(alloc, &compiled.cert)?;
-    Ok(Ending {
-        status: Status::Done,
-        output: line_before(cert, compiled.text.as_str())?,
-    })
+    if !is_line(&cert) {
+        return Err(NoMemory);
+    }
+    Ok(line_before(cert, compiled.text.as_str())?)
+}
+
+/// Whether no byte ends a line.
+fn is_line(bytes: &[u8]) -> bool
+    ensures { IsTrue result ↔ IsLine bytes.now }
+{
+    bytes.iter().all(|byte| *byte != b'\n')
 }
 
 /// A line, and a text behind it.
-fn line_before(line: Vec<u8>, text: &str) -> Result<Vec<u8>, AllocError> {
+fn line_before(line: Vec<u8>, text: &str) -> Result<Vec<u8>, AllocError>
+    ensures { IfOk result (λ output. output.items ≡ line.items ++ (10 ∷ text.now)) }
+{
     let mut output = line;
     output.push(b'\n')?;
     output.extend_from_slice(text.as_bytes())?;

@@ -1,5 +1,10 @@
 //! The forms between a function and its query.
 
+ghost use Rattle.std.specs.Prelude.{◌≡◌, IfOk, length};
+ghost use Rattle.call_forms.specs.Templated.{Templated};
+ghost use Rattle.compiling.specs.Stages.{AreForms};
+
+use crate::spelling::is_short;
 use anf_build::to_calls;
 use away_trees::Query;
 use away_types::CheckedFunction;
@@ -8,15 +13,21 @@ use block_forms::expr_table;
 use cert_json::Cert;
 use cte_template::template_tree;
 use goto_lower::lower;
+use sqlite_items::Boxed;
 use ssa_build::build_ssa;
 use std::alloc::Global;
 use tail_rec::to_tail;
 
 /// The four forms of a function.
-pub(crate) fn forms_of(alloc: Global, f: &CheckedFunction) -> Result<Cert, NoMemory> {
+pub(crate) fn forms_of(alloc: Global, f: &CheckedFunction) -> Result<Cert, NoMemory>
+    ensures { IfOk result (λ c. AreForms f.now.function f.now.slots c) }
+{
     let goto = lower(alloc, f)?;
     let ssa = build_ssa(alloc, f, &goto)?;
     let anf = to_calls(alloc, &goto, &ssa)?;
+    if !is_short(&anf) {
+        return Err(NoMemory);
+    }
     let tail = to_tail(alloc, f, &goto, &ssa, &anf)?;
     Ok(Cert {
         goto,
@@ -30,18 +41,15 @@ pub(crate) fn forms_of(alloc: Global, f: &CheckedFunction) -> Result<Cert, NoMem
 pub(crate) fn tree_of(
     alloc: Global,
     f: &CheckedFunction,
-    forms: &Cert,
+    c: &Cert,
     tables: usize,
-) -> Result<Query, NoMemory> {
+) -> Result<Boxed<Query>, NoMemory>
+    requires forms { AreForms f.now.function f.now.slots c.now }
+    ensures { IfOk result (λ q. Templated f.now.function f.now.slots tables c.now.goto c.now.ssa c.now.anf c.now.tail q) }
+{
     let table = expr_table(alloc, f)?;
-    template_tree(
-        alloc,
-        f,
-        &forms.goto,
-        &forms.ssa,
-        &forms.anf,
-        &forms.tail,
-        &table,
-        tables,
-    )
+    let tree = template_tree(
+        alloc, f, &c.goto, &c.ssa, &c.anf, &c.tail, &table, tables,
+    )?;
+    Ok(Boxed::new(alloc, tree)?)
 }

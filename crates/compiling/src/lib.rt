@@ -1,9 +1,8 @@
 //! From a checked function to the text of its query, with the forms between them.
 #![tactic(auto)]
 
-mod compile;
+mod compiler;
 mod forms;
-mod reading;
-mod signs;
+mod spelling;
 
-pub use compile::{Compiled, compile};
+pub use compiler::{Compiled, compile};

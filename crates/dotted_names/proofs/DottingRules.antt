@@ -1,5 +1,5 @@
 -- A tree with names again, by its parts.
-use Rattle.std.proofs.Common.{◌≡◌, refl, ap, sym, ◌∙◌, ℕ, ℤ, Bool, List, [], ◌∷◌, map, fold, drop, Option, Some, None, option_map}
+use Rattle.std.proofs.Common.{◌≡◌, refl, ap, sym, ◌∙◌, ℕ, ℤ, Bool, List, [], ◌∷◌, map, drop, Option, Some, None, option_map}
 use Rattle.away_values.specs.declared.types.Ty.{Ty}
 use Rattle.away_trees.specs.declared.queries.Col.{Col}
 use Rattle.away_values.specs.declared.operators.ChainOp.{ChainOp}
@@ -16,11 +16,10 @@ use Rattle.away_trees.specs.declared.queries.Recursive.{Recursive}
 use Rattle.away_trees.specs.declared.queries.Query.{Query}
 use Rattle.away_trees.specs.declared.queries.Expr.TheViews.{out-Item, out-FromItem, out-Key, out-Select, out-Recursive, out-Query, roll-Key, roll-Recursive}
 use Rattle.away_trees.specs.declared.queries.Expr.TheViews as view
-use Rattle.away_trees.specs.Algebra.{expr_of, item_of, key_of, from_of, select_of, query_of, recursive_of}
+use Rattle.away_trees.specs.Algebra.{expr_of, item_of, key_of, from_of, select_of, recursive_of}
 use Rattle.away_trees.proofs.Equations as e
 use Rattle.away_names.specs.Lookups.{Name, Level}
 use Rattle.away_names.specs.Naming.{plain_names, before, shaped, of_query}
-use Rattle.away_names.specs.declared.note.Shown.{Shown}
 use Rattle.away_names.proofs.NamingRules.{fold_map, map_map}
 use Rattle.dotted_names.specs.Sight.{Sight, spoken}
 use Rattle.dotted_names.specs.Dotting as d
@@ -33,11 +32,11 @@ all_in : (s : Sight) (es : List Expr) → map (λ t. t s) (map (λ x. expr_of do
 unfolding dotted_expr
 all_in s es = map_map _ _ es
 
-all_links : (s : Sight) (ls : List (ChainOp × Expr)) → map (λ l. (l.0, l.1 s)) (map (λ l. (l.0, expr_of dotting l.1)) ls) ≡ map (dotted_link s) ls
+all_links : (s : Sight) (ls : List (ChainOp × Expr)) → map (λ (l : ChainOp × d.Term). (l.0, l.1 s)) (map (λ l. (l.0, expr_of dotting l.1)) ls) ≡ map (dotted_link s) ls
 unfolding dotted_expr
 all_links s ls = map_map _ _ ls
 
-all_arms : (s : Sight) (as_ : List (Expr × Expr)) → map (λ a. (a.0 s, a.1 s)) (map (λ x. (expr_of dotting x.0, expr_of dotting x.1)) as_) ≡ map (dotted_arm s) as_
+all_arms : (s : Sight) (as_ : List (Expr × Expr)) → map (λ (a : d.Term × d.Term). (a.0 s, a.1 s)) (map (λ x. (expr_of dotting x.0, expr_of dotting x.1)) as_) ≡ map (dotted_arm s) as_
 unfolding dotted_expr
 all_arms s as_ = map_map _ _ as_
 

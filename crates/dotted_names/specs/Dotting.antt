@@ -1,7 +1,6 @@
 -- A query whose columns stand by their places, with names again: each column is the alias of its item, a point and its own name, and a table stands by
 -- its name alone. A tree is a function of the items in sight.
-use Rattle.std.specs.Prelude.{ℕ, List, [], ◌∷◌, ◌++◌, map, fold, drop, Option, Some, None, option_map}
-use Rattle.away_values.specs.declared.operators.ChainOp.{ChainOp}
+use Rattle.std.specs.Prelude.{List, [], ◌∷◌, ◌++◌, map, fold, drop, Option, None, option_map}
 use Rattle.away_trees.specs.declared.queries.Expr.{Expr}
 use Rattle.away_trees.specs.declared.queries.Expr.TheVariants as expr
 use Rattle.away_trees.specs.declared.queries.Source.TheVariants as source
@@ -13,14 +12,13 @@ use Rattle.away_trees.specs.declared.queries.Recursive.{Recursive}
 use Rattle.away_trees.specs.declared.queries.Query.{Query}
 use Rattle.away_trees.specs.declared.queries.Expr.TheOpen.{Expr-F, Source-F, FromItem-F, Item-F, Key-F, Select-F, Recursive-F, Query-F}
 use Rattle.away_trees.specs.declared.queries.Expr.TheOpen as ex
-use Rattle.away_trees.specs.declared.queries.Expr.TheViews.{roll-Item, roll-FromItem, roll-Key, roll-Select, roll-Recursive, roll-Query}
+use Rattle.away_trees.specs.declared.queries.Expr.TheViews.{roll-Item, roll-Key, roll-Select, roll-Recursive, roll-Query}
 use Rattle.away_trees.specs.Algebra.{Algebra}
 use Rattle.away_names.specs.declared.note.Shown.{Shown}
 use Rattle.away_names.specs.declared.note.Column.{Column}
 use Rattle.away_names.specs.declared.note.Framed.{Framed}
 use Rattle.away_names.specs.declared.note.Part.{Part}
 use Rattle.away_names.specs.declared.note.Origin.{Origin}
-use Rattle.away_names.specs.declared.scope.Seen.{Seen}
 use Rattle.away_names.specs.Lookups.{Name, Level}
 use Rattle.away_names.specs.Naming.{plain_names, before, shaped, of_query}
 use Rattle.dotted_names.specs.Sight.{Sight, spoken, column_name}

@@ -1,5 +1,5 @@
 -- What the columns in sight are called.
-use Rattle.std.specs.Prelude.{ℕ, List, map, Option, Some, None, option_map, slice_get}
+use Rattle.std.specs.Prelude.{ℕ, List, map, Option, Some, None, slice_get}
 use Rattle.std.specs.Option.{option_and_then}
 use Rattle.away_trees.specs.declared.queries.Col.{Col}
 use Rattle.away_trees.specs.declared.queries.Expr.{Expr}

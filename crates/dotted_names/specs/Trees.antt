@@ -1,5 +1,5 @@
 -- The trees with names again, by name.
-use Rattle.std.specs.Prelude.{List, [], ◌∷◌, map, fold, Option, option_map}
+use Rattle.std.specs.Prelude.{List, [], map, fold, option_map}
 use Rattle.away_values.specs.declared.operators.ChainOp.{ChainOp}
 use Rattle.away_trees.specs.declared.queries.Expr.{Expr}
 use Rattle.away_trees.specs.declared.queries.Source.{Source}

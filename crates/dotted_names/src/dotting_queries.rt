@@ -80,7 +80,7 @@ fn dotted_recursive(alloc: Global, r: &Recursive, s: &Sight<'_>) -> Result<Recur
 }
 
 #[cycle(dotting)]
-#[tactic(auto, using(crate::proofs::FirstNames::first_rules))]
+#[tactic(auto, using(crate::proofs::FirstNames::one_by_one))]
 fn dotted_selects(
     alloc: Global,
     selects: &[Select],
@@ -101,11 +101,7 @@ fn dotted_selects(
 /// A select, with the names of its columns.
 #[cycle(dotting)]
 #[tactic(auto, using(crate::proofs::DottingRules::select_rule))]
-fn dotted_select(
-    alloc: Global,
-    select: &Select,
-    s: &Sight<'_>,
-) -> Result<Shown<Select>, NoMemory>
+fn dotted_select(alloc: Global, select: &Select, s: &Sight<'_>) -> Result<Shown<Select>, NoMemory>
     ensures { IfOk result (λ x. x ≡ spec.dotted_select select.now (sight s.now)) }
 {
     let Framed { items, seen } = dotted_from(alloc, select.from.as_slice(), s)?;
@@ -143,11 +139,7 @@ fn dotted_over(
 }
 
 #[cycle(dotting)]
-fn dotted_items(
-    alloc: Global,
-    list: &[Item],
-    s: &Sight<'_>,
-) -> Result<Shown<Items<Item>>, NoMemory>
+fn dotted_items(alloc: Global, list: &[Item], s: &Sight<'_>) -> Result<Shown<Items<Item>>, NoMemory>
     ensures { IfOk result (λ x. x ≡ spec.dotted_items (sight s.now) list.now) }
 {
     let mut done = Items::new(alloc);

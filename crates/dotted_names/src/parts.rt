@@ -1,6 +1,6 @@
 //! Items of lists and of FROM, for parts that have names again.
 
-ghost use Rattle.std.specs.Prelude.{◌≡◌, IfOk, drop};
+ghost use Rattle.std.specs.Prelude.{◌≡◌, [], IfOk, drop};
 ghost use Rattle.away_names.specs.Naming.{of_query, plain_names, shaped};
 ghost use Rattle.away_trees.specs.declared.queries.Source.TheVariants as source;
 ghost use Rattle.dotted_names.specs.Dotting as spec;
@@ -16,11 +16,7 @@ use sqlite_items::{Boxed, Items};
 use std::alloc::Global;
 
 /// An item of a list.
-pub(crate) fn entry_of(
-    alloc: Global,
-    alias: &Option<Name>,
-    e: Expr,
-) -> Result<Column, NoMemory>
+pub(crate) fn entry_of(alloc: Global, alias: &Option<Name>, e: Expr) -> Result<Column, NoMemory>
     ensures { IfOk result (λ c. c ≡ spec.entry_of alias.now e) }
 {
     let name = column_name(alloc, alias, &e)?;

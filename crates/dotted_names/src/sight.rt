@@ -4,7 +4,6 @@ ghost use Rattle.std.specs.Prelude.{◌≡◌, IfOk, Some};
 ghost use Rattle.std.specs.Option.{option_copied};
 ghost use Rattle.dotted_names.specs.Sight as spec;
 
-use away_names::listings::copy_alias;
 use away_names::scope::Seen;
 use away_trees::{Col, Expr};
 use away_values::{Name, NoMemory};
@@ -57,11 +56,7 @@ pub fn spoken(alloc: Global, c: Col, s: &Sight<'_>) -> Result<Expr, NoMemory>
 
 /// The name of a list's column.
 #[tactic(auto, unfolding(crate::specs::Sight::column_name))]
-pub fn column_name(
-    alloc: Global,
-    alias: &Option<Name>,
-    e: &Expr,
-) -> Result<Option<Name>, NoMemory>
+pub fn column_name(alloc: Global, alias: &Option<Name>, e: &Expr) -> Result<Option<Name>, NoMemory>
     ensures { IfOk result (λ n. n ≡ spec.column_name alias.now e.now) }
 {
     match alias {

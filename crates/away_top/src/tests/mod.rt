@@ -1,6 +1,7 @@
 //! Runs over files and a sink in memory, and over the system's.
 
 mod checks;
+mod compiled;
 mod functions;
 mod held;
 mod printed_queries;

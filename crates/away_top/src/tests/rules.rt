@@ -57,10 +57,6 @@ fn functions_are_refused_by_the_least_rule(rt: HostRuntime) -> Result<(), Fail> 
             "BEGIN RAISE EXCEPTION SQLSTATE '00000'; END;",
             "refused f.sql X16\n",
         ),
-        (
-            "DECLARE x bigint := 1; BEGIN RETURN x; END;",
-            "refused f.sql UNBUILT\n",
-        ),
     ] {
         let run = compile_body(alloc, body)?;
         assert_eq!(rt; code(&run.status), 1);

@@ -1,8 +1,8 @@
 use Rattle.std.proofs.Common.{◌≡◌, ◌++◌, drop, fold, map}
-use Rattle.away_names.specs.Naming.{first_names}
-use Rattle.dotted_names.specs.Dotting.{with_part, first_of}
+use Rattle.dotted_names.specs.Dotting.{with_part}
 use Rattle.dotted_names.specs.Sight.{sight}
-use Rattle.dotted_names.specs.Trees.{dotted_in, dotted_link, dotted_arm, dotted_item, dotted_key, dotted_part, dotted_select, dotted_from}
+use Rattle.dotted_names.specs.Trees.{dotted_in, dotted_link, dotted_arm, dotted_item, dotted_key, dotted_part, dotted_selects, dotted_from}
+use Rattle.dotted_names.proofs.FirstNames.{next}
 use Rattle.dotted_names.proofs.+dotting.Given as goal
 
 abbrev pub invariant-dotting::dotted_all-loop-e : goal.invariant-dotting::dotted_all-loop-e
@@ -24,10 +24,8 @@ invariant-dotting_queries::dotted_items-loop-item l = record {
 }
 
 abbrev pub invariant-dotting_queries::dotted_selects-loop-select : goal.invariant-dotting_queries::dotted_selects-loop-select
-invariant-dotting_queries::dotted_selects-loop-select l = record {
-  its : l.done ++ map (λ x. x.it) (map (λ x. dotted_select x (sight l.s)) (drop l.select-index l.selects)) ≡ map (λ x. x.it) (map (λ x. dotted_select x (sight l.s)) l.selects);
-  called : first_names l.done l.names (first_of (map (λ x. dotted_select x (sight l.s)) (drop l.select-index l.selects))) ≡ first_of (map (λ x. dotted_select x (sight l.s)) l.selects);
-}
+invariant-dotting_queries::dotted_selects-loop-select l =
+    dotted_selects (sight l.s) l.selects ≡ fold (next (sight l.s)) (record { it = l.done; names = l.names }) (drop l.select-index l.selects)
 
 abbrev pub invariant-dotting_queries::dotted_from-loop-f : goal.invariant-dotting_queries::dotted_from-loop-f
 invariant-dotting_queries::dotted_from-loop-f l = dotted_from (sight l.s) l.from ≡ fold (λ a f. with_part a (dotted_part f (sight l.s) a.seen)) (record { items = l.items; seen = l.seen }) (drop l.f-index l.from)

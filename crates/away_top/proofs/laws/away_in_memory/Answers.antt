@@ -5,10 +5,10 @@ use Rattle.away_top.proofs.QueriesInMemory as queries
 use Rattle.away_top.proofs.laws.away_in_memory.Goals as goal
 
 pub returns-clause-compile : goal.returns-clause-compile
-returns-clause-compile c = λ tables function may none.
+returns-clause-compile c = λ wanted tables function may none.
     let a = c.away.ensures.answer in
-    translated c.args.files.now c.args.out.now c.away.new.out (map string_bytes c.args.words.now) a.text tables function c.away.result _ (λ status output whole. (whole.status_is, whole.written)) may none
-    (a.complete (all_safe c.args.files.now (map string_bytes c.args.words.now) a.text tables function may))
+    translated c.args.files.now wanted c.args.out.now c.away.new.out (map string_bytes c.args.words.now) a.text tables function c.away.result _ (λ status output whole. (whole.status_is, whole.written)) may none
+    (a.complete (all_safe c.args.files.now wanted (map string_bytes c.args.words.now) a.text tables function may))
 
 pub returns-clause-query : goal.returns-clause-query
 returns-clause-query c = λ bound schema query dir args is may none.

@@ -1,0 +1,216 @@
+//! Functions of all statements: each answers as its query does, and its certificate is accepted.
+
+use super::held::{Run, execute};
+use crate::code;
+use std::alloc::{AllocError, Global};
+use std::process::Abort;
+use std::test::Fail;
+
+const SCHEMA: &[u8] =
+    b"CREATE TABLE t (k bigint, v text); CREATE TABLE u (v bigint); CREATE TABLE w (z bigint);";
+
+const COLLATZ: &str =
+    "CREATE FUNCTION public.collatz(n bigint) RETURNS bigint LANGUAGE plpgsql IMMUTABLE AS $$ DECLARE steps bigint := 0; BEGIN WHILE n <> 1 LOOP IF n % 2 = 0 THEN n := n / 2; ELSE n := 3 * n + 1; END IF; steps := steps + 1; END LOOP; RETURN steps; END; $$;";
+
+const TABLES: &str =
+    "CREATE FUNCTION f(x bigint) RETURNS bigint LANGUAGE plpgsql AS $$ BEGIN IF x <> 0 AND 10 / x > 1 THEN RETURN 100 / x + (SELECT max(u.v) FROM u); ELSE RETURN (SELECT count(*) FROM w); END IF; END; $$;";
+
+const SCALAR: &str =
+    "CREATE FUNCTION f(q bigint) RETURNS text LANGUAGE plpgsql AS $$ BEGIN RETURN (SELECT t.v FROM t WHERE t.k = q); END; $$;";
+
+const STEPS: &str =
+    "CREATE FUNCTION f(a bigint) RETURNS bigint LANGUAGE plpgsql AS $$ BEGIN FOR i IN a..3 BY 0 LOOP NULL; END LOOP; RETURN 0; END; $$;";
+
+/// A function, its argument, the turns and the iterations, and the status and the line of both.
+static ROWS: [(&str, &str, &str, &str, u8, &str); 25] = [
+    (COLLATZ, "27", "111", "225", 0, "value 111\n"),
+    (COLLATZ, "27", "110", "224", 6, "more\n"),
+    (COLLATZ, "0", "1000", "1000", 6, "more\n"),
+    (COLLATZ, "\\N", "0", "193", 0, "value 0\n"),
+    (COLLATZ, "9223372036854775807", "1", "385", 7, "fault 22003\n"),
+    (TABLES, "0", "0", "1000", 0, "value 3\n"),
+    (TABLES, "\\N", "0", "1000", 0, "value 3\n"),
+    (TABLES, "4", "0", "1000", 0, "value 34\n"),
+    (SCALAR, "0", "0", "1000", 0, "null\n"),
+    (SCALAR, "1", "0", "1000", 0, "value one\n"),
+    (SCALAR, "2", "0", "1000", 7, "fault 21000\n"),
+    (STEPS, "\\N", "0", "1000", 7, "fault 22004\n"),
+    (STEPS, "1", "0", "1000", 7, "fault 22023\n"),
+    (
+        "CREATE FUNCTION f(a bigint) RETURNS bigint LANGUAGE plpgsql STRICT AS $$ BEGIN RETURN a; END; $$",
+        "\\N",
+        "0",
+        "65",
+        0,
+        "null\n",
+    ),
+    (
+        "CREATE FUNCTION f(a bigint) RETURNS bigint LANGUAGE plpgsql AS $$ BEGIN RETURN a / -1; END; $$",
+        "-9223372036854775808",
+        "0",
+        "65",
+        7,
+        "fault 22003\n",
+    ),
+    (
+        "CREATE FUNCTION f(a text) RETURNS text LANGUAGE plpgsql AS $$ BEGIN RETURN substr(a, -1, 4); END; $$",
+        "h\u{e9}llo",
+        "0",
+        "65",
+        0,
+        "value h\u{e9}\n",
+    ),
+    (
+        "CREATE FUNCTION f(a bigint) RETURNS bigint LANGUAGE plpgsql AS $$ DECLARE x bigint NOT NULL := 1; BEGIN x := a; RETURN x; END; $$",
+        "\\N",
+        "0",
+        "97",
+        7,
+        "fault 22004\n",
+    ),
+    (
+        "CREATE FUNCTION f(a bigint) RETURNS bigint LANGUAGE plpgsql AS $$ DECLARE x bigint; BEGIN x := 1 / 0; RETURN 5; END; $$",
+        "1",
+        "0",
+        "97",
+        7,
+        "fault 22012\n",
+    ),
+    (
+        "CREATE FUNCTION f(a bigint) RETURNS text LANGUAGE plpgsql AS $$ DECLARE r text := ''; BEGIN FOR i IN REVERSE 10..1 BY 3 LOOP r := r || i; END LOOP; RETURN r; END; $$",
+        "1",
+        "4",
+        "1000",
+        0,
+        "value 10741\n",
+    ),
+    (
+        "CREATE FUNCTION f(a bigint) RETURNS bigint LANGUAGE plpgsql AS $$ BEGIN CASE WHEN FALSE THEN RETURN 1; END CASE; END; $$",
+        "1",
+        "0",
+        "1000",
+        7,
+        "fault 20000\n",
+    ),
+    (
+        "CREATE FUNCTION f(a bigint) RETURNS bigint LANGUAGE plpgsql AS $$ BEGIN NULL; END; $$",
+        "1",
+        "0",
+        "1000",
+        7,
+        "fault 2F005\n",
+    ),
+    (
+        "CREATE FUNCTION f(a bigint) RETURNS bigint LANGUAGE plpgsql AS $$ BEGIN RAISE EXCEPTION SQLSTATE 'AB123'; END; $$",
+        "1",
+        "0",
+        "1000",
+        7,
+        "fault AB123\n",
+    ),
+    (
+        "CREATE FUNCTION f(a bigint) RETURNS bigint LANGUAGE plpgsql AS $$ DECLARE s bigint := 0; BEGIN FOR i IN 1..9 LOOP CONTINUE WHEN i % 2 = 0; s := s + i; END LOOP; RETURN s; END; $$",
+        "1",
+        "9",
+        "2000",
+        0,
+        "value 25\n",
+    ),
+    (
+        "CREATE FUNCTION f(a bigint) RETURNS bigint LANGUAGE plpgsql AS $$ DECLARE x bigint := 0; BEGIN RETURN 1; LOOP x := x + 1; END LOOP; END; $$",
+        "1",
+        "0",
+        "113",
+        0,
+        "value 1\n",
+    ),
+    (
+        "CREATE FUNCTION f(a bigint) RETURNS bigint LANGUAGE plpgsql AS $$ DECLARE x bigint := 0; BEGIN RETURN 1; LOOP RETURN x; END LOOP; END; $$",
+        "1",
+        "0",
+        "113",
+        0,
+        "value 1\n",
+    ),
+];
+
+/// A run over the function and the query.
+fn run(alloc: Global, words: &[&str], function: &str, query: &[u8], cert: &[u8]) -> Result<Run, AllocError> {
+    let files: [(&str, &[u8]); 7] = [
+        ("s.sql", SCHEMA),
+        ("f.sql", function.as_bytes()),
+        ("q.sql", query),
+        ("c.json", cert),
+        ("d/t.csv", b"k,v\n1,one\n2,two\n2,zwei\n"),
+        ("d/u.csv", b"v\n5\n9\n\\N\n"),
+        ("d/w.csv", b"z\n1\n2\n3\n"),
+    ];
+    execute(alloc, words, &files, &[], &[])
+}
+
+fn show(rt: &impl Abort, run: &Run, status: u8, output: &str) {
+    assert_eq!(rt; code(&run.status), status);
+    assert_eq!(rt; run.sink.written(), output.as_bytes());
+}
+
+#[test]
+fn functions_answer_as_their_queries(rt: HostRuntime) -> Result<(), Fail> {
+    let alloc = rt.alloc();
+    for (function, argument, turns, iterations, status, output) in &ROWS {
+        let compiled = run(alloc, &["compile", "s.sql", "f.sql"], function, b"", b"")?;
+        assert_eq!(rt; code(&compiled.status), 0);
+        let query = compiled.sink.written();
+        show(
+            &rt,
+            &run(
+                alloc,
+                &["fn", turns, "s.sql", "f.sql", "d", argument],
+                function,
+                query,
+                b"",
+            )?,
+            *status,
+            output,
+        );
+        show(
+            &rt,
+            &run(
+                alloc,
+                &["sql", iterations, "s.sql", "q.sql", "d", argument],
+                function,
+                query,
+                b"",
+            )?,
+            *status,
+            output,
+        );
+    }
+    Ok(())
+}
+
+#[test]
+fn certificates_are_accepted(rt: HostRuntime) -> Result<(), Fail> {
+    let alloc = rt.alloc();
+    for (function, _, _, _, _, _) in &ROWS {
+        let compiled = run(alloc, &["compile", "s.sql", "f.sql"], function, b"", b"")?;
+        let certified = run(alloc, &["certify", "s.sql", "f.sql"], function, b"", b"")?;
+        assert_eq!(rt; code(&certified.status), 0);
+        let mut parts = certified.sink.written().splitn(2, |byte| *byte == b'\n');
+        let cert = parts.next().unwrap_or(b"");
+        let query = parts.next().unwrap_or(b"");
+        assert_eq!(rt; query, compiled.sink.written());
+        show(
+            &rt,
+            &run(
+                alloc,
+                &["check", "s.sql", "f.sql", "q.sql", "c.json"],
+                function,
+                query,
+                cert,
+            )?,
+            0,
+            "accepted\n",
+        );
+    }
+    Ok(())
+}

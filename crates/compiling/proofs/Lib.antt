@@ -1,0 +1,2 @@
+pub mod AllSpelled
+pub mod Telling

@@ -1,0 +1,4 @@
+pub mod Stages
+pub mod Spelled
+pub mod Spoken
+pub mod Compiled

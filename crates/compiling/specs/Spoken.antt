@@ -1,0 +1,25 @@
+-- That a text and a query are those of a tree.
+use Rattle.std.specs.Prelude.{List, length, string_bytes}
+use Rattle.away_grammar.specs.Texts.{ReadsQuery}
+use Rattle.away_trees.specs.declared.queries.Query.{Query}
+use Rattle.away_trees.specs.declared.schemas.Schema.{Schema}
+use Rattle.away_trees.specs.declared.statements.Function.{Function}
+use Rattle.away_types.specs.CheckedQueries.{query_note, resolved_query}
+use Rattle.away_types.specs.declared.slots.Slot.{Slot}
+use Rattle.away_types.specs.Refusals.{IsUnbroken}
+use Rattle.call_forms.specs.Templated.{Templated}
+use Rattle.cert_json.specs.declared.cert.Cert.{Cert}
+use Rattle.compiling.specs.declared.compiler.Spoken.{Spoken}
+use Rattle.read_back.specs.ReadBack.{ReadsBack}
+use Rattle.sql_text.specs.Refusals.{MayBeRead}
+
+-- the text reads as the query, which is the tree under the schema but for names of aliases and columns
+abbrev pub Speaks : Schema → Query → Spoken → Type 0
+Speaks s tree x = ReadsBack s (string_bytes x.text) tree x.query
+
+-- The text reads as the query, which breaks no rule under the schema. With its names resolved it is that of the tail form.
+pub record IsSpokenOf (s : Schema) (f : Function) (slots : List Slot) (c : Cert) (x : Spoken) : Type 0 where
+  pub may_be_read : MayBeRead (string_bytes x.text)
+  pub reads : ReadsQuery (string_bytes x.text) x.query
+  pub unbroken : IsUnbroken (query_note s x.query)
+  pub templated : Templated f slots (length s.tables) c.goto c.ssa c.anf c.tail (resolved_query s x.query)
