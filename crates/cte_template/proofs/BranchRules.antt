@@ -10,7 +10,7 @@ use Rattle.call_forms.specs.Scopes.{Scope, paired}
 use Rattle.cte_template.specs.Making.{Making}
 use Rattle.cte_template.specs.Places.{nowhere, row_place}
 use Rattle.cte_template.specs.Tree.{at_label, branch, branches}
-use Rattle.cte_template.specs.Trees.{gate_as}
+use Rattle.template_parts.specs.Trees.{gate_as}
 use Rattle.cte_template.specs.Walks.{walk, selected, written, rest, from_block, keys_of}
 use Rattle.cte_template.specs.declared.body.Draft.{Draft}
 use Rattle.cte_template.specs.declared.places.Place.{Place}

@@ -11,7 +11,7 @@ use Rattle.cte_template.specs.Making.{Making}
 use Rattle.cte_template.specs.Places.{beside}
 use Rattle.cte_template.specs.Walks.{cell, cells_at, argument, arguments_at}
 use Rattle.cte_template.specs.declared.places.Place.{Place}
-use Rattle.cte_template.proofs.Lists.{one_more_below}
+use Rattle.template_parts.proofs.Lists.{one_more_below}
 
 cells_end : (i depth : ℕ) (places : Scope Place) (keys args : List ℕ) (ts : List Ty) (t : Ty)
     → cells_at i depth places keys args (ts ++ (t ∷ [])) ≡ cells_at i depth places keys args ts ++ (cell depth places t (beside keys args (i + length ts)) ∷ [])

@@ -6,7 +6,7 @@ use Rattle.std.proofs.lemmas.Option.{same_Some}
 use Rattle.std.proofs.lemmas.Bool.{eqb-true, eq-eqb, ne_eqb}
 use Rattle.away_trees.specs.declared.queries.Expr.{Expr}
 use Rattle.call_forms.specs.Scopes.{Scope, paired}
-use Rattle.cte_template.specs.Places.{nowhere, place_or, place_of, stands, at_keys, beside, at_name}
+use Rattle.cte_template.specs.Places.{nowhere, place_or, place_of, stands, at_keys, beside}
 use Rattle.cte_template.specs.declared.places.Place.{Place}
 
 -- ---- the place of a name

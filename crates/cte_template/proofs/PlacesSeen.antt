@@ -1,5 +1,5 @@
 -- Columns by their places are the columns that the template refers to.
-use Rattle.std.proofs.Common.{◌≡◌, refl, ap, sym, ◌∙◌, subst, ℕ, zero, suc, ◌+◌, ◌≤◌, ◌-◌, Bool, true, false, cond, if◌then◌else◌, List, [], ◌∷◌, Option, Some, None, arith}
+use Rattle.std.proofs.Common.{◌≡◌, refl, ap, sym, ◌∙◌, subst, ℕ, zero, suc, ◌+◌, ◌≤◌, ◌-◌, Bool, true, false, cond, if◌then◌else◌, List, [], ◌∷◌, map, Option, Some, None, arith}
 use Rattle.std.specs.Prelude.{nat_eq}
 use Rattle.away_trees.specs.declared.queries.Col.{Col}
 use Rattle.away_trees.specs.declared.queries.Expr.{Expr}
@@ -8,9 +8,10 @@ use Rattle.away_values.specs.declared.types.Ty.{Ty}
 use Rattle.call_forms.specs.Scopes.{Scope, paired}
 use Rattle.call_forms.specs.Template.{refers, here, deeper, outside, no_column, of_row, cells, argument_cells}
 use Rattle.sql_meaning.specs.Trees.{null_of}
+use Rattle.template_parts.specs.Columns.{column_beside}
 use Rattle.cte_template.specs.Making.{Making}
-use Rattle.cte_template.specs.Places.{nowhere, first_of, row_place, seen, stands, beside, at_name}
-use Rattle.cte_template.specs.Walks.{cell, cells_at, argument, arguments_at}
+use Rattle.cte_template.specs.Places.{nowhere, first_of, row_place, seen, stands, beside}
+use Rattle.cte_template.specs.Walks.{column_at, cell, cells_at, argument, arguments_at}
 use Rattle.cte_template.specs.declared.places.Place.{Place}
 
 -- no name stands deeper than the list
@@ -112,11 +113,17 @@ row_shallow = shallow_row
 
 -- ---- slots, cells and arguments
 
+-- the columns of names beside slots
+beside_is : (f : Scope Col) (d : Col) (slots names : List ℕ) (i : ℕ) → column_beside slots (map f names) d i ≡ paired f d slots names i
+unfolding column_beside
+beside_is f d [] names i = refl
+beside_is f d (s ∷ slots) [] i = refl
+beside_is f d (s ∷ slots) (n ∷ names) i = ap (λ c. if nat_eq s i then f n else c) (beside_is f d slots names i)
+
 pub slots_are : (out : ℕ) (places : Scope Place) (slots names : List ℕ) → Shallow (suc out) places
-    → (λ (slot : ℕ). seen (suc (suc out)) (at_name places (beside slots names slot))) ≡ paired (outside (refs_of (suc out) places)) (deeper (no_column out)) slots names
-unfolding beside
+    → column_beside slots (map (column_at (suc (suc out)) places) names) (seen (suc (suc out)) nowhere) ≡ paired (outside (refs_of (suc out) places)) (deeper (no_column out)) slots names
 slots_are out places slots names h =
-    λ i slot. (paired_maps (λ o. seen (suc (suc out)) (at_name places o)) (λ k. Some k) None slots names slot
+    λ i slot. (beside_is (column_at (suc (suc out)) places) (seen (suc (suc out)) nowhere) slots names slot
     ∙ (λ j. paired (λ n. deeper_is (suc out) (places n) (h n) j) ((nowhere_is (suc out) ∙ refl) j) slots names slot)) i
 
 pub cells_are : (i depth : ℕ) (places : Scope Place) (keys args : List ℕ) (ts : List Ty) → cells_at i depth places keys args ts ≡ cells i (refs_of depth places) keys args ts

@@ -25,10 +25,10 @@ use Rattle.sql_meaning.specs.Reads.{slots_of}
 use Rattle.sql_meaning.specs.Template.{gate, let_item, last}
 use Rattle.sql_meaning.specs.Trees.{col, item, select, table_by, lateral, truth, number, null_of}
 use Rattle.cte_template.specs.Making.{Making}
-use Rattle.cte_template.specs.Names.{table_name, step_name, row_names}
-use Rattle.cte_template.specs.Places.{nowhere, first_of, row_place, seen, stands, beside, at_name}
+use Rattle.template_parts.specs.Names.{table_name, step_name, row_names}
+use Rattle.cte_template.specs.Places.{nowhere, first_of, row_place, stands}
 use Rattle.cte_template.specs.Tree as t
-use Rattle.cte_template.specs.Trees.{gate_as, let_as, either_as, working}
+use Rattle.template_parts.specs.Trees.{gate_as, let_as, either_as, working}
 use Rattle.cte_template.specs.Walks.{Walked, selected, walk, value_at, let_at, all_columns}
 use Rattle.cte_template.specs.declared.places.Place.{Place}
 use Rattle.cte_template.proofs.Nameless.{from_bare, select_bare, same_lateral, same_gate, same_let, same_selects, same_either, same_select}

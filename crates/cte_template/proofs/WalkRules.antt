@@ -22,7 +22,7 @@ use Rattle.sql_meaning.specs.Trees.{col, item, null_of}
 use Rattle.cte_template.specs.Making.{Making}
 use Rattle.cte_template.specs.Places.{nowhere, first_of, stands}
 use Rattle.cte_template.specs.Steps.{arm_of, select_of}
-use Rattle.cte_template.specs.Trees.{gate_as, either_as}
+use Rattle.template_parts.specs.Trees.{gate_as, either_as}
 use Rattle.cte_template.specs.Walks.{Walked, ended, selected, walk, let_at, end_row, call_row, keys_of, all_columns, class_text, rest, written, from_block, from_end, from_call, from_set}
 use Rattle.cte_template.specs.declared.body.Gated.{Gated}
 use Rattle.cte_template.specs.declared.body.Draft.{Draft}

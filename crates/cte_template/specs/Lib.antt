@@ -1,12 +1,6 @@
-pub mod Names
-pub mod Known
 pub mod Places
-pub mod Occurrences
-pub mod Placing
 pub mod Making
-pub mod Trees
 pub mod Walks
 pub mod Steps
 pub mod Tree
-pub mod Terms
 pub mod Laws

@@ -41,8 +41,3 @@ at_keys (k ∷ ks) (p ∷ ps) n = if nat_eq k n then p else at_keys ks ps n
 -- what stands beside the first key that is n
 unfoldable pub beside : List ℕ → List ℕ → ℕ → Option ℕ
 beside keys names n = paired (λ k. Some k) None keys names n
-
--- where a name stands, if there is one
-abbrev pub at_name : Scope Place → Option ℕ → Place
-at_name places None = nowhere
-at_name places (Some n) = places n

@@ -1,5 +1,6 @@
 -- The body of a label as the query has it: the items of its select, its list, and the number of the next alias. Names stand at places.
 use Rattle.std.specs.Prelude.{ℕ, suc, List, [], ◌∷◌, ◌++◌, length, get_or, map, Option, Some, None}
+use Rattle.away_trees.specs.declared.queries.Col.{Col}
 use Rattle.away_trees.specs.declared.queries.Expr.{Expr}
 use Rattle.away_trees.specs.declared.queries.Expr.TheVariants as expr
 use Rattle.away_trees.specs.declared.queries.FromItem.{FromItem}
@@ -20,8 +21,9 @@ use Rattle.sql_meaning.specs.Placed.{placed_at}
 use Rattle.sql_meaning.specs.Reads.{slots_of}
 use Rattle.sql_meaning.specs.Trees.{col, null_of, item}
 use Rattle.cte_template.specs.Making.{Making}
-use Rattle.cte_template.specs.Places.{nowhere, first_of, seen, stands, beside, at_name}
-use Rattle.cte_template.specs.Trees.{gate_as, let_as, either_as}
+use Rattle.template_parts.specs.Columns.{column_beside}
+use Rattle.template_parts.specs.Trees.{gate_as, let_as, either_as}
+use Rattle.cte_template.specs.Places.{nowhere, first_of, seen, stands, beside}
 use Rattle.cte_template.specs.declared.body.Draft.{Draft}
 use Rattle.cte_template.specs.declared.places.Place.{Place}
 
@@ -37,10 +39,14 @@ selected w = roll-Select (record { list = w.list; from = w.items; filter = None;
 abbrev pub ended : List FromItem → List Expr → ℕ → Walked
 ended items list next = record { items = items; list = map item list; next = next }
 
+-- the column of a name, from a list at the depth
+abbrev pub column_at : ℕ → Scope Place → ℕ → Col
+column_at depth places n = seen depth (places n)
+
 -- the column of a name, and NULL of the type where there is none
 abbrev pub cell : ℕ → Scope Place → Ty → Option ℕ → Expr
 cell depth places t None = null_of t
-cell depth places t (Some n) = expr.Column (seen depth (places n))
+cell depth places t (Some n) = expr.Column (column_at depth places n)
 
 -- the cells of columns from the i-th on: of the names in a label's places
 abbrev pub cells_at : ℕ → ℕ → Scope Place → List ℕ → List ℕ → List Ty → List Expr
@@ -52,7 +58,7 @@ module _ (m : Making) where
   abbrev pub value_at : ℕ → Scope Place → Ty → Term → Expr
   value_at depth places t u =
       let e : Expr = get_or m.table u.expr expr.Null in
-      placed_at t (λ slot. seen (suc depth) (at_name places (beside (slots_of e) u.names slot))) e
+      placed_at t (column_beside (slots_of e) (map (column_at (suc depth) places) u.names) (seen (suc depth) nowhere)) e
 
   abbrev pub let_at : ℕ → Scope Place → ℕ → Ty → Term → FromItem
   let_at depth places k t u = let_as k (value_at depth places t u)

@@ -10,16 +10,14 @@ ghost use Rattle.sql_meaning.specs.Trees.{item as item_of, null_of};
 ghost use Rattle.sql_meaning.specs.Trees as tree;
 ghost use Rattle.cte_template.specs.Making.{making};
 ghost use Rattle.cte_template.specs.Places.{place_of as standing, stands, first_of};
-ghost use Rattle.cte_template.specs.Terms.{FailsByClass, EndHasClass};
+ghost use Rattle.template_laws.specs.Terms.{FailsByClass, EndHasClass};
 ghost use Rattle.cte_template.specs.Walks as spec;
 ghost use Rattle.cte_template.specs.Steps as steps;
-ghost use Rattle.cte_template.specs.Trees.{gate_as as gate_item, either_as as either_item};
+ghost use Rattle.template_parts.specs.Trees.{gate_as as gate_item, either_as as either_item};
 
-use crate::numbers::after;
 use crate::places::{Place, entered};
 use crate::rows::{all_columns, call_row, end_row};
 use crate::terms::let_at;
-use crate::trees::{class_text, col, either_as, gate_as, not_true, null, select};
 use crate::writer::{Writer, label_of, params_of, type_of};
 use away_trees::{Expr, FromItem, Item};
 use away_values::{Class, NoMemory, Ty};
@@ -27,6 +25,7 @@ use block_forms::Term;
 use call_forms::{Call, CallEnd};
 use sqlite_items::Items;
 use std::alloc::Global;
+use template_parts::{after, class_text, col, either_as, gate_as, not_true, null, select};
 
 /// The items of a select so far, and the number of the next alias.
 #[derive(Drop)]

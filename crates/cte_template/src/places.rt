@@ -2,14 +2,13 @@
 
 ghost use Rattle.std.specs.Prelude.{◌≡◌, map, IfOk};
 ghost use Rattle.call_forms.specs.Scopes.{paired};
-ghost use Rattle.sql_meaning.specs.Placed.{further};
 ghost use Rattle.cte_template.specs.Places as spec;
 
-use crate::numbers::{small, sum};
 use away_trees::Col;
 use away_values::NoMemory;
 use sqlite_items::Items;
 use std::alloc::Global;
+use template_parts::small;
 
 /// A column of an item of a select. The select of the query's step has depth 0, the branches have depth 1, and each test opens selects that are one
 /// deeper.
@@ -31,13 +30,12 @@ pub(crate) fn nowhere() -> Place
     }
 }
 
-/// The column from a list at a depth, and so many selects further in.
-pub(crate) fn seen(place: Place, depth: usize, inside: usize) -> Result<Col, NoMemory>
-    ensures { IfOk result (λ c. c ≡ further inside (spec.seen depth place)) }
+/// The column from a list at a depth.
+pub(crate) fn seen(place: Place, depth: usize) -> Result<Col, NoMemory>
+    ensures { IfOk result (λ c. c ≡ spec.seen depth place) }
 {
-    let level = sum(depth.saturating_sub(place.depth), inside)?;
     Ok(Col {
-        level: small(level)?,
+        level: small(depth.saturating_sub(place.depth))?,
         item: small(place.item)?,
         column: small(place.column)?,
     })
@@ -55,16 +53,6 @@ pub(crate) fn place_of(pairs: &[(u32, Place)], name: u32) -> Place
         }
     }
     found
-}
-
-/// Where a name stands, if there is one.
-pub(crate) fn at_name(pairs: &[(u32, Place)], name: Option<u32>) -> Place
-    ensures { result ≡ spec.at_name (spec.place_of pairs.now) name }
-{
-    match name {
-        None => nowhere(),
-        Some(name) => place_of(pairs, name),
-    }
 }
 
 /// Where each name of a list stands.

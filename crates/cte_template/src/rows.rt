@@ -6,14 +6,13 @@ ghost use Rattle.cte_template.specs.Making.{making};
 ghost use Rattle.cte_template.specs.Places.{place_of as standing};
 ghost use Rattle.cte_template.specs.Walks as spec;
 
-use crate::numbers::{after, small, sum};
 use crate::places::{Place, beside, place_of, seen};
-use crate::trees::{add, col, null, number, only, truth};
 use crate::writer::{Writer, places_at, type_of};
 use away_trees::{Expr, Item};
 use away_values::{NoMemory, Ty};
 use sqlite_items::Items;
 use std::alloc::Global;
+use template_parts::{add, after, col, null, number, only, small, sum, truth};
 
 /// Adds NULL of each type.
 fn add_nulls(alloc: Global, list: &mut Items<Item>, types: &[Ty]) -> Result<(), NoMemory>
@@ -63,7 +62,7 @@ fn cell(
 {
     match passed {
         None => null(alloc, ty),
-        Some(name) => Ok(Expr::Column(seen(place_of(pairs, name), depth, 0)?)),
+        Some(name) => Ok(Expr::Column(seen(place_of(pairs, name), depth)?)),
     }
 }
 

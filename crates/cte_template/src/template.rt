@@ -10,17 +10,12 @@ ghost use Rattle.call_forms.specs.Columned.{Columned};
 ghost use Rattle.call_forms.specs.Merged.{Merged};
 ghost use Rattle.call_forms.specs.Templated.{Templated};
 ghost use Rattle.cte_template.specs.Making.{making};
-ghost use Rattle.cte_template.specs.Terms.{FailsByClass};
+ghost use Rattle.template_laws.specs.Terms.{FailsByClass};
 ghost use Rattle.cte_template.specs.Tree as spec;
 
 use crate::body::{behind, body_of};
-use crate::names::{Known, row_names};
-use crate::numbers::{after, sum};
 use crate::places::on_row;
 use crate::rows::{add_arguments, all_columns};
-use crate::trees::{
-    add, alone, col, equal, not, null, number, only, select, subquery, truth, working,
-};
 use crate::writer::{Writer, label_of, params_of, places_at};
 use away_trees::{Expr, FromItem, Query, Recursive, Select, Source};
 use away_types::CheckedFunction;
@@ -29,6 +24,10 @@ use block_forms::{ExprTable, Goto, Ssa};
 use call_forms::{Anf, Tail};
 use sqlite_items::Items;
 use std::alloc::Global;
+use template_parts::{
+    Known, add, after, alone, col, equal, not, null, number, only, row_names, select, subquery,
+    sum, truth, working,
+};
 
 /// Whether the row is at the label with this number.
 fn at_label(alloc: Global, w: &Writer<'_>, label: usize) -> Result<Expr, NoMemory>

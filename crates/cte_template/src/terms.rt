@@ -1,32 +1,33 @@
 //! Terms as items of a select.
 
-ghost use Rattle.std.specs.Prelude.{◌≡◌, get_or, IfOk};
-ghost use Rattle.away_trees.specs.declared.queries.Expr.TheVariants as expr;
-ghost use Rattle.sql_meaning.specs.Placed.{placed_at};
+ghost use Rattle.std.specs.Prelude.{◌≡◌, map, IfOk};
 ghost use Rattle.cte_template.specs.Making.{making};
 ghost use Rattle.cte_template.specs.Places.{place_of as standing};
-ghost use Rattle.cte_template.specs.Placing.{column_at};
 ghost use Rattle.cte_template.specs.Walks as spec;
 
-use crate::numbers::after;
-use crate::occurrences::slots_of;
-use crate::places::Place;
-use crate::placing::{Leaves, place_expr};
-use crate::trees::{let_as, null};
+use crate::places::{Place, nowhere, place_of, seen};
 use crate::writer::Writer;
-use away_trees::{Expr, FromItem};
+use away_trees::{Col, Expr, FromItem};
 use away_values::{NoMemory, Ty};
 use block_forms::Term;
+use sqlite_items::Items;
 use std::alloc::Global;
+use template_parts::{after, let_as, null, place};
 
-/// An expression in a place that asks for a type.
-fn place_whole(alloc: Global, ty: Ty, leaves: &Leaves<'_>, e: &Expr) -> Result<Expr, NoMemory>
-    ensures { IfOk result (λ x. x ≡ placed_at ty (column_at leaves.now) e.now) }
+/// The column of each name, from a list at a depth.
+fn columns_of(
+    alloc: Global,
+    depth: usize,
+    pairs: &[(u32, Place)],
+    names: &[u32],
+) -> Result<Items<Col>, NoMemory>
+    ensures { IfOk result (λ list. list ≡ map (spec.column_at depth (standing pairs.now)) names.now) }
 {
-    if matches!(e, Expr::Null) {
-        return null(alloc, ty);
+    let mut list = Items::new(alloc);
+    for name in names {
+        list.push(seen(place_of(pairs, *name), depth)?)?;
     }
-    place_expr(e, alloc, leaves, 0)
+    Ok(list)
 }
 
 /// The expression of a term, one select further in than a list at the depth.
@@ -43,14 +44,10 @@ fn value_at(
     let Some(e) = w.table.get(term.expr as usize) else {
         return null(alloc, ty);
     };
-    let slots = slots_of(alloc, e)?;
-    let leaves = Leaves {
-        slots: slots.as_slice(),
-        names: term.names.as_slice(),
-        pairs,
-        depth: after(depth)?,
-    };
-    place_whole(alloc, ty, &leaves, e)
+    let inside = after(depth)?;
+    let columns = columns_of(alloc, inside, pairs, term.names.as_slice())?;
+    let other = seen(nowhere(), inside)?;
+    place(alloc, ty, e, columns.as_slice(), other)
 }
 
 /// A term as an item of a select.

@@ -6,10 +6,10 @@ use Rattle.sql_meaning.specs.Trees.{item, null_of}
 use Rattle.cte_template.specs.Making.{Making, making}
 use Rattle.cte_template.specs.Places.{place_of}
 use Rattle.cte_template.specs.Steps.{reached, arm_of, select_of}
-use Rattle.cte_template.specs.Terms.{EndHasClass}
-use Rattle.cte_template.specs.Trees.{either_as}
+use Rattle.template_laws.specs.Terms.{EndHasClass}
+use Rattle.template_parts.specs.Trees.{either_as}
 use Rattle.cte_template.specs.Walks.{end_row, rest, written, from_block, from_call, from_end, all_columns}
-use Rattle.cte_template.proofs.Results.{ok_by, ok_by_three}
+use Rattle.template_parts.proofs.Results.{ok_by, ok_by_three}
 use Rattle.cte_template.proofs.WalkRules.{end_go, end_pick, end_return, end_fail, failed_row, unended_row, block_none, block_some, no_blocks, picked_done}
 use Rattle.cte_template.proofs.body.+bodies.Goals as goal
 

@@ -4,7 +4,7 @@ use Rattle.sql_meaning.specs.Trees.{col, item}
 use Rattle.cte_template.specs.Making.{Making, making}
 use Rattle.cte_template.specs.Places.{place_of}
 use Rattle.cte_template.specs.Walks.{end_row, rest, written}
-use Rattle.cte_template.proofs.Results.{ok_by}
+use Rattle.template_parts.proofs.Results.{ok_by}
 use Rattle.cte_template.proofs.WalkRules.{returned_row}
 use Rattle.cte_template.proofs.body.returned.Goals as goal
 

@@ -9,9 +9,9 @@ use Rattle.away_types.specs.declared.slots.Slot.{Slot}
 use Rattle.call_forms.specs.Columned.{type_of_name}
 use Rattle.cte_template.specs.Making.{Making}
 use Rattle.cte_template.specs.Tree.{tree}
-use Rattle.cte_template.proofs.FormTerms.{terms_fit, fails_fit}
-use Rattle.cte_template.proofs.HasTrees.{labels_have_trees}
-use Rattle.cte_template.proofs.Results.{ok_by}
+use Rattle.template_laws.proofs.FormTerms.{terms_fit, fails_fit}
+use Rattle.template_laws.proofs.HasTrees.{labels_have_trees}
+use Rattle.template_parts.proofs.Results.{ok_by}
 use Rattle.cte_template.proofs.TreeIsTemplate.{tree_is_template}
 use Rattle.cte_template.proofs.template.template_tree.Goals as goal
 

@@ -1,0 +1,4 @@
+pub mod PartTerms
+pub mod StatementTerms
+pub mod FormTerms
+pub mod HasTrees

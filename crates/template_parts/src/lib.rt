@@ -1,0 +1,19 @@
+//! What a function's query is made of: its names, its small trees, and the function's expressions with columns for their slots.
+#![tactic(auto)]
+
+mod names;
+mod numbers;
+mod placing;
+mod slots;
+mod trees;
+
+pub use names::{Known, row_names};
+pub use numbers::{after, small, sum};
+pub use placing::place;
+pub use trees::{
+    add, alone, class_text, col, either_as, equal, gate_as, let_as, not, not_true, null, number,
+    only, select, subquery, truth, working,
+};
+
+#[cfg(test)]
+mod tests;
