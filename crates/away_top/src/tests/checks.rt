@@ -3,7 +3,6 @@
 use super::held::{Run, execute};
 use crate::code;
 use std::alloc::{AllocError, Global};
-use std::process::Abort;
 use std::test::Fail;
 
 const FUNCTION: &[u8] =
@@ -217,8 +216,8 @@ static VERDICTS: [(&str, &str, &str, bool, u8, &str); 23] = [
 ];
 
 #[test]
-fn certificates_are_judged(rt: &impl Abort) -> Result<(), Fail> {
-    let alloc = Global;
+fn certificates_are_judged(rt: HostRuntime) -> Result<(), Fail> {
+    let alloc = rt.alloc();
     for (tail, old, new, labels, status, line) in &VERDICTS {
         let mut cert = String::from_str(alloc, FORMS)?;
         cert.push_str(tail)?;
@@ -263,8 +262,8 @@ static QUERIES: [(&str, &str, &str); 7] = [
 ];
 
 #[test]
-fn other_queries_are_not_accepted(rt: &impl Abort) -> Result<(), Fail> {
-    let alloc = Global;
+fn other_queries_are_not_accepted(rt: HostRuntime) -> Result<(), Fail> {
+    let alloc = rt.alloc();
     let mut cert = String::from_str(alloc, FORMS)?;
     cert.push_str(ALL_LABELS)?;
     for (old, new, line) in &QUERIES {

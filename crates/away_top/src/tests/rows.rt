@@ -45,7 +45,7 @@ fn expressions_have_the_fewest_parentheses(rt: HostRuntime) -> Result<(), Fail> 
     let alloc = rt.alloc();
     for (value, expected) in [
         ("a", "away_r.away_c0"),
-        ("((B))", "away_r.away_c1"),
+        ("((B))", "away_r.away_c0"),
         (
             "a - (b - 1)",
             "away_r.away_c0 - (away_r.away_c1 - CAST(1 AS bigint))",
