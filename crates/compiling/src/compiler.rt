@@ -19,12 +19,13 @@ use dotted_names::dotted_query;
 use equivalence::accepted_forms_are_equivalent;
 use read_back::read_back;
 use sql_printer::print_query;
+use sqlite_items::Boxed;
 use std::alloc::Global;
 
 /// A compiled function: its query, the text of it, and the forms between the function and the query.
 #[derive(Drop)]
 pub struct Compiled {
-    pub query: Query,
+    pub query: Boxed<Query>,
     pub text: String,
     pub cert: Cert,
 }
@@ -32,7 +33,7 @@ pub struct Compiled {
 /// A query and its text.
 #[derive(Drop)]
 struct Spoken {
-    query: Query,
+    query: Boxed<Query>,
     text: String,
 }
 
@@ -48,7 +49,10 @@ fn text_of(alloc: Global, s: &CheckedSchema, tree: &Query) -> Result<Spoken, NoM
 {
     let text = printed(alloc, tree)?;
     match read_back(alloc, s, text.as_str(), tree)? {
-        Some(query) => Ok(Spoken { query, text }),
+        Some(query) => Ok(Spoken {
+            query: Boxed::new(alloc, query)?,
+            text,
+        }),
         None => Err(NoMemory),
     }
 }
