@@ -6,3 +6,5 @@ mod signs;
 
 pub use reading::{are_one, read_back};
 
+#[cfg(test)]
+mod tests;
