@@ -48,8 +48,6 @@ pub(crate) fn tree_of(
     ensures { IfOk result (λ q. Templated f.now.function f.now.slots tables c.now.goto c.now.ssa c.now.anf c.now.tail q) }
 {
     let table = expr_table(alloc, f)?;
-    let tree = template_tree(
-        alloc, f, &c.goto, &c.ssa, &c.anf, &c.tail, &table, tables,
-    )?;
+    let tree = template_tree(alloc, f, &c.goto, &c.ssa, &c.anf, &c.tail, &table, tables)?;
     Ok(Boxed::new(alloc, tree)?)
 }

@@ -6,8 +6,7 @@ use sql_text::{read_query, read_schema};
 use std::alloc::Global;
 use std::test::Fail;
 
-const QUERY: &[u8] =
-    b"SELECT a.k + 1, CAST(NULL AS text) FROM t AS a WHERE a.v = 'x'";
+const QUERY: &[u8] = b"SELECT a.k + 1, CAST(NULL AS text) FROM t AS a WHERE a.v = 'x'";
 
 /// A schema of one table.
 fn schema(alloc: Global) -> Option<CheckedSchema> {
@@ -30,9 +29,18 @@ fn a_text_reads_back_as_its_tree(rt: HostRuntime) -> Result<(), Fail> {
         return Ok(());
     };
     for (text, same) in [
-        ("SELECT b.k + 1, CAST(NULL AS text) FROM t AS b WHERE b.v = 'x'", true),
-        ("SELECT b.k + 1, CAST(NULL AS text) FROM t AS b WHERE b.v = 'y'", false),
-        ("SELECT t.k + 1, CAST(NULL AS text) FROM u AS t WHERE t.v = 'x'", false),
+        (
+            "SELECT b.k + 1, CAST(NULL AS text) FROM t AS b WHERE b.v = 'x'",
+            true,
+        ),
+        (
+            "SELECT b.k + 1, CAST(NULL AS text) FROM t AS b WHERE b.v = 'y'",
+            false,
+        ),
+        (
+            "SELECT t.k + 1, CAST(NULL AS text) FROM u AS t WHERE t.v = 'x'",
+            false,
+        ),
         ("SELECT", false),
         ("?", false),
     ] {

@@ -27,7 +27,14 @@ static ROWS: [(&str, &str, &str, &str, u8, &str); 25] = [
     (COLLATZ, "27", "110", "224", 6, "more\n"),
     (COLLATZ, "0", "1000", "1000", 6, "more\n"),
     (COLLATZ, "\\N", "0", "193", 0, "value 0\n"),
-    (COLLATZ, "9223372036854775807", "1", "385", 7, "fault 22003\n"),
+    (
+        COLLATZ,
+        "9223372036854775807",
+        "1",
+        "385",
+        7,
+        "fault 22003\n",
+    ),
     (TABLES, "0", "0", "1000", 0, "value 3\n"),
     (TABLES, "\\N", "0", "1000", 0, "value 3\n"),
     (TABLES, "4", "0", "1000", 0, "value 34\n"),
@@ -135,7 +142,13 @@ static ROWS: [(&str, &str, &str, &str, u8, &str); 25] = [
 ];
 
 /// A run over the function and the query.
-fn run(alloc: Global, words: &[&str], function: &str, query: &[u8], cert: &[u8]) -> Result<Run, AllocError> {
+fn run(
+    alloc: Global,
+    words: &[&str],
+    function: &str,
+    query: &[u8],
+    cert: &[u8],
+) -> Result<Run, AllocError> {
     let files: [(&str, &[u8]); 7] = [
         ("s.sql", SCHEMA),
         ("f.sql", function.as_bytes()),

@@ -6,9 +6,10 @@ use Rattle.read_back.proofs.signs.is_same.Goals as goal
 
 pub returns-in-Open-b : goal.returns-in-Open-b
 returns-in-Open-b c =
-    let told = same_kinds c.in-Open.kind c.in-Open-b.other in
-    (λ yes. c.in-Open.is ∙ (ap sign.Open (told.0 (sym c.eq.ensures ∙ yes)) ∙ sym c.in-Open-b.is),
-    λ e. c.eq.ensures ∙ told.1 (let q : sign.Open c.in-Open.kind ≡ sign.Open c.in-Open-b.other = sym c.in-Open.is ∙ (e ∙ c.in-Open-b.is) in cc))
+    let told = same_kinds c.in-Open.kind c.in-Open-b.other in (
+      λ yes. c.in-Open.is ∙ (ap sign.Open (told.0 (sym c.eq.ensures ∙ yes)) ∙ sym c.in-Open-b.is),
+      λ e. c.eq.ensures ∙ told.1 (let q : sign.Open c.in-Open.kind ≡ sign.Open c.in-Open-b.other = sym c.in-Open.is ∙ (e ∙ c.in-Open-b.is) in cc),
+    )
 
 pub returns-in-Text-b : goal.returns-in-Text-b
 returns-in-Text-b c =
