@@ -1,6 +1,7 @@
 -- `demo N`: the case of a number is compiled, the function and its query are run, and a summary is told.
 use Rattle.std.specs.Prelude.{◌≡◌, ℕ, ◌+◌, ◌*◌, pos, List, [], ◌∷◌, ◌++◌, length, Option, Some, None, Ok, codes}
 use Rattle.std.specs.Fmt.{decimal}
+use Rattle.std.specs.Io.KnownBytes.{Appends}
 use Rattle.std.specs.List.{concat}
 use Rattle.away_values.specs.declared.values.Value.{Value}
 use Rattle.away_values.specs.declared.values.Value.TheVariants.{Int}
@@ -29,6 +30,7 @@ use Rattle.away_top.specs.declared.demo.Trial.{Trial}
 use Rattle.away_top.specs.declared.status.Status.{Status}
 use Rattle.away_top.specs.declared.status.Status.TheVariants.{Done, Usage}
 use Rattle.away_top.specs.AnswerLines.{answer_end}
+use Rattle.away_top.specs.Arguments.{bound_of}
 use Rattle.away_top.specs.Course.{Exactly}
 use Rattle.away_top.specs.Files.{as_callable, callable_of}
 use Rattle.away_top.specs.Lines.{line}
@@ -121,3 +123,20 @@ Shows number text status output = (summary : Summary) × IsSummary number text s
 abbrev pub ShowsWord : Option ℕ → List ℕ → Status → List ℕ → Type 0
 ShowsWord None text = Exactly Usage (line (codes "usage"))
 ShowsWord (Some number) text = Shows number text
+
+-- ---- the whole run
+
+-- the word spells a number, and the output is a summary of its case
+pub record IsShown (word output : List ℕ) : Type 0 where
+  pub number : ℕ
+  pub number_is : bound_of word ≡ Some number
+  pub text : List ℕ
+  pub summary : Summary
+  pub is : IsSummary number text summary
+  pub output_is : output ≡ summary_lines summary
+
+-- Where the words are those of `demo`, a summary of its case was written.
+abbrev pub ShowsCase : Option (List ℕ) → Option (List ℕ) → List (List ℕ) → Type 0
+ShowsCase before after words =
+    (word : List ℕ) → words ≡ codes "demo" ∷ word ∷ []
+    → (output : List ℕ) × IsShown word output × Appends before after output

@@ -207,8 +207,10 @@ fn lines_of(alloc: Global, summary: &Summary) -> Result<Vec<u8>, AllocError>
     push_count(&mut output, b"demo ", summary.number)?;
     push_count(&mut output, b"nodes ", summary.nodes)?;
     push_count(&mut output, b"bytes ", summary.bytes)?;
-    push_both(&mut output, b"function ", &told(alloc, &summary.function)?.output)?;
-    push_both(&mut output, b"query ", &told(alloc, &summary.query)?.output)?;
+    let function = told(alloc, &summary.function)?;
+    push_both(&mut output, b"function ", &function.output)?;
+    let query = told(alloc, &summary.query)?;
+    push_both(&mut output, b"query ", &query.output)?;
     match summary.iterations {
         Some(least) => push_count(&mut output, b"iterations ", least)?,
         None => output.extend_from_slice(b"iterations more\n")?,
