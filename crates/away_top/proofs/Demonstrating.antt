@@ -11,13 +11,44 @@ use Rattle.away_top.specs.Answer.{Delivers}
 use Rattle.away_top.specs.Arguments.{bound_of}
 use Rattle.away_top.specs.Commands.{NumberEnds, course}
 use Rattle.away_top.specs.Course.{ends}
-use Rattle.away_top.specs.DemoCourse.{IsShown, ShowsCase, ShowsWord}
+use Rattle.away_top.specs.declared.demo.Runs.{Runs as DemoRuns}
+use Rattle.away_top.specs.declared.demo.Spoken.{Spoken}
+use Rattle.away_top.specs.declared.demo.Trial.{Trial}
+use Rattle.away_top.specs.DemoCourse.{AreRuns, IsShown, IsSpoken, IsSummary, IsTrial, ShowsCase, ShowsWord, arguments_of, iterations_for}
+use Rattle.away_top.specs.Files.{as_callable, callable_of}
+use Rattle.sql_meaning.specs.AtBound.{rows_of_tables}
 use Rattle.away_top.specs.Runs.{End, wants_memory, ended, goes_on, Follows, IsEnd, Runs}
 
 -- a function within the limit has a small weight
 pub small_weight : (f : Function) → nodes f ≤ 500 → weight f ≤ 8016
 unfolding weight
 small_weight f few = omega arith
+
+-- what was compiled and run makes a summary of the case
+pub summary_is : (number : ℕ) (text : List ℕ) (trial : Trial) (t : IsTrial number trial) (spoken : Spoken) (runs : DemoRuns)
+    → IsSpoken trial.schema.schema (as_callable trial.counted.function) text spoken
+    → AreRuns (as_callable trial.counted.function) spoken.query.query (rows_of_tables trial.tables.list) trial.args (iterations_for trial.counted.weight) runs
+    → IsSummary number text (record { number = trial.number; nodes = trial.counted.nodes; bytes = spoken.bytes; runs = runs })
+summary_is number text trial t spoken runs says ran =
+    let s = t.case.tables.schema in
+    let f = t.case.function.written in
+    let told : IsSpoken s (callable_of s f) text spoken =
+    subst (λ g. IsSpoken s g text spoken) t.reads.function_is (subst (λ x. IsSpoken x (as_callable trial.counted.function) text spoken) t.schema_is says) in
+    let same_rows = subst (λ rows. AreRuns (as_callable trial.counted.function) spoken.query.query rows trial.args (iterations_for trial.counted.weight) runs) t.rows_are ran in
+    let same_args = subst (λ args. AreRuns (as_callable trial.counted.function) spoken.query.query t.case.rows args (iterations_for trial.counted.weight) runs) t.args_are same_rows in
+    let same_most = subst (λ w. AreRuns (as_callable trial.counted.function) spoken.query.query t.case.rows (arguments_of number) (iterations_for w) runs) t.reads.weight_is same_args in
+    let same_function = subst (λ g. AreRuns g spoken.query.query t.case.rows (arguments_of number) (iterations_for (weight f)) runs) t.reads.function_is same_most in
+    record {
+      case = t.case;
+      query = told.is.query;
+      forms = told.forms;
+      compiled = told.is.compiled;
+      equivalent = told.is.equivalent f (record { unbroken = t.case.function.unbroken; function = refl; slots_are = refl });
+      number_is = t.number_is;
+      nodes_are = t.reads.nodes_are;
+      bytes_are = told.bytes_are;
+      runs = subst (λ q. AreRuns (callable_of s f) q t.case.rows (arguments_of number) (iterations_for (weight f)) runs) told.query_is same_function;
+    }
 
 -- the run for a number is that of its words
 pub runs_for_number : {D : Type 0} (F : Files D) (old : D) (command number : List ℕ) (end : End ⊥) → ((text : List ℕ) × IsEnd (NumberEnds command number text) end)

@@ -25,14 +25,17 @@ use Rattle.sql_meaning.specs.AtBound.{rows_of_tables}
 use Rattle.sql_meaning.specs.Context.{Rows}
 use Rattle.sql_meaning.specs.Working.{sql}
 use Rattle.away_top.specs.declared.demo.Counted.{Counted}
+use Rattle.away_top.specs.declared.demo.Runs.{Runs}
+use Rattle.away_top.specs.declared.demo.Spoken.{Spoken}
 use Rattle.away_top.specs.declared.demo.Summary.{Summary}
 use Rattle.away_top.specs.declared.demo.Trial.{Trial}
 use Rattle.away_top.specs.declared.status.Status.{Status}
 use Rattle.away_top.specs.declared.status.Status.TheVariants.{Done, Usage}
 use Rattle.away_top.specs.AnswerLines.{answer_end}
 use Rattle.away_top.specs.Arguments.{bound_of}
+use Rattle.away_top.specs.CompileCourse.{IsCompiledFrom}
 use Rattle.away_top.specs.Course.{Exactly}
-use Rattle.away_top.specs.Files.{as_callable, callable_of}
+use Rattle.away_top.specs.Files.{Callable, as_callable, callable_of}
 use Rattle.away_top.specs.Lines.{line}
 use Rattle.away_top.specs.Refusals.{IsFunction, IsSchema}
 
@@ -78,12 +81,25 @@ pub record IsTrial (number : ℕ) (trial : Trial) : Type 0 where
 abbrev pub turns : ℕ
 turns = 1000000
 
--- the most iterations of a query of a function: as many as an answer within the turns needs
-abbrev pub most_iterations : Function → ℕ
-most_iterations f = (turns + 1) * weight f + 1
+-- the most iterations of the query of a function of this weight: as many as an answer within the turns needs
+abbrev pub iterations_for : ℕ → ℕ
+iterations_for heaviness = (turns + 1) * heaviness + 1
 
--- The text is compiled from the function of the case. The summary tells the number of the case, the nodes of its function, the length of the text, what
--- the function answers within its turns, what the query that the text reads as answers within its iterations, and the least bound at which it does.
+-- the query of the compiled function, with its names resolved, and the length of its text
+pub record IsSpoken (s : Schema) (f : Callable) (text : List ℕ) (spoken : Spoken) : Type 0 where
+  pub forms : Cert
+  pub is : IsCompiledFrom s f forms text
+  pub query_is : spoken.query.query ≡ resolved_query s is.query
+  pub bytes_are : spoken.bytes ≡ length text
+
+-- what the function answers within its turns, what the query answers within so many iterations, and the least bound at which it does
+pub record AreRuns (f : Callable) (q : Query) (rows : List Rows) (args : List Value) (most : ℕ) (runs : Runs) : Type 0 where
+  pub function_is : runs.function ≡ answers f.function (not_nulls f.slots) rows args turns
+  pub query_is : runs.query ≡ sql q rows args most
+  pub iterations_are : IsLength q rows args most runs.iterations
+
+-- The text is compiled from the function of the case, and reads as a query that is equivalent to it. The summary tells the number of the case, the nodes
+-- of its function, the length of the text, and what the function and the query answer over its table and its arguments.
 pub record IsSummary (number : ℕ) (text : List ℕ) (summary : Summary) : Type 0 where
   pub case : Case number
   pub query : Query
@@ -94,10 +110,8 @@ pub record IsSummary (number : ℕ) (text : List ℕ) (summary : Summary) : Type
   pub number_is : summary.number ≡ number
   pub nodes_are : summary.nodes ≡ nodes case.function.written
   pub bytes_are : summary.bytes ≡ length text
-  pub function_is : summary.function
-      ≡ answers (resolved_function case.tables.schema case.function.written) (not_nulls (slots_of case.tables.schema case.function.written)) case.rows (arguments_of number) turns
-  pub query_is : summary.query ≡ sql (resolved_query case.tables.schema query) case.rows (arguments_of number) (most_iterations case.function.written)
-  pub iterations_are : IsLength (resolved_query case.tables.schema query) case.rows (arguments_of number) (most_iterations case.function.written) summary.iterations
+  pub runs : AreRuns (callable_of case.tables.schema case.function.written) (resolved_query case.tables.schema query) case.rows (arguments_of number)
+      (iterations_for (weight case.function.written)) summary.runs
 
 -- ---- its lines
 
@@ -113,7 +127,7 @@ iterations_line (Some least) = count_line (codes "iterations ") least
 abbrev pub summary_lines : Summary → List ℕ
 summary_lines s =
     concat (count_line (codes "demo ") s.number ∷ count_line (codes "nodes ") s.nodes ∷ count_line (codes "bytes ") s.bytes
-    ∷ (codes "function " ++ (answer_end s.function).1) ∷ (codes "query " ++ (answer_end s.query).1) ∷ iterations_line s.iterations ∷ [])
+    ∷ (codes "function " ++ (answer_end s.runs.function).1) ∷ (codes "query " ++ (answer_end s.runs.query).1) ∷ iterations_line s.runs.iterations ∷ [])
 
 -- the end of a run that tells of the case, whatever the two answers are
 abbrev pub Shows : ℕ → List ℕ → Status → List ℕ → Type 0

@@ -1,9 +1,11 @@
 //! `demo N`: the case of a number is compiled, and the function and its query are both run.
 
-ghost use Rattle.std.specs.Prelude.{◌≡◌, ◌++◌, IfOk, List, OnOk, ℕ};
+ghost use Rattle.std.specs.Prelude.{◌≡◌, ◌≤◌, ◌++◌, IfOk, List, OnOk, ℕ};
 ghost use Rattle.away_types.specs.CheckedQueries.{resolved_query};
+ghost use Rattle.away_top.specs.AnswerLines.{answer_end};
 ghost use Rattle.away_top.specs.Arguments.{bound_of as bound_by};
-ghost use Rattle.away_top.specs.DemoCourse.{HasRows, IsSummary, IsTrial, Reads, Shows, ShowsWord, count_line, summary_lines};
+ghost use Rattle.away_top.specs.DemoCourse.{AreRuns, HasRows, IsSpoken, IsSummary, IsTrial, Reads, Shows, ShowsWord, count_line, iterations_for, iterations_line, summary_lines};
+ghost use Rattle.away_top.specs.Files.{as_callable};
 ghost use Rattle.away_top.specs.Refusals.{IsFunction, IsSchema};
 ghost use Rattle.away_top.specs.Runs.{IsEnd};
 ghost use Rattle.away_top.specs.Steps.{run_end};
@@ -50,19 +52,31 @@ pub(crate) struct Trial {
     pub(crate) args: Items<Value>,
 }
 
+/// A compiled function.
+#[derive(Drop)]
+pub(crate) struct Spoken {
+    /// Its query, with its names resolved.
+    pub(crate) query: Boxed<CheckedQuery>,
+    /// The length of its text.
+    pub(crate) bytes: u64,
+}
+
+/// What the function and the query answer.
+#[derive(Drop)]
+pub(crate) struct Runs {
+    pub(crate) function: Answer,
+    pub(crate) query: Answer,
+    /// The least bound at which the query has an answer. None where that exceeds its bound.
+    pub(crate) iterations: Option<u64>,
+}
+
 /// What is told of a case.
 #[derive(Drop)]
 pub(crate) struct Summary {
     pub(crate) number: u64,
     pub(crate) nodes: u64,
-    /// The length of the compiled text.
     pub(crate) bytes: u64,
-    /// What the function answers.
-    pub(crate) function: Answer,
-    /// What the query answers.
-    pub(crate) query: Answer,
-    /// The least bound at which the query has an answer. None where that exceeds its bound.
-    pub(crate) iterations: Option<u64>,
+    pub(crate) runs: Runs,
 }
 
 /// Tells of the case of the number that the word spells.
@@ -133,12 +147,13 @@ fn function_of(
     let Ok(function) = read_function(alloc, bytes) else {
         return Err(NoMemory);
     };
-    let (nodes, weight) = (nodes(&function), weight(&function));
+    let node_count = nodes(&function);
+    let weighed = weight(&function);
     match check_function(alloc, schema, function) {
         Ok(checked) => Ok(Counted {
             function: Boxed::new(alloc, checked)?,
-            nodes,
-            weight,
+            nodes: node_count,
+            weight: weighed,
         }),
         Err(_) => Err(NoMemory),
     }
@@ -168,18 +183,53 @@ fn summary_of(alloc: Global, trial: &Trial) -> Result<Summary, NoMemory>
     requires { IsTrial trial.now.number trial.now }
     ensures { IfOk result (λ summary. (text : List ℕ) × IsSummary trial.now.number text summary) }
 {
-    let function = trial.counted.function.get();
-    let args = trial.args.as_slice();
-    let Compiled { query, text, .. } = compile(alloc, &trial.schema, function)?;
-    let query = resolved(alloc, &trial.schema, query)?;
-    let bound = (TURNS + 1) * trial.counted.weight + 1;
+    let spoken = spoken_of(alloc, &trial.schema, trial.counted.function.get())?;
+    let most = most_iterations(trial.counted.weight);
     Ok(Summary {
         number: trial.number,
         nodes: trial.counted.nodes,
+        bytes: spoken.bytes,
+        runs: runs_of(alloc, trial, spoken.query.get(), most)?,
+    })
+}
+
+/// The most iterations of the query of a function of this weight.
+fn most_iterations(weight: u64) -> u64
+    requires { weight ≤ 8016 }
+    ensures { result ≡ iterations_for weight }
+{
+    (TURNS + 1) * weight + 1
+}
+
+/// The answers of the function and of the query.
+fn runs_of(
+    alloc: Global,
+    trial: &Trial,
+    query: &CheckedQuery,
+    most: u64,
+) -> Result<Runs, NoMemory>
+    ensures { IfOk result (AreRuns (as_callable trial.now.counted.function) query.now.query (rows_of_tables trial.now.tables.list) trial.now.args most) }
+{
+    let args = trial.args.as_slice();
+    Ok(Runs {
+        function: run_function(alloc, trial.counted.function.get(), &trial.tables, args, TURNS)?,
+        query: run_query(alloc, &query.query, &trial.tables, args, most)?,
+        iterations: query_length(alloc, &query.query, &trial.tables, args, most)?,
+    })
+}
+
+/// The function, compiled.
+fn spoken_of(
+    alloc: Global,
+    schema: &CheckedSchema,
+    function: &CheckedFunction,
+) -> Result<Spoken, NoMemory>
+    ensures { IfOk result (λ spoken. (text : List ℕ) × IsSpoken schema.now.schema (as_callable function.now) text spoken) }
+{
+    let Compiled { query, text, .. } = compile(alloc, schema, function)?;
+    Ok(Spoken {
+        query: resolved(alloc, schema, query)?,
         bytes: text.len() as u64,
-        function: run_function(alloc, function, &trial.tables, args, TURNS)?,
-        query: run_query(alloc, &query.query, &trial.tables, args, bound)?,
-        iterations: query_length(alloc, &query.query, &trial.tables, args, bound)?,
     })
 }
 
@@ -188,11 +238,11 @@ fn resolved(
     alloc: Global,
     schema: &CheckedSchema,
     query: Boxed<Query>,
-) -> Result<CheckedQuery, NoMemory>
+) -> Result<Boxed<CheckedQuery>, NoMemory>
     ensures { IfOk result (λ c. c.query ≡ resolved_query schema.now.schema query) }
 {
     match check_query(alloc, schema, query.into_inner()) {
-        Ok(checked) => Ok(checked),
+        Ok(checked) => Ok(Boxed::new(alloc, checked)?),
         Err(_) => Err(NoMemory),
     }
 }
@@ -207,15 +257,33 @@ fn lines_of(alloc: Global, summary: &Summary) -> Result<Vec<u8>, AllocError>
     push_count(&mut output, b"demo ", summary.number)?;
     push_count(&mut output, b"nodes ", summary.nodes)?;
     push_count(&mut output, b"bytes ", summary.bytes)?;
-    let function = told(alloc, &summary.function)?;
-    push_both(&mut output, b"function ", &function.output)?;
-    let query = told(alloc, &summary.query)?;
-    push_both(&mut output, b"query ", &query.output)?;
-    match summary.iterations {
-        Some(least) => push_count(&mut output, b"iterations ", least)?,
-        None => output.extend_from_slice(b"iterations more\n")?,
-    }
+    push_told(alloc, &mut output, b"function ", &summary.runs.function)?;
+    push_told(alloc, &mut output, b"query ", &summary.runs.query)?;
+    push_iterations(&mut output, summary.runs.iterations)?;
     Ok(output)
+}
+
+/// Adds a word and the line of an answer.
+fn push_told(
+    alloc: Global,
+    output: &mut Vec<u8>,
+    word: &[u8],
+    answer: &Answer,
+) -> Result<(), AllocError>
+    ensures { OnOk result (output.new.items ≡ output.old.items ++ (word.now ++ (answer_end answer.now).1)) }
+{
+    let ending = told(alloc, answer)?;
+    push_both(output, word, &ending.output)
+}
+
+/// Adds the line of the iterations.
+fn push_iterations(output: &mut Vec<u8>, iterations: Option<u64>) -> Result<(), AllocError>
+    ensures { OnOk result (output.new.items ≡ output.old.items ++ iterations_line iterations) }
+{
+    match iterations {
+        Some(least) => push_count(output, b"iterations ", least),
+        None => push_both(output, b"iterations ", b"more\n"),
+    }
 }
 
 /// Adds a line of a word and a number.
