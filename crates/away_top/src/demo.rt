@@ -137,11 +137,7 @@ fn schema_of(alloc: Global, bytes: &[u8]) -> Result<CheckedSchema, NoMemory>
     }
 }
 
-fn function_of(
-    alloc: Global,
-    schema: &CheckedSchema,
-    bytes: &[u8],
-) -> Result<Counted, NoMemory>
+fn function_of(alloc: Global, schema: &CheckedSchema, bytes: &[u8]) -> Result<Counted, NoMemory>
     ensures { IfOk result (λ c. (f : IsFunction schema.now.schema bytes.now) × Reads schema.now.schema f.written c) }
 {
     let Ok(function) = read_function(alloc, bytes) else {
@@ -202,17 +198,18 @@ fn most_iterations(weight: u64) -> u64
 }
 
 /// The answers of the function and of the query.
-fn runs_of(
-    alloc: Global,
-    trial: &Trial,
-    query: &CheckedQuery,
-    most: u64,
-) -> Result<Runs, NoMemory>
+fn runs_of(alloc: Global, trial: &Trial, query: &CheckedQuery, most: u64) -> Result<Runs, NoMemory>
     ensures { IfOk result (AreRuns (as_callable trial.now.counted.function) query.now.query (rows_of_tables trial.now.tables.list) trial.now.args most) }
 {
     let args = trial.args.as_slice();
     Ok(Runs {
-        function: run_function(alloc, trial.counted.function.get(), &trial.tables, args, TURNS)?,
+        function: run_function(
+            alloc,
+            trial.counted.function.get(),
+            &trial.tables,
+            args,
+            TURNS,
+        )?,
         query: run_query(alloc, &query.query, &trial.tables, args, most)?,
         iterations: query_length(alloc, &query.query, &trial.tables, args, most)?,
     })

@@ -13,7 +13,9 @@ fn demo(alloc: Global, number: &str) -> Result<Run, AllocError> {
 
 /// The line that begins with the word, without it.
 fn behind<'x>(output: &'x [u8], word: &[u8]) -> Option<&'x [u8]> {
-    output.split(|byte| *byte == b'\n').find_map(|line| line.strip_prefix(word))
+    output
+        .split(|byte| *byte == b'\n')
+        .find_map(|line| line.strip_prefix(word))
 }
 
 fn show_agreement(rt: &impl Abort, run: &Run) {
