@@ -1,5 +1,5 @@
 -- Forms whose blocks and columns can be spelled, place by place, can be spelled as a whole.
-use Rattle.std.proofs.Common.{◌≡◌, ℕ, suc, List, [], ◌∷◌, Some, slice_get, refl}
+use Rattle.std.proofs.Common.{suc, List, [], ◌∷◌, refl}
 use Rattle.std.specs.List.{AllByRecursion}
 use Rattle.block_forms.specs.Places.{Each}
 use Rattle.cert_json.specs.declared.cert.Cert.{Cert}

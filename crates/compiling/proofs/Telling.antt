@@ -1,5 +1,5 @@
 -- What a text that reads as the tree of a function's query tells.
-use Rattle.std.proofs.Common.{◌≡◌, List, length, string_bytes, Result, Ok, Err, IfOk, ◌∙◌}
+use Rattle.std.proofs.Common.{List, length, string_bytes, Result, Ok, Err, IfOk, ◌∙◌}
 use Rattle.away_trees.specs.declared.queries.Query.{Query}
 use Rattle.away_trees.specs.declared.schemas.Schema.{Schema}
 use Rattle.away_trees.specs.declared.statements.Function.{Function}

@@ -1,8 +1,8 @@
 -- Bytes that the reader refuses read as no query that may be read.
-use Rattle.std.proofs.Common.{◌≡◌, ◌≢◌, ℕ, ◌≤◌, ◌<◌, List, Option, Some, None, Result, Ok, Err, IfOk, MatchOption, refl, subst, sym, arith}
+use Rattle.std.proofs.Common.{◌≡◌, ◌≢◌, ℕ, ◌≤◌, ◌<◌, List, Option, Some, None, Result, Ok, Err, IfOk, MatchOption, refl, subst, arith}
 use Rattle.away_grammar.specs.Nesting.{IsNesting}
 use Rattle.away_grammar.specs.Texts.{ReadsQuery}
-use Rattle.away_grammar.specs.Tokens.{Lexeme, Lexes}
+use Rattle.away_grammar.specs.Tokens.{Lexeme}
 use Rattle.away_lex.specs.declared.refusals.ReadRefusal.{ReadRefusal}
 use Rattle.away_lex.specs.declared.refusals.ReadRefusal.TheVariants.{NotText, Token, NoTree, Outside, Limit, NoMemory}
 use Rattle.away_lex.proofs.Reading.{one_list}

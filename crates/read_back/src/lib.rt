@@ -5,6 +5,3 @@ mod reading;
 mod signs;
 
 pub use reading::{are_one, read_back};
-
-#[cfg(test)]
-mod tests;

@@ -1,4 +1,4 @@
-use Rattle.std.proofs.Common.{◌≡◌, IfOk, subst}
+use Rattle.std.proofs.Common.{IfOk, subst}
 use Rattle.call_forms.specs.Templated.{Templated}
 use Rattle.compiling.specs.Spoken.{Speaks}
 use Rattle.compiling.proofs.Telling.{told}

@@ -1,4 +1,4 @@
-use Rattle.std.proofs.Common.{◌≡◌, rules, subst}
+use Rattle.std.proofs.Common.{subst}
 use Rattle.away_grammar.specs.Texts.{ReadsQuery}
 use Rattle.sql_text.specs.Refusals.{Refuses}
 use Rattle.read_back.proofs.Refused.{none_read}

@@ -1,4 +1,3 @@
-use Rattle.std.proofs.Common.{◌≡◌}
 use Rattle.read_back.proofs.Kept.{kept}
 use Rattle.read_back.proofs.reading.read_back.Goals as goal
 

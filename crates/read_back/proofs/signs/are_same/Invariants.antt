@@ -1,4 +1,4 @@
-use Rattle.std.proofs.Common.{◌≡◌, ℕ, ◌<◌, length, take}
+use Rattle.std.proofs.Common.{◌≡◌, take}
 use Rattle.read_back.proofs.signs.are_same.Given as goal
 
 abbrev pub invariant-loop-i : goal.invariant-loop-i
