@@ -167,41 +167,6 @@ fn show(rt: &impl Abort, run: &Run, status: u8, output: &str) {
 }
 
 #[test]
-fn functions_answer_as_their_queries(rt: HostRuntime) -> Result<(), Fail> {
-    let alloc = rt.alloc();
-    for (function, argument, turns, iterations, status, output) in &ROWS {
-        let compiled = run(alloc, &["compile", "s.sql", "f.sql"], function, b"", b"")?;
-        assert_eq!(rt; code(&compiled.status), 0);
-        let query = compiled.sink.written();
-        show(
-            &rt,
-            &run(
-                alloc,
-                &["fn", turns, "s.sql", "f.sql", "d", argument],
-                function,
-                query,
-                b"",
-            )?,
-            *status,
-            output,
-        );
-        show(
-            &rt,
-            &run(
-                alloc,
-                &["sql", iterations, "s.sql", "q.sql", "d", argument],
-                function,
-                query,
-                b"",
-            )?,
-            *status,
-            output,
-        );
-    }
-    Ok(())
-}
-
-#[test]
 fn certificates_are_accepted(rt: HostRuntime) -> Result<(), Fail> {
     let alloc = rt.alloc();
     for (function, _, _, _, _, _) in &ROWS {
