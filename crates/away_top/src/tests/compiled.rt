@@ -166,6 +166,32 @@ fn show(rt: &impl Abort, run: &Run, status: u8, output: &str) {
     assert_eq!(rt; run.sink.written(), output.as_bytes());
 }
 
+/// The function of a row and the query that it was compiled to answer the same.
+fn answers<'x>(
+    rt: &(impl Abort + AllocGlobal),
+    row: &(&'x str, &'x str, &'x str, &'x str, u8, &'x str),
+    query: &'x [u8],
+) -> Result<(), AllocError> {
+    let (function, argument, turns, iterations, status, output) = row;
+    let words = ["fn", turns, "s.sql", "f.sql", "d", argument];
+    let called = run(rt.alloc(), &words, function, query, b"")?;
+    show(rt, &called, *status, output);
+    let words = ["sql", iterations, "s.sql", "q.sql", "d", argument];
+    let asked = run(rt.alloc(), &words, function, query, b"")?;
+    show(rt, &asked, *status, output);
+    Ok(())
+}
+
+#[test]
+fn functions_answer_as_their_queries(rt: HostRuntime) -> Result<(), Fail> {
+    for row in &ROWS {
+        let compiled = run(rt.alloc(), &["compile", "s.sql", "f.sql"], row.0, b"", b"")?;
+        assert_eq!(rt; code(&compiled.status), 0);
+        answers(&rt, row, compiled.sink.written())?;
+    }
+    Ok(())
+}
+
 #[test]
 fn certificates_are_accepted(rt: HostRuntime) -> Result<(), Fail> {
     let alloc = rt.alloc();
