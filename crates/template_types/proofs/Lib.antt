@@ -1,0 +1,10 @@
+pub mod KeptKinds
+pub mod KeptSelects
+pub mod SlotsRead
+pub mod KeptTrees
+pub mod PlacedUses
+pub mod PlacedParameters
+pub mod NullAlone
+pub mod Fine
+pub mod PlacedKinds
+pub mod Rows

@@ -1,0 +1,6 @@
+//! What the types of a compiled query are: placing an expression keeps its type, and the query of a function breaks no rule of types.
+#![tactic(auto)]
+
+mod laws;
+
+pub use laws::placing_keeps_types;
