@@ -20,11 +20,8 @@ use Rattle.away_typing.specs.Kinds.{same, only_if, meet, fits, is_right, of_type
 use Rattle.away_typing.specs.Parameters.{Found, finding}
 use Rattle.away_typing.specs.Typing.{Places, Frame, typing, column, kind_at, cast_kind, castable, passed}
 use Rattle.sql_meaning.specs.Trees.{col, cast_to, number, truth, null_of}
+use Rattle.typed_values.specs.Sorts.{Every}
 use Rattle.template_types.specs.Types.{HasKind}
-
-abbrev pub Every : {A : Type 0} → (A → Type 0) → List A → Type 0
-Every P [] = Unit {0}
-Every P (x ∷ xs) = P x × Every P xs
 
 -- ---- types that expressions have
 

@@ -8,3 +8,4 @@ pub mod NullAlone
 pub mod Fine
 pub mod PlacedKinds
 pub mod Rows
+pub mod NoParameters

@@ -26,7 +26,8 @@ use Rattle.sql_meaning.proofs.Lists.{Zipped}
 use Rattle.template_parts.specs.Names.{alias_name, only_name}
 use Rattle.template_parts.specs.Trees.{lateral_as, only_as}
 use Rattle.template_types.specs.Types.{HasKind}
-use Rattle.template_types.proofs.Fine.{Every, type_right, type_met, type_back, type_fits, Calm, unused_calm, either_calm, all_calm, outside_calm, apart_calm, select_calm, calm_is, Quiet, quiet_is, quiet_then, quiet_all, Fine}
+use Rattle.typed_values.specs.Sorts.{Every}
+use Rattle.template_types.proofs.Fine.{type_right, type_met, type_back, type_fits, Calm, unused_calm, either_calm, all_calm, outside_calm, apart_calm, select_calm, calm_is, Quiet, quiet_is, quiet_then, quiet_all, Fine}
 
 abbrev pub kinds_of : List Ty → List Kind
 kinds_of ts = map of_type ts

@@ -1,6 +1,6 @@
 //! What the types of a compiled query are.
 
-ghost use Rattle.template_types.specs.Laws.{PlacingKeepsKinds, PlacingKeepsParameters, PlacingKeepsUses};
+ghost use Rattle.template_types.specs.Laws.{FixedHaveNoParameters, NamedHaveNoParameters, PlacingKeepsKinds, PlacingKeepsParameters, PlacingKeepsUses};
 
 /// An expression of a function has in a query, where its slots are columns, the type that is asked of it. It uses aggregates and has parameters as in the
 /// function.
@@ -8,4 +8,10 @@ pub fn placing_keeps_types()
     ensures kinds { PlacingKeepsKinds }
     ensures uses { PlacingKeepsUses }
     ensures parameters { PlacingKeepsParameters }
+{}
+
+/// An expression of a function that breaks no rule of names has no parameter, and the fixed entries of the table of expressions have none.
+pub fn expressions_have_no_parameters()
+    ensures named { NamedHaveNoParameters }
+    ensures fixed { FixedHaveNoParameters }
 {}

@@ -3,4 +3,4 @@
 
 mod laws;
 
-pub use laws::placing_keeps_types;
+pub use laws::{expressions_have_no_parameters, placing_keeps_types};
