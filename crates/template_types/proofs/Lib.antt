@@ -9,3 +9,10 @@ pub mod Fine
 pub mod PlacedKinds
 pub mod Rows
 pub mod NoParameters
+pub mod BodyTypes
+pub mod Seen
+pub mod Values
+pub mod WalkTypes
+pub mod TreeTypes
+pub mod StartTypes
+pub mod JudgedTree

@@ -1,6 +1,7 @@
 //! What the types of a compiled query are.
 
 ghost use Rattle.template_types.specs.Laws.{FixedHaveNoParameters, NamedHaveNoParameters, PlacingKeepsKinds, PlacingKeepsParameters, PlacingKeepsUses};
+ghost use Rattle.template_types.specs.Whole.{TreeBreaksNoRule};
 
 /// An expression of a function has in a query, where its slots are columns, the type that is asked of it. It uses aggregates and has parameters as in the
 /// function.
@@ -14,4 +15,9 @@ pub fn placing_keeps_types()
 pub fn expressions_have_no_parameters()
     ensures named { NamedHaveNoParameters }
     ensures fixed { FixedHaveNoParameters }
+{}
+
+/// The query of a function's forms, where names are read as they stand, breaks no rule of types, aggregates, recursion and parameters.
+pub fn queries_break_no_rule_of_types()
+    ensures { TreeBreaksNoRule }
 {}

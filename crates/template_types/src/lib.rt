@@ -3,4 +3,6 @@
 
 mod laws;
 
-pub use laws::{expressions_have_no_parameters, placing_keeps_types};
+pub use laws::{
+    expressions_have_no_parameters, placing_keeps_types, queries_break_no_rule_of_types,
+};
