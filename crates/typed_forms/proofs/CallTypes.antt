@@ -45,24 +45,28 @@ phi_there (x ∷ xs) n f e = by (nat_eq x.name n) refl e (phi_there xs n f)
 
 module _ (names : List ℕ) where
   -- from a block with this exit map a φ's operand belongs to the φ's slot
-  from_phi : (b : ℕ) (exits : Pairs) (y : SsaBlock) (f : Phi) (p n : ℕ) → Owned names exits → Feeds b exits (Some y) → (o : Option ℕ) → slice_get names p ≡ o → Maps y.map o p
+  from_phi : (b : ℕ) (exits : Pairs) (y : SsaBlock) (f : Phi) (p n : ℕ) → Owned names exits → Feeds b exits (Some y) → (o : Option ℕ)
+      → slice_get names p ≡ o → Maps y.map o p
       → source y.phis b p ≡ Some n → slice_get names n ≡ slice_get names p
   from_phi b exits y f p n own feeds None at maps e = absurd maps
   from_phi b exits y f p n own feeds (Some x) at maps e =
       let stands = at_key_stands y.map x p maps in
-      let gives = subst (λ k. Gives (at_key exits k) (source y.phis b p)) stands.key (subst (λ m. Gives (at_key exits stands.pair.0) (source y.phis b m)) stands.value (feeds stands.place stands.pair stands.there)) in
+      let gives = subst (λ k. Gives (at_key exits k) (source y.phis b p)) stands.key
+      (subst (λ m. Gives (at_key exits stands.pair.0) (source y.phis b m)) stands.value (feeds stands.place stands.pair stands.there)) in
       by (at_key exits x) refl gives ∙ sym at
     where
       by : (o : Option ℕ) → at_key exits x ≡ o → Gives o (source y.phis b p) → slice_get names n ≡ Some x
       by None h gives = absurd gives
       by (Some m) h gives = each_at_key (λ x n. slice_get names n ≡ Some x) exits x n own (h ∙ (sym gives ∙ e))
 
-  same_slot : (b : ℕ) (exits : Pairs) (y : SsaBlock) (p n : ℕ) → Owned names exits → MapOfSlots names y → Feeds b exits (Some y) → (o : Option Phi) → phi_named y.phis p ≡ o
+  same_slot : (b : ℕ) (exits : Pairs) (y : SsaBlock) (p n : ℕ) → Owned names exits → MapOfSlots names y → Feeds b exits (Some y) → (o : Option Phi)
+      → phi_named y.phis p ≡ o
       → source y.phis b p ≡ Some n → slice_get names n ≡ slice_get names p
   same_slot b exits y p n own maps feeds None h e = ap (slice_get names) (sym (same_Some p n (ap (λ o. taken_from o b p) (sym h) ∙ e)))
   same_slot b exits y p n own maps feeds (Some f) h e =
       let there = phi_there y.phis p f h in
-      from_phi b exits y f p n own feeds (slice_get names p) refl (subst (λ p. Maps y.map (slice_get names p) p) there.name (maps.phis_mapped there.place f there.there)) e
+      from_phi b exits y f p n own feeds (slice_get names p) refl
+      (subst (λ p. Maps y.map (slice_get names p) p) there.name (maps.phis_mapped there.place f there.there)) e
 
 -- ---- all calls
 
@@ -70,21 +74,27 @@ module _ (slots : List Slot) (g : Goto) (z : Ssa) (a : Anf) (count params : ℕ)
   abbrev types : ℕ → Ty
   types = types_of slots z
 
-  call_keeps : (b c : ℕ) (exits : Pairs) (call : Call) → Owned z.names exits → Feeds b exits (slice_get z.blocks c) → CallOf z a b c call → CallKeepsTypes types a call
+  call_keeps : (b c : ℕ) (exits : Pairs) (call : Call) → Owned z.names exits → Feeds b exits (slice_get z.blocks c) → CallOf z a b c call
+      → CallKeepsTypes types a call
   call_keeps b c exits call own feeds h i p n at_p at_n =
       by (slice_get z.blocks c) refl (slice_get a.blocks c) refl feeds h.passes
     where
-      by : (y : Option SsaBlock) → slice_get z.blocks c ≡ y → (x : Option AnfBlock) → slice_get a.blocks c ≡ x → Feeds b exits y → Passes b y x call.args → types n ≡ types p
+      by : (y : Option SsaBlock) → slice_get z.blocks c ≡ y → (x : Option AnfBlock) → slice_get a.blocks c ≡ x → Feeds b exits y → Passes b y x call.args
+          → types n ≡ types p
       by None at_y x at_x feeds passes = absurd passes
       by (Some y) at_y None at_x feeds passes = absurd passes
       by (Some y) at_y (Some x) at_x feeds passes =
-          let there : slice_get (params_of (Some x)) i ≡ Some p = subst (λ o. slice_get (params_of o) i ≡ Some p) at_x (subst (λ t. slice_get (params_of (slice_get a.blocks t)) i ≡ Some p) h.target at_p) in
-          ap (λ o. type_or_bigint (type_at slots o)) (same_slot z.names b exits y p n own (named.maps c y at_y) feeds (phi_named y.phis p) refl (passes.each i p n there at_n))
+          let there : slice_get (params_of (Some x)) i ≡ Some p = subst (λ o. slice_get (params_of o) i ≡ Some p) at_x
+          (subst (λ t. slice_get (params_of (slice_get a.blocks t)) i ≡ Some p) h.target at_p) in
+          ap (λ o. type_or_bigint (type_at slots o))
+          (same_slot z.names b exits y p n own (named.maps c y at_y) feeds (phi_named y.phis p) refl (passes.each i p n there at_n))
 
   -- the calls of an end, where each way of the goto form's end is fed
-  end_keeps : (b : ℕ) (exits m : Pairs) (x y : End) (e : CallEnd) → Owned z.names exits → AtTargets (λ c. Feeds b exits (slice_get z.blocks c)) x → EndRenamed m x y → EndCalled z a b y e
+  end_keeps : (b : ℕ) (exits m : Pairs) (x y : End) (e : CallEnd) → Owned z.names exits → AtTargets (λ c. Feeds b exits (slice_get z.blocks c)) x
+      → EndRenamed m x y → EndCalled z a b y e
       → EndKeepsTypes types a e
-  end_keeps b exits m (jump.Jump c) (jump.Jump d) (Go call) own feeds h called = call_keeps b d exits call own (subst (λ c. Feeds b exits (slice_get z.blocks c)) h feeds) called
+  end_keeps b exits m (jump.Jump c) (jump.Jump d) (Go call) own feeds h called =
+      call_keeps b d exits call own (subst (λ c. Feeds b exits (slice_get z.blocks c)) h feeds) called
   end_keeps b exits m (jump.Branch t c c') (jump.Branch u d d') (Pick v x y) own feeds h called = (
     call_keeps b d exits x own (subst (λ c. Feeds b exits (slice_get z.blocks c)) h.1 feeds.0) called.1,
     call_keeps b d' exits y own (subst (λ c. Feeds b exits (slice_get z.blocks c)) h.2 feeds.1) called.2,
@@ -111,4 +121,7 @@ module _ (slots : List Slot) (g : Goto) (z : Ssa) (a : Anf) (count params : ℕ)
       let renames = named.blocks i of_g.0 of_z.0 of_g.1 of_z.1 in
       let exits = exit_map of_g.0 of_z.0 in
       let own = exit_owned z.names of_z.0.map of_z.0.map of_g.0.set of_z.0.set renames.set (named.maps i of_z.0 of_z.1).own_slots in
-      record { end = end_keeps i exits exits of_g.0.end of_z.0.end x.end own (named.edges i of_g.0 of_z.0 of_g.1 of_z.1).each renames.end (called.blocks i of_z.0 x of_z.1 at).end }
+      record {
+        end = end_keeps i exits exits of_g.0.end of_z.0.end x.end own (named.edges i of_g.0 of_z.0 of_g.1 of_z.1).each renames.end
+            (called.blocks i of_z.0 x of_z.1 at).end;
+      }

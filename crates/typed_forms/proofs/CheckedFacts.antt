@@ -56,7 +56,8 @@ module _ (f : Function) (vars : (laid f.body).size.slot ≡ length (variables f.
   pub hidden_are : (i : ℕ) → (numbers_of f).counters ≤ i → type_at (own_slots f) i ≡ ty.Bigint
   hidden_are i le =
       let shown = of_params f ++ variables f.body in
-      let many : length shown ≤ i = omega (arith, le, vars, length-append (of_params f) (variables f.body), length-map f.params (λ (p : List ℕ × Ty). slot p.1)) in
+      let params_many = length-map f.params (λ (p : List ℕ × Ty). slot p.1) in
+      let many : length shown ≤ i = omega (arith, le, vars, length-append (of_params f) (variables f.body), params_many) in
       ap (λ xs. type_at xs i) (sym (append_assoc (of_params f) (variables f.body) (behind_text f)))
       ∙ type_behind shown (behind_text f) i many (hidden_type (3 * (laid f.body).size.fors))
 

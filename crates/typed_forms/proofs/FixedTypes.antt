@@ -97,18 +97,28 @@ module _ (tables : List (List Ty)) (es : List Expr) (slots : List Slot) (result 
   beside_none types k i n at_i at_n = cc
 
   beside_one : (t : Ty) (x : ℕ) → type_at slots x ≡ t → Beside a_alone (t ∷ []) (x ∷ [])
-  beside_one t x h zero i n at_i at_n = subst (λ j. slice_get (t ∷ []) j ≡ Some (type_at slots n)) (same_Some 0 i at_i) (ap Some (sym h ∙ ap (type_at slots) (same_Some x n at_n)))
+  beside_one t x h zero i n at_i at_n =
+      subst (λ j. slice_get (t ∷ []) j ≡ Some (type_at slots n)) (same_Some 0 i at_i) (ap Some (sym h ∙ ap (type_at slots) (same_Some x n at_n)))
   beside_one t x h (suc k) i n at_i at_n = cc
 
   beside_two : (x y : ℕ) → type_at slots x ≡ ty.Bigint → type_at slots y ≡ ty.Bigint → Beside a_and_b numbers (x ∷ y ∷ [])
-  beside_two x y h k zero i n at_i at_n = subst (λ j. slice_get numbers j ≡ Some (type_at slots n)) (same_Some 0 i at_i) (ap Some (sym h ∙ ap (type_at slots) (same_Some x n at_n)))
-  beside_two x y h k (suc zero) i n at_i at_n = subst (λ j. slice_get numbers j ≡ Some (type_at slots n)) (same_Some 1 i at_i) (ap Some (sym k ∙ ap (type_at slots) (same_Some y n at_n)))
+  beside_two x y h k zero i n at_i at_n =
+      subst (λ j. slice_get numbers j ≡ Some (type_at slots n)) (same_Some 0 i at_i) (ap Some (sym h ∙ ap (type_at slots) (same_Some x n at_n)))
+  beside_two x y h k (suc zero) i n at_i at_n =
+      subst (λ j. slice_get numbers j ≡ Some (type_at slots n)) (same_Some 1 i at_i) (ap Some (sym k ∙ ap (type_at slots) (same_Some y n at_n)))
   beside_two x y h k (suc (suc m)) i n at_i at_n = cc
 
-  entry_has : (k : ℕ) (read : List ℕ) (types : List Ty) (t : Ty) (names : List ℕ) → Entry tables k read types t → Beside read types names → Has tables whole slots result t (term (length es + k) names)
+  entry_has : (k : ℕ) (read : List ℕ) (types : List Ty) (t : Ty) (names : List ℕ) → Entry tables k read types t → Beside read types names
+      → Has tables whole slots result t (term (length es + k) names)
   entry_has k read types t names h beside below =
       subst (HasTypeBy tables (type_at slots) names t) (sym (get_behind es fixed_list k))
-      (record { slots = types; beside = subst (λ read. Beside read types names) (sym h.reads) beside; kind = h.kind; limited = h.limited; outside_list = h.outside_list })
+      (record {
+        slots = types;
+        beside = subst (λ read. Beside read types names) (sym h.reads) beside;
+        kind = h.kind;
+        limited = h.limited;
+        outside_list = h.outside_list;
+      })
 
 -- ---- all of them
 
@@ -118,18 +128,27 @@ pub record FixedHave (tables : List (List Ty)) (table : List Expr) (slots : List
   pub positives : (x : ℕ) → type_at slots x ≡ ty.Bigint → Has tables table slots result ty.Boolean (not_positive S x)
   pub ones : Has tables table slots result ty.Bigint (one S)
   pub copies : (x : ℕ) → type_at slots x ≡ ty.Bigint → Has tables table slots result ty.Bigint (copy S x)
-  pub ranges : (reverse : Bool) (x y : ℕ) → type_at slots x ≡ ty.Bigint → type_at slots y ≡ ty.Bigint → Has tables table slots result ty.Boolean (in_range S reverse x y)
-  pub ends : (reverse : Bool) (x y : ℕ) → type_at slots x ≡ ty.Bigint → type_at slots y ≡ ty.Bigint → Has tables table slots result ty.Boolean (leaves_range S reverse x y)
-  pub moves : (reverse : Bool) (x y : ℕ) → type_at slots x ≡ ty.Bigint → type_at slots y ≡ ty.Bigint → Has tables table slots result ty.Bigint (moved S reverse x y)
+  pub ranges : (reverse : Bool) (x y : ℕ) → type_at slots x ≡ ty.Bigint → type_at slots y ≡ ty.Bigint
+      → Has tables table slots result ty.Boolean (in_range S reverse x y)
+  pub ends : (reverse : Bool) (x y : ℕ) → type_at slots x ≡ ty.Bigint → type_at slots y ≡ ty.Bigint
+      → Has tables table slots result ty.Boolean (leaves_range S reverse x y)
+  pub moves : (reverse : Bool) (x y : ℕ) → type_at slots x ≡ ty.Bigint → type_at slots y ≡ ty.Bigint
+      → Has tables table slots result ty.Bigint (moved S reverse x y)
 
 pub fixed_have : (tables : List (List Ty)) (es : List Expr) (slots : List Slot) (result : Ty) → FixedHave tables (es ++ fixed_list) slots result (length es)
 fixed_have tables es slots result = record {
   nulls = λ t h. entry_has tables es slots result (null_entry t) no_slot [] t [] (null_typed tables t h) (beside_none tables es slots result []);
-  null_tests = λ t x h e. entry_has tables es slots result (is_null_entry t) a_alone (t ∷ []) ty.Boolean (x ∷ []) (test_typed tables t h) (beside_one tables es slots result t x e);
-  positives = λ x e. entry_has tables es slots result 6 a_alone (ty.Bigint ∷ []) ty.Boolean (x ∷ []) (positive_typed tables) (beside_one tables es slots result ty.Bigint x e);
+  null_tests = λ t x h e. entry_has tables es slots result (is_null_entry t) a_alone (t ∷ []) ty.Boolean (x ∷ []) (test_typed tables t h)
+      (beside_one tables es slots result t x e);
+  positives = λ x e. entry_has tables es slots result 6 a_alone (ty.Bigint ∷ []) ty.Boolean (x ∷ []) (positive_typed tables)
+      (beside_one tables es slots result ty.Bigint x e);
   ones = entry_has tables es slots result 13 no_slot [] ty.Bigint [] (one_typed tables) (beside_none tables es slots result []);
-  copies = λ x e. entry_has tables es slots result 14 a_alone (ty.Bigint ∷ []) ty.Bigint (x ∷ []) (copy_typed tables) (beside_one tables es slots result ty.Bigint x e);
-  ranges = λ reverse x y d e. entry_has tables es slots result (by_way reverse 8 7) a_and_b numbers ty.Boolean (x ∷ y ∷ []) (range_typed tables reverse) (beside_two tables es slots result x y d e);
-  ends = λ reverse x y d e. entry_has tables es slots result (by_way reverse 10 9) a_and_b numbers ty.Boolean (x ∷ y ∷ []) (end_typed tables reverse) (beside_two tables es slots result x y d e);
-  moves = λ reverse x y d e. entry_has tables es slots result (by_way reverse 12 11) a_and_b numbers ty.Bigint (x ∷ y ∷ []) (move_typed tables reverse) (beside_two tables es slots result x y d e);
+  copies = λ x e. entry_has tables es slots result 14 a_alone (ty.Bigint ∷ []) ty.Bigint (x ∷ []) (copy_typed tables)
+      (beside_one tables es slots result ty.Bigint x e);
+  ranges = λ reverse x y d e. entry_has tables es slots result (by_way reverse 8 7) a_and_b numbers ty.Boolean (x ∷ y ∷ []) (range_typed tables reverse)
+      (beside_two tables es slots result x y d e);
+  ends = λ reverse x y d e. entry_has tables es slots result (by_way reverse 10 9) a_and_b numbers ty.Boolean (x ∷ y ∷ []) (end_typed tables reverse)
+      (beside_two tables es slots result x y d e);
+  moves = λ reverse x y d e. entry_has tables es slots result (by_way reverse 12 11) a_and_b numbers ty.Bigint (x ∷ y ∷ []) (move_typed tables reverse)
+      (beside_two tables es slots result x y d e);
 }

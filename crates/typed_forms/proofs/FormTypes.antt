@@ -20,7 +20,7 @@ use Rattle.block_forms.specs.Laid.{Setting, laid}
 use Rattle.block_forms.specs.Lowered.{Lowered, TermBelow, SetBelow, EndBelow, setting, all_parts, param_parts, params_parts, body_place}
 use Rattle.block_forms.specs.Named.{Named, TermRenamed, AssignmentRenamed, EndRenamed, exit_map}
 use Rattle.block_forms.specs.Places.{Each}
-use Rattle.block_forms.specs.Slots.{slot, variables, own_slots}
+use Rattle.block_forms.specs.Slots.{slot, variables}
 use Rattle.block_forms.proofs.Keys.{each_at_key}
 use Rattle.call_forms.specs.declared.forms.Anf.{Anf}
 use Rattle.call_forms.specs.declared.forms.CallEnd.{CallEnd}
@@ -44,7 +44,8 @@ beyond (x ∷ xs) (suc i) le = beyond xs i (omega (arith, le))
 
 -- ---- the goto form
 
-module _ (schema : Schema) (f : Function) (slots : List Slot) (known : Facts schema f slots) (plain : NoIntegers slots f.result) (g : Goto) (low : Lowered f slots g) where
+module _ (schema : Schema) (f : Function) (slots : List Slot) (known : Facts schema f slots) (plain : NoIntegers slots f.result) (g : Goto)
+    (low : Lowered f slots g) where
   abbrev tables : List (List Ty)
   tables = column_types schema
 
@@ -77,13 +78,16 @@ module _ (schema : Schema) (f : Function) (slots : List Slot) (known : Facts sch
   body_have : AllHave tables table slots f.result ((laid f.body).parts s (body_place f) [] g.finish)
   unfolding laid sources variables
   body_have =
-      (statement_has tables table f.result s fixed plain hidden f.body known.types).goes (body_place f) [] g.finish (sources_stand (sources f.body) fixed_list)
+      (statement_has tables table f.result s fixed plain hidden f.body known.types).goes (body_place f) [] g.finish
+      (sources_stand (sources f.body) fixed_list)
       (subst (λ xs. Row (SlotAt xs) (length f.params) (variables f.body)) (sym known.owned) (variables_stand f))
 
   param_has : (strict : Bool) (i : ℕ) (t : Ty) → SlotAt slots i (slot t) → AllHave tables table slots f.result (param_parts s strict f.result i t)
   param_has false i t at = (tt, tt)
-  param_has true i t at =
-      ((tt, fixed.null_tests t i (plain.slots_are i (slot t) at) (ap (λ o. type_or_bigint (type_of_slot o)) at)), ((tt, fixed.nulls f.result plain.result_is), tt))
+  param_has true i t at = (
+    (tt, fixed.null_tests t i (plain.slots_are i (slot t) at) (ap (λ o. type_or_bigint (type_of_slot o)) at)),
+    ((tt, fixed.nulls f.result plain.result_is), tt),
+  )
 
   params_have : (strict : Bool) (ps : List (List ℕ × Ty)) (i : ℕ) → Row (SlotAt slots) i (map (λ (p : List ℕ × Ty). slot p.1) ps)
       → AllHave tables table slots f.result (params_parts s strict f.result i ps)
@@ -98,12 +102,14 @@ module _ (schema : Schema) (f : Function) (slots : List Slot) (known : Facts sch
     (
       (tt, tt),
       have_both tables table slots f.result (params_parts s f.strict f.result 0 f.params) ((laid f.body).parts s (body_place f) [] g.finish)
-          (params_have f.strict f.params 0 (subst (λ xs. Row (SlotAt xs) 0 (map (λ (p : List ℕ × Ty). slot p.1) f.params)) (sym known.owned) (params_stand f))) body_have,
+          (params_have f.strict f.params 0
+          (subst (λ xs. Row (SlotAt xs) 0 (map (λ (p : List ℕ × Ty). slot p.1) f.params)) (sym known.owned) (params_stand f))) body_have,
     ),
   )
 
   goto_has : Each (BlockHas tables table slots f.result) g.blocks
-  goto_has i x at = has_at tables table slots f.result g.blocks i x at (all_parts f slots g) low.stand all_have (low.each_once.covered i (inside g.blocks i x at))
+  goto_has i x at =
+      has_at tables table slots f.result g.blocks i x at (all_parts f slots g) low.stand all_have (low.each_once.covered i (inside g.blocks i x at))
 
   -- ---- the SSA form
 
@@ -138,7 +144,8 @@ module _ (schema : Schema) (f : Function) (slots : List Slot) (known : Facts sch
           outside_list = r.outside_list;
         }
 
-    set_renamed : (m : Pairs) (p q : Assignment) → Owned m → AssignmentRenamed z.names m p q → SetBelow (length slots) p → SetHas tables table slots f.result p
+    set_renamed : (m : Pairs) (p q : Assignment) → Owned m → AssignmentRenamed z.names m p q → SetBelow (length slots) p
+        → SetHas tables table slots f.result p
         → SetHasType tables table types q
     set_renamed m None None own h below has = tt
     set_renamed m None (Some q) own h below has = absurd h
@@ -177,7 +184,8 @@ module _ (schema : Schema) (f : Function) (slots : List Slot) (known : Facts sch
         let renames = named.blocks i there.0 y there.1 at in
         record {
           set = set_renamed y.map there.0.set y.set own renames.set below.set has.0;
-          end = end_renamed (exit_map there.0 y) there.0.end y.end (exit_owned z.names y.map y.map there.0.set y.set renames.set own) renames.end below.end has.1;
+          end = end_renamed (exit_map there.0 y) there.0.end y.end
+              (exit_owned z.names y.map y.map there.0.set y.set renames.set own) renames.end below.end has.1;
         }
 
     -- ---- the normal form

@@ -71,7 +71,8 @@ module _ (tables : List (List Ty)) (table : List Expr) (slots : List Slot) (resu
 
   -- ---- expressions of the text
 
-  source_typed : (t : Ty) (e : Expr) → Clean (asked places t e) → TermBelow (length slots) (source_term 0 e) → HasTypeBy tables (type_at slots) (slots_of e) t e
+  source_typed : (t : Ty) (e : Expr) → Clean (asked places t e) → TermBelow (length slots) (source_term 0 e)
+      → HasTypeBy tables (type_at slots) (slots_of e) t e
   unfolding asked
   source_typed t e c below =
       let both = clean_parts (breaks 13 (not (fits t (kind_of e places.places)) || (uses_of e).limited)) (breaks 15 (outside (uses_of e)).misused) c in
@@ -80,7 +81,8 @@ module _ (tables : List (List Ty)) (table : List Expr) (slots : List Slot) (resu
       record {
         slots = slot_types slots;
         beside = λ k i n at_i at_n.
-            subst (λ m. slice_get (slot_types slots) m ≡ Some (type_at slots n)) (same_Some n i (sym at_n ∙ at_i)) (type_there slots n (below.names k n at_n));
+            subst (λ m. slice_get (slot_types slots) m ≡ Some (type_at slots n)) (same_Some n i (sym at_n ∙ at_i))
+            (type_there slots n (below.names k n at_n));
         kind = not_false (fits t (kind_of e places.places)) fails.0;
         limited = fails.1;
         outside_list = test_fails 15 (outside (uses_of e)).misused (omega arith) both.1;
@@ -96,19 +98,22 @@ module _ (tables : List (List Ty)) (table : List Expr) (slots : List Slot) (resu
     has_there : (d : ℕ) (y : Block) → d ≡ c → slice_get blocks d ≡ Some y → BlockHas y → BlockHas x
     has_there d y e stand h = subst BlockHas (same_Some y x (sym stand ∙ (ap (slice_get blocks) e ∙ at))) h
 
-    chosen : (d n : ℕ) (y : Block) (t : Bool) → nat_eq d c ≡ t → slice_get blocks d ≡ Some y → BlockHas y → (1 ≤ n → BlockHas x) → 1 ≤ one_of t + n → BlockHas x
+    chosen : (d n : ℕ) (y : Block) (t : Bool) → nat_eq d c ≡ t → slice_get blocks d ≡ Some y → BlockHas y → (1 ≤ n → BlockHas x) → 1 ≤ one_of t + n
+        → BlockHas x
     chosen d n y true e stand h rest le = has_there d y (eqb-true d c e) stand h
     chosen d n y false e stand h rest le = rest (omega (arith, le))
 
     pub has_at : (ps : List Part) → AllStand blocks ps → AllHave ps → 1 ≤ owners c ps + sharers c ps → BlockHas x
     has_at [] stand h le = absurd (omega (arith, le))
     has_at (own d y ∷ ps) stand h le =
-        chosen d (owners c ps + sharers c ps) y (nat_eq d c) refl stand.0 h.0 (has_at ps stand.1 h.1) (in_front (one_of (nat_eq d c)) (owners c ps) (sharers c ps) le)
+        chosen d (owners c ps + sharers c ps) y (nat_eq d c) refl stand.0 h.0 (has_at ps stand.1 h.1)
+        (in_front (one_of (nat_eq d c)) (owners c ps) (sharers c ps) le)
       where
         in_front : (o m n : ℕ) → 1 ≤ o + m + n → 1 ≤ o + (m + n)
         in_front o m n le = omega (arith, le)
     has_at (shared d y ∷ ps) stand h le =
-        chosen d (owners c ps + sharers c ps) y (nat_eq d c) refl stand.0 h.0 (has_at ps stand.1 h.1) (behind (one_of (nat_eq d c)) (owners c ps) (sharers c ps) le)
+        chosen d (owners c ps + sharers c ps) y (nat_eq d c) refl stand.0 h.0 (has_at ps stand.1 h.1)
+        (behind (one_of (nat_eq d c)) (owners c ps) (sharers c ps) le)
       where
         behind : (o m n : ℕ) → 1 ≤ m + (o + n) → 1 ≤ o + (m + n)
         behind o m n le = omega (arith, le)

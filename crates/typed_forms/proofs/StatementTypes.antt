@@ -31,7 +31,8 @@ use Rattle.typed_forms.proofs.PartTypes.{places, Has, AllHave, have_both, source
 use Rattle.typed_forms.proofs.PieceTypes.{leave_has, decl_has, assigned_has, kind_has}
 use Rattle.typed_forms.proofs.Standing.{Row, row_left, row_right, row_same, Entry, SlotAt, type_at}
 
-module _ (tables : List (List Ty)) (table : List Expr) (result : Ty) (s : Setting) (fixed : FixedHave tables table s.slots result s.numbers.fixed) (plain : NoIntegers s.slots result)
+module _ (tables : List (List Ty)) (table : List Expr) (result : Ty) (s : Setting) (fixed : FixedHave tables table s.slots result s.numbers.fixed)
+    (plain : NoIntegers s.slots result)
     (hidden : (i : ℕ) → s.numbers.counters ≤ i → type_at s.slots i ≡ ty.Bigint) where
   abbrev Have : List Part → Type 0
   Have = AllHave tables table s.slots result
@@ -77,7 +78,8 @@ module _ (tables : List (List Ty)) (table : List Expr) (result : Ty) (s : Settin
   record ElseHas (x : Option (List Laid)) (o : Option (List Sources)) (ds : Option (List (List Slot))) : Type 0 where
     count : (else_size x).expr ≡ length (of_else o)
     vars : (else_size x).slot ≡ length (slot.of_else ds)
-    goes : (p : Place) (around : Around) (next c : ℕ) (without : Option Class) → At p.expr (of_else o) → Slots p.slot (slot.of_else ds) → Have (else_parts s x without p around next c)
+    goes : (p : Place) (around : Around) (next c : ℕ) (without : Option Class) → At p.expr (of_else o) → Slots p.slot (slot.of_else ds)
+        → Have (else_parts s x without p around next c)
 
   at_left : (k : ℕ) (xs ys : List Expr) → At k (xs ++ ys) → At k xs
   at_left = row_left (Entry table)
@@ -100,7 +102,8 @@ module _ (tables : List (List Ty)) (table : List Expr) (result : Ty) (s : Settin
   no_row : RowHas [] [] []
   no_row = record { count = refl; vars = refl; goes = λ p around next h d. tt }
 
-  more_row : (x : Laid) (es : Sources) (ds : List Slot) (xs : List Laid) (ess : List Sources) (dss : List (List Slot)) → StatementHas x es ds → RowHas xs ess dss
+  more_row : (x : Laid) (es : Sources) (ds : List Slot) (xs : List Laid) (ess : List Sources) (dss : List (List Slot)) → StatementHas x es ds
+      → RowHas xs ess dss
       → RowHas (x ∷ xs) (es ∷ ess) (ds ∷ dss)
   more_row x es ds xs ess dss f r = record {
     count = omega (arith, f.count, r.count, length-append es (in_turn ess));
@@ -109,7 +112,8 @@ module _ (tables : List (List Ty)) (table : List Expr) (result : Ty) (s : Settin
         let middle = first_block s (length xs) (p.node + x.size.node) next in
         both (x.parts s p around middle) (row_parts s xs (after p x.size) around next)
         (f.goes p around middle (at_left p.expr es (in_turn ess) h) (slots_left p.slot ds (in_row dss) d))
-        (r.goes (after p x.size) around next (at_right p.expr x.size.expr es (in_turn ess) f.count h) (slots_right p.slot x.size.slot ds (in_row dss) f.vars d));
+        (r.goes (after p x.size) around next (at_right p.expr x.size.expr es (in_turn ess) f.count h)
+        (slots_right p.slot x.size.slot ds (in_row dss) f.vars d));
   }
 
   no_arms : ArmsHave [] [] []
@@ -119,7 +123,8 @@ module _ (tables : List (List Ty)) (table : List Expr) (result : Ty) (s : Settin
   laid_arm test body = record { test = test; size = after with_expr (row_size body); body = body }
 
   more_arms : (test : Expr) (x : List Laid) (xes : List Sources) (xds : List (List Slot)) (xs : List LaidArm) (ess : List Sources) (dss : List (List Slot))
-      → Clean (asked a ty.Boolean test) → RowHas x xes xds → ArmsHave xs ess dss → ArmsHave (laid_arm test x ∷ xs) ((test ∷ in_turn xes) ∷ ess) (in_row xds ∷ dss)
+      → Clean (asked a ty.Boolean test) → RowHas x xes xds → ArmsHave xs ess dss
+      → ArmsHave (laid_arm test x ∷ xs) ((test ∷ in_turn xes) ∷ ess) (in_row xds ∷ dss)
   more_arms test x xes xds xs ess dss n f r = record {
     count = omega (arith, f.count, r.count, length-append (test ∷ in_turn xes) (in_turn ess));
     vars = omega (arith, f.vars, r.vars, length-append (in_row xds) (in_row dss));
@@ -151,11 +156,18 @@ module _ (tables : List (List Ty)) (table : List Expr) (result : Ty) (s : Settin
   some_else x xes xds f = record {
     count = omega (arith, f.count);
     vars = omega (arith, f.vars);
-    goes = λ p around next c without h d.
-        (tt, (tt, f.goes (after p a_node) around next (at_same p.expr (after p a_node).expr (in_turn xes) (omega arith) h) (slots_same p.slot (after p a_node).slot (in_row xds) (omega arith) d)));
+    goes = λ p around next c without h d. (
+      tt,
+      (
+        tt,
+        f.goes (after p a_node) around next (at_same p.expr (after p a_node).expr (in_turn xes) (omega arith) h)
+            (slots_same p.slot (after p a_node).slot (in_row xds) (omega arith) d),
+      ),
+    );
   }
 
-  branch_has : (x : List LaidArm) (ess : List Sources) (dss : List (List Slot)) (xo : Option (List Laid)) (o : Option (List Sources)) (ds : Option (List (List Slot)))
+  branch_has : (x : List LaidArm) (ess : List Sources) (dss : List (List Slot)) (xo : Option (List Laid)) (o : Option (List Sources))
+      (ds : Option (List (List Slot)))
       → ArmsHave x ess dss → ElseHas xo o ds → (without : Option Class) (p : Place) (around : Around) (next : ℕ)
       → At p.expr (in_turn ess ++ of_else o) → Slots p.slot (in_row dss ++ slot.of_else ds) → Have (branch_parts s x xo without p around next)
   branch_has x ess dss xo o ds f fo without p around next h d =
@@ -167,11 +179,14 @@ module _ (tables : List (List Ty)) (table : List Expr) (result : Ty) (s : Settin
       (slots_same p.slot first.slot (in_row dss) (omega arith) (slots_left p.slot (in_row dss) (slot.of_else ds) d)))
       (fo.goes rest around next (lack s x c) without
       (at_same (p.expr + (arms_size x).expr) rest.expr (of_else o) (omega arith) (at_right p.expr (arms_size x).expr (in_turn ess) (of_else o) f.count h))
-      (slots_same (p.slot + (arms_size x).slot) rest.slot (slot.of_else ds) (omega arith) (slots_right p.slot (arms_size x).slot (in_row dss) (slot.of_else ds) f.vars d)))
+      (slots_same (p.slot + (arms_size x).slot) rest.slot (slot.of_else ds) (omega arith)
+      (slots_right p.slot (arms_size x).slot (in_row dss) (slot.of_else ds) f.vars d)))
 
-  branch_whole : (x : List LaidArm) (ess : List Sources) (dss : List (List Slot)) (xo : Option (List Laid)) (o : Option (List Sources)) (ds : Option (List (List Slot)))
+  branch_whole : (x : List LaidArm) (ess : List Sources) (dss : List (List Slot)) (xo : Option (List Laid)) (o : Option (List Sources))
+      (ds : Option (List (List Slot)))
       → ArmsHave x ess dss → ElseHas xo o ds → (without : Option Class)
-      → StatementHas (record { size = after (after a_node (arms_size x)) (else_size xo); parts = λ s. branch_parts s x xo without }) (in_turn ess ++ of_else o) (in_row dss ++ slot.of_else ds)
+      → StatementHas (record { size = after (after a_node (arms_size x)) (else_size xo); parts = λ s. branch_parts s x xo without })
+      (in_turn ess ++ of_else o) (in_row dss ++ slot.of_else ds)
   branch_whole x ess dss xo o ds f fo without = record {
     count = omega (arith, f.count, fo.count, length-append (in_turn ess) (of_else o));
     vars = omega (arith, f.vars, fo.vars, length-append (in_row dss) (slot.of_else ds));
@@ -206,7 +221,8 @@ module _ (tables : List (List Ty)) (table : List Expr) (result : Ty) (s : Settin
       let two = clean_parts acc (maybe_asked a d.ty d.default) rest.0 in
       (two.0, (two.1, rest.1))
 
-  decls_have : (ds : List Decl) (p : Place) (next : ℕ) → At p.expr (defaults ds) → Slots p.slot (map slot_of ds) → AreAsked ds → Have (decls_parts s ds p next)
+  decls_have : (ds : List Decl) (p : Place) (next : ℕ) → At p.expr (defaults ds) → Slots p.slot (map slot_of ds) → AreAsked ds
+      → Have (decls_parts s ds p next)
   decls_have [] p next h d n = tt
   decls_have (x ∷ ds) p next h d n =
       let middle = first_block s (length ds) (p.node + 1) next in
@@ -215,7 +231,8 @@ module _ (tables : List (List Ty)) (table : List Expr) (result : Ty) (s : Settin
       (decls_have ds (after p (decl_size x)) next (at_right p.expr (decl_size x).expr (if_there x.default) (defaults ds) (default_count x) h)
       (slots_same (suc p.slot) (after p (decl_size x)).slot (map slot_of ds) (omega arith) d.1) n.1)
 
-  block_has : (label : Label) (ds : List Decl) (x : List Laid) (xes : List Sources) (xds : List (List Slot)) → AreAsked ds → RowHas x xes xds → (p : Place) (around : Around) (next : ℕ)
+  block_has : (label : Label) (ds : List Decl) (x : List Laid) (xes : List Sources) (xds : List (List Slot)) → AreAsked ds → RowHas x xes xds
+      → (p : Place) (around : Around) (next : ℕ)
       → At p.expr (defaults ds ++ in_turn xes) → Slots p.slot (map slot_of ds ++ in_row xds) → Have (block_parts s label ds x p around next)
   block_has label ds x xes xds n f p around next h d =
       let inside = inside_of s ds p in
@@ -227,8 +244,10 @@ module _ (tables : List (List Ty)) (table : List Expr) (result : Ty) (s : Settin
             (decls_have ds first middle (at_same p.expr first.expr (defaults ds) (omega arith) (at_left p.expr (defaults ds) (in_turn xes) h))
             (slots_same p.slot first.slot (map slot_of ds) (omega arith) (slots_left p.slot (map slot_of ds) (in_row xds) d)) n)
             (f.goes inside inner next
-            (at_same (p.expr + (decls_size ds).expr) inside.expr (in_turn xes) (omega arith) (at_right p.expr (decls_size ds).expr (defaults ds) (in_turn xes) (decls_count ds) h))
-            (slots_same (p.slot + (decls_size ds).slot) inside.slot (in_row xds) (omega arith) (slots_right p.slot (decls_size ds).slot (map slot_of ds) (in_row xds) (decls_vars ds) d))),
+            (at_same (p.expr + (decls_size ds).expr) inside.expr (in_turn xes) (omega arith)
+            (at_right p.expr (decls_size ds).expr (defaults ds) (in_turn xes) (decls_count ds) h))
+            (slots_same (p.slot + (decls_size ds).slot) inside.slot (in_row xds) (omega arith)
+            (slots_right p.slot (decls_size ds).slot (map slot_of ds) (in_row xds) (decls_vars ds) d))),
       )
 
   -- ---- loops
@@ -244,7 +263,8 @@ module _ (tables : List (List Ty)) (table : List Expr) (result : Ty) (s : Settin
   kind_vars (kind.While e) = refl
   kind_vars (kind.Count name reverse first last by) = refl
 
-  loop_has : (label : Label) (k : LoopKind) (x : List Laid) (xes : List Sources) (xds : List (List Slot)) → Clean (head_asked k a) → RowHas x xes xds → (p : Place) (around : Around) (next : ℕ)
+  loop_has : (label : Label) (k : LoopKind) (x : List Laid) (xes : List Sources) (xds : List (List Slot)) → Clean (head_asked k a) → RowHas x xes xds
+      → (p : Place) (around : Around) (next : ℕ)
       → At p.expr (of_kind k ++ in_turn xes) → Slots p.slot (slot.of_kind k ++ in_row xds) → Have (loop_parts s label k x p around next)
   loop_has label k x xes xds n f p around next h d =
       let again = again_of s k p in
@@ -252,13 +272,15 @@ module _ (tables : List (List Ty)) (table : List Expr) (result : Ty) (s : Settin
       let inner : Around = record { label = label; exit = next; again = Some again } ∷ around in
       let body = first_block s (length x) (p.node + 1) again in
       both (kind_parts s k p body next) (row_parts s x inside inner again)
-      (kind_has tables table result s fixed plain hidden k p body next n (at_left p.expr (of_kind k) (in_turn xes) h) (slots_left p.slot (slot.of_kind k) (in_row xds) d))
+      (kind_has tables table result s fixed plain hidden k p body next n (at_left p.expr (of_kind k) (in_turn xes) h)
+      (slots_left p.slot (slot.of_kind k) (in_row xds) d))
       (f.goes inside inner again (at_right p.expr (kind_size k).expr (of_kind k) (in_turn xes) (kind_count k) h)
       (slots_right p.slot (kind_size k).slot (slot.of_kind k) (in_row xds) (kind_vars k) d))
 
   -- ---- each statement
 
-  assign_has : (name : List ℕ) (x : Option ℕ) (e : Expr) → Clean (asked_of_slot a (checks.slot_of a x) e) → StatementHas (stmt_of laying (b.Assign name x e)) (e ∷ []) []
+  assign_has : (name : List ℕ) (x : Option ℕ) (e : Expr) → Clean (asked_of_slot a (checks.slot_of a x) e)
+      → StatementHas (stmt_of laying (b.Assign name x e)) (e ∷ []) []
   assign_has name None e n = record { count = refl; vars = refl; goes = λ p around next h d. ((tt, tt), tt) }
   assign_has name (Some x) e n = record {
     count = refl;
@@ -283,11 +305,13 @@ module _ (tables : List (List Ty)) (table : List Expr) (result : Ty) (s : Settin
     statement_has (b.Assign name x e) n = assign_has name x e n
     statement_has (b.If' m arms other) n =
         let two = clean_parts (checks.all_by (branches_of checks.asking arms) a) (checks.maybe_by (else_of checks.asking other) a) n in
-        branch_whole (branches_of laying arms) (branches_of sourcing arms) (branches_of declaring arms) (else_of laying other) (else_of sourcing other) (else_of declaring other)
+        branch_whole (branches_of laying arms) (branches_of sourcing arms) (branches_of declaring arms) (else_of laying other) (else_of sourcing other)
+        (else_of declaring other)
         (arms_have arms clean two.0).1 (else_has other two.1) None
     statement_has (b.Cases' m arms other) n =
         let two = clean_parts (checks.all_by (branches_of checks.asking arms) a) (checks.maybe_by (else_of checks.asking other) a) n in
-        branch_whole (branches_of laying arms) (branches_of sourcing arms) (branches_of declaring arms) (else_of laying other) (else_of sourcing other) (else_of declaring other)
+        branch_whole (branches_of laying arms) (branches_of sourcing arms) (branches_of declaring arms) (else_of laying other) (else_of sourcing other)
+        (else_of declaring other)
         (arms_have arms clean two.0).1 (else_has other two.1) (Some case_not_found)
     statement_has (b.Loop' label kind m body closing) n =
         let two = clean_parts (head_asked kind a) (checks.all_by (stmts_of checks.asking body) a) n in
@@ -300,12 +324,14 @@ module _ (tables : List (List Ty)) (table : List Expr) (result : Ty) (s : Settin
     statement_has (b.Exit label when) n = record {
       count = leave_count when;
       vars = refl;
-      goes = λ p around next h d. leave_has tables table result s fixed plain hidden when p.expr (node s.goto p.node) (exit_to s.goto.finish around label) next h n;
+      goes = λ p around next h d. leave_has tables table result s fixed plain hidden when p.expr (node s.goto p.node)
+          (exit_to s.goto.finish around label) next h n;
     }
     statement_has (b.Continue label when) n = record {
       count = leave_count when;
       vars = refl;
-      goes = λ p around next h d. leave_has tables table result s fixed plain hidden when p.expr (node s.goto p.node) (again_to s.goto.finish around label) next h n;
+      goes = λ p around next h d. leave_has tables table result s fixed plain hidden when p.expr (node s.goto p.node)
+          (again_to s.goto.finish around label) next h n;
     }
     statement_has (b.Return e) n = record { count = refl; vars = refl; goes = λ p around next h d. ((tt, source p.expr result e h.0 n), tt) }
     statement_has (b.Raise raised) n = record { count = refl; vars = refl; goes = λ p around next h d. ((tt, tt), tt) }
@@ -317,8 +343,11 @@ module _ (tables : List (List Ty)) (table : List Expr) (result : Ty) (s : Settin
     row_has b.end_of-Stmt acc c = (c, no_row)
     row_has (b.more_of-Stmt x rest) acc c =
         let more = row_has rest (joined acc (stmt_of checks.asking x a)) c in
-        let two = clean_parts acc (stmt_of checks.asking x a) more.0 in
-        (two.0, more_row (stmt_of laying x) (stmt_of sourcing x) (stmt_of declaring x) (stmts_of laying rest) (stmts_of sourcing rest) (stmts_of declaring rest) (statement_has x two.1) more.1)
+        let two = clean_parts acc (stmt_of checks.asking x a) more.0 in (
+          two.0,
+          more_row (stmt_of laying x) (stmt_of sourcing x) (stmt_of declaring x) (stmts_of laying rest) (stmts_of sourcing rest)
+              (stmts_of declaring rest) (statement_has x two.1) more.1,
+        )
 
     arms_have : {m : _} (r : b.Row_of-Arm m) (acc : Note) → Clean (fold (λ n (f : checks.By). joined n (f a)) acc (branches_of checks.asking r))
         → Clean acc × ArmsHave (branches_of laying r) (branches_of sourcing r) (branches_of declaring r)
@@ -329,10 +358,12 @@ module _ (tables : List (List Ty)) (table : List Expr) (result : Ty) (s : Settin
         let two = clean_parts acc note more.0 in
         let arm = clean_parts (asked a ty.Boolean test) (checks.all_by (stmts_of checks.asking body) a) two.1 in (
           two.0,
-          more_arms test (stmts_of laying body) (stmts_of sourcing body) (stmts_of declaring body) (branches_of laying rest) (branches_of sourcing rest) (branches_of declaring rest)
+          more_arms test (stmts_of laying body) (stmts_of sourcing body) (stmts_of declaring body) (branches_of laying rest) (branches_of sourcing rest)
+              (branches_of declaring rest)
               arm.0 (row_has body clean arm.1).1 more.1,
         )
 
-    else_has : (r : b.Held-Stmt-If-1) → Clean (checks.maybe_by (else_of checks.asking r) a) → ElseHas (else_of laying r) (else_of sourcing r) (else_of declaring r)
+    else_has : (r : b.Held-Stmt-If-1) → Clean (checks.maybe_by (else_of checks.asking r) a)
+        → ElseHas (else_of laying r) (else_of sourcing r) (else_of declaring r)
     else_has b.None' c = no_else
     else_has (b.Some' m body) c = some_else (stmts_of laying body) (stmts_of sourcing body) (stmts_of declaring body) (row_has body clean c).1
