@@ -1,5 +1,5 @@
 -- Each entry of a checked function's table is clear where the query has it.
-use Rattle.std.proofs.Common.{◌≡◌, refl, ap, sym, subst, ◌∙◌, ℕ, ℤ, zero, suc, pos, ◌==◌, true, false, List, [], ◌∷◌, ◌++◌, get_or}
+use Rattle.std.proofs.Common.{◌≡◌, refl, ap, sym, subst, ◌∙◌, ℕ, ℤ, zero, suc, pos, ◌==◌, true, false, List, [], ◌∷◌, get_or}
 use Rattle.std.proofs.lemmas.Bool.{eqb-true, eq-eqb}
 use Rattle.away_values.specs.declared.operators.ChainOp.TheVariants as chain
 use Rattle.away_values.specs.declared.operators.CmpOp.{CmpOp}
@@ -14,13 +14,10 @@ use Rattle.away_trees.specs.declared.queries.Expr.{Expr}
 use Rattle.away_trees.specs.declared.queries.Expr.TheVariants as expr
 use Rattle.away_trees.specs.declared.queries.Expr.TheBlock as b
 use Rattle.away_trees.specs.declared.schemas.Schema.{Schema}
-use Rattle.away_trees.specs.declared.statements.Function.{Function}
 use Rattle.away_trees.specs.Algebra.{Algebra}
 use Rattle.away_trees.proofs.Equations as eq
 use Rattle.away_names.specs.Lookups.{Scope}
 use Rattle.away_names.specs.Trees.{named_expr}
-use Rattle.away_types.specs.declared.slots.Slot.{Slot}
-use Rattle.away_types.specs.CheckedFunctions.{IsChecked}
 use Rattle.sql_meaning.specs.Placed.{column_of, placed, placed_at}
 use Rattle.sql_meaning.specs.Reads.{reads, slots_of}
 use Rattle.block_forms.specs.Expressions.{a, b as second, null_as, a_is_null, of_two, compared, fixed_list, sources, expressions}
@@ -98,30 +95,68 @@ module _ (schema : Schema) where
   first_placed t s ref tables own = whole s ref t a (slot s ref 0 (own 0 0 refl))
 
   test_placed : Placed schema a_is_null
+  unfolding b.hidden-the_row-Expr-0 denote.Hole.Carrier.hidden
   test_placed t s ref tables own = whole s ref t a_is_null (is_null s ref a (slot s ref 0 (own 0 0 refl)))
 
   not_positive_placed : Placed schema (compared cmp.Le a (expr.Int (pos 0)))
-  not_positive_placed t s ref tables own = whole s ref t _ (compare s ref cmp.Le a (expr.Int (pos 0)) (slot s ref 0 (own 0 0 refl)) (c.cast ty.Bigint (c.int (pos 0))))
+  unfolding b.hidden-the_row-Expr-0 denote.Hole.Carrier.hidden
+  not_positive_placed t s ref tables own = whole s ref t (compared cmp.Le a (expr.Int (pos 0))) (compare s ref cmp.Le a (expr.Int (pos 0)) (slot s ref 0 (own 0 0 refl)) (c.cast ty.Bigint (c.int (pos 0))))
 
   both_compared : (op : CmpOp) → Placed schema (compared op a second)
-  both_compared op t s ref tables own = whole s ref t _ (compare s ref op a second (slot s ref 0 (own 0 0 refl)) (slot s ref 1 (own 1 1 refl)))
+  unfolding b.hidden-the_row-Expr-0 denote.Hole.Carrier.hidden
+  both_compared op t s ref tables own = whole s ref t (compared op a second) (compare s ref op a second (slot s ref 0 (own 0 0 refl)) (slot s ref 1 (own 1 1 refl)))
 
   limit_compared : (op : CmpOp) (step : IntOp) (n : ℤ) → Placed schema (compared op (of_two step (expr.Int n) a) second)
+  unfolding b.hidden-the_row-Expr-0 b.hidden-the_row-Expr-Chain-1-2-1 denote.Hole.Carrier.hidden
   limit_compared op step n t s ref tables own =
-      whole s ref t _
+      whole s ref t (compared op (of_two step (expr.Int n) a) second)
       (compare s ref op (of_two step (expr.Int n) a) second (two s ref step (expr.Int n) a (c.cast ty.Bigint (c.int n)) (slot s ref 0 (own 0 0 refl))) (slot s ref 1 (own 1 1 refl)))
 
   step_placed : (op : IntOp) → Placed schema (of_two op a second)
-  step_placed op t s ref tables own = whole s ref t _ (two s ref op a second (slot s ref 0 (own 0 0 refl)) (slot s ref 1 (own 1 1 refl)))
+  unfolding b.hidden-the_row-Expr-0 b.hidden-the_row-Expr-Chain-1-2-1 denote.Hole.Carrier.hidden
+  step_placed op t s ref tables own = whole s ref t (of_two op a second) (two s ref op a second (slot s ref 0 (own 0 0 refl)) (slot s ref 1 (own 1 1 refl)))
 
   one_placed : Placed schema (expr.Cast (expr.Int (pos 1)) ty.Bigint)
-  one_placed t s ref tables own = whole s ref t _ (with_type s ref (expr.Int (pos 1)) ty.Bigint (c.cast ty.Bigint (c.int (pos 1))))
+  one_placed t s ref tables own = whole s ref t (expr.Cast (expr.Int (pos 1)) ty.Bigint) (with_type s ref (expr.Int (pos 1)) ty.Bigint (c.cast ty.Bigint (c.int (pos 1))))
 
   fixed_placed : Every (Placed schema) fixed_list
-  fixed_placed =
-      (null_placed ty.Bigint, (null_placed ty.Boolean, (null_placed ty.Text, (test_placed, (test_placed, (test_placed, (
-      not_positive_placed, (both_compared cmp.Le, (both_compared cmp.Ge, (limit_compared cmp.Lt int.Sub _, (limit_compared cmp.Gt int.Add _, (
-      step_placed int.Add, (step_placed int.Sub, (one_placed, (first_placed, (null_placed ty.Integer, (test_placed, tt)))))))))))))))))
+  fixed_placed = (
+    null_placed ty.Bigint,
+    (
+      null_placed ty.Boolean,
+      (
+        null_placed ty.Text,
+        (
+          test_placed,
+          (
+            test_placed,
+            (
+              test_placed,
+              (
+                not_positive_placed,
+                (
+                  both_compared cmp.Le,
+                  (
+                    both_compared cmp.Ge,
+                    (
+                      limit_compared cmp.Lt int.Sub _,
+                      (
+                        limit_compared cmp.Gt int.Add _,
+                        (
+                          step_placed int.Add,
+                          (step_placed int.Sub, (one_placed, (first_placed, (null_placed ty.Integer, (test_placed, tt))))),
+                        ),
+                      ),
+                    ),
+                  ),
+                ),
+              ),
+            ),
+          ),
+        ),
+      ),
+    ),
+  )
 
   -- ---- by places
 

@@ -1,5 +1,5 @@
 -- What is named from left to right, as lists: the members, and that each breaks no rule.
-use Rattle.std.proofs.Common.{◌≡◌, refl, ap, sym, ◌∙◌, List, [], ◌∷◌, ◌++◌, map, fold, Option}
+use Rattle.std.proofs.Common.{◌≡◌, refl, sym, ◌∙◌, List, [], ◌∷◌, ◌++◌, map, fold, Option}
 use Rattle.std.proofs.lemmas.List.{append_assoc, append-nil}
 use Rattle.away_trees.specs.declared.queries.Item.{Item}
 use Rattle.away_trees.specs.declared.queries.Select.{Select}

@@ -4,11 +4,10 @@ use Rattle.std.specs.Prelude.{slice_get, bytes_eq}
 use Rattle.away_trees.specs.declared.queries.Col.{Col}
 use Rattle.away_trees.specs.declared.queries.Expr.TheVariants as expr
 use Rattle.away_names.specs.declared.scope.Hit.{Hit}
-use Rattle.away_names.specs.declared.scope.Seen.{Seen}
 use Rattle.away_names.specs.Lookups.{Name, Level, or_else, is_kept, place_of, hit_at, in_item, nearest, column_dotted}
 use Rattle.sql_meaning.specs.Placed.{further}
 use Rattle.dotted_names.specs.Sight.{spoken}
-use Rattle.placed_names.proofs.Refined.{LevelsSo, by_alias, not_here, behind_there, Called, called_by, is_called}
+use Rattle.placed_names.proofs.Refined.{LevelsSo, by_alias, not_here, behind_there, called_by, is_called}
 
 -- a hit that is so many selects further out
 abbrev shifted : ℕ → Hit → Hit

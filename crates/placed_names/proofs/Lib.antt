@@ -3,6 +3,7 @@ pub mod Further
 pub mod Folded
 pub mod Standing
 pub mod PlacedParts
+pub mod PlacedSelects
 pub mod PlacedTrees
 pub mod OwnLeaves
 pub mod ReadSlots

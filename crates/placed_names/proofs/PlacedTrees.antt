@@ -1,68 +1,34 @@
 -- In a function, a tree whose names are resolved and break no rule is clear as a query has it, where what stands for slots is clear.
-use Rattle.std.proofs.Common.{◌≡◌, refl, ap, sym, subst, ◌∙◌, ℕ, suc, arith, Bool, true, false, List, [], ◌∷◌, ◌++◌, map, drop, length, Option, Some, None, option_map}
+use Rattle.std.proofs.Common.{◌≡◌, refl, ap, sym, subst, ℕ, arith, Bool, true, false, List, [], ◌++◌, map, length, Option, Some, None}
 use Rattle.std.specs.Prelude.{is_some}
 use Rattle.std.specs.List.{flat_map}
 use Rattle.away_values.specs.declared.operators.ChainOp.{ChainOp}
 use Rattle.away_trees.specs.declared.queries.Expr.{Expr}
 use Rattle.away_trees.specs.declared.queries.Expr.TheVariants as expr
-use Rattle.away_trees.specs.declared.queries.Source.{Source}
-use Rattle.away_trees.specs.declared.queries.Source.TheVariants as source
-use Rattle.away_trees.specs.declared.queries.FromItem.{FromItem}
-use Rattle.away_trees.specs.declared.queries.Item.{Item}
-use Rattle.away_trees.specs.declared.queries.Key.{Key}
-use Rattle.away_trees.specs.declared.queries.Select.{Select}
-use Rattle.away_trees.specs.declared.queries.Query.{Query}
-use Rattle.away_trees.specs.declared.queries.Recursive.{Recursive}
-use Rattle.away_trees.specs.declared.queries.Expr.TheOpen as ex
-use Rattle.away_trees.specs.declared.queries.Expr.TheOpen.{Select-F, Query-F}
-use Rattle.away_trees.specs.declared.queries.Expr.TheViews.{out-FromItem, roll-Item, roll-FromItem, roll-Select, roll-Query, out-roll-Select, out-roll-Query}
-use Rattle.away_trees.specs.Algebra.{Algebra, expr_of, source_of, from_of, item_of, key_of, select_of, query_of}
+use Rattle.away_trees.specs.Algebra.{Algebra, expr_of}
 use Rattle.away_trees.proofs.Equations as eq
 use Rattle.away_names.specs.declared.note.Column.{Column}
-use Rattle.away_names.specs.declared.note.Framed.{Framed}
-use Rattle.away_names.specs.declared.note.Named.{Named}
-use Rattle.away_names.specs.declared.note.Part.{Part}
-use Rattle.away_names.specs.declared.note.Shown.{Shown}
-use Rattle.away_names.specs.declared.scope.Listed.{Listed}
-use Rattle.away_names.specs.declared.scope.Seen.{Seen}
-use Rattle.away_names.specs.Lookups.{Name, Level, Scope, inside, is_kept, has_double}
+use Rattle.away_names.specs.Lookups.{Name, Level, Scope, is_kept}
 use Rattle.away_names.specs.Naming as n
 use Rattle.away_names.specs.Naming.{naming}
 use Rattle.away_names.specs.Notes.{joined, breaks, each, held}
 use Rattle.away_names.specs.Trees.{named_expr}
-use Rattle.sql_meaning.specs.Reads.{Read, Reads, SourceReads, reading, of_list, of_option}
-use Rattle.sql_meaning.proofs.Lists.{Zipped}
-use Rattle.sql_meaning.proofs.Uses.{left, right}
+use Rattle.sql_meaning.specs.Reads.{Read, Reads, reading, of_list}
 use Rattle.sql_meaning.proofs.Related.{AlikeOption, AlikeLink, AlikeArm, Relation, IsKept, expr_related}
 use Rattle.typed_values.specs.Sorts.{Every}
-use Rattle.typed_values.proofs.CleanNotes.{Clean, clean_parts, not_broken, test_fails}
+use Rattle.typed_values.proofs.CleanNotes.{Clean, clean_parts, not_broken}
 use Rattle.slots_in_sight.proofs.Trees.{firsts}
-use Rattle.dotted_names.specs.Sight.{Sight, own_name, column_name}
-use Rattle.dotted_names.specs.Dotting as dot
-use Rattle.dotted_names.specs.Trees.{dotted_expr, dotted_item, dotted_part, dotted_select, dotted_shown, dotted_from, dotted_over, dotted_selects, dotted_recursive}
+use Rattle.dotted_names.specs.Sight.{own_name, column_name}
+use Rattle.dotted_names.specs.Trees.{dotted_expr}
 use Rattle.dotted_names.specs.Unambiguous.{value, values, links, arms, maybe, items, keys, from_items, IsClear}
 use Rattle.dotted_names.specs.Unambiguous as c
 use Rattle.dotted_names.proofs.DottingRules as d
-use Rattle.dotted_names.proofs.BackQueries.{from_is}
-use Rattle.placed_names.proofs.Refined.{NameSo, SeenSo, LevelSo, LevelsSo}
-use Rattle.placed_names.proofs.Folded.{each_is, each_clean, items_are, item_names, items_clean, selects_are, select_names, selects_clean, first_names_of}
-use Rattle.placed_names.proofs.Standing.{under, ClearExpr, ClearItem, ClearKey, ClearPart, ClearSelect, ClearQuery, Fits, Leaves, Allowed, one_of_these, placing, may_write, no_param, name_clear, dotted_clear, known_function}
+use Rattle.placed_names.proofs.Refined.{NameSo, LevelsSo}
+use Rattle.placed_names.proofs.Folded.{each_is, each_clean}
+use Rattle.placed_names.proofs.Standing.{under, ClearExpr, Fits, Leaves, Allowed, placing, may_write, no_param, name_clear, dotted_clear, known_function}
 use Rattle.placed_names.proofs.PlacedParts as part
-
--- ---- names in order
-
-plain_so : (ns : List Name) → Zipped NameSo (n.plain_names ns) (n.plain_names ns)
-plain_so [] = tt
-plain_so (x ∷ ns) = (refl, plain_so ns)
-
-names_or_so : (columns : List Name) (xs ys : List (Option Name)) → Zipped NameSo xs ys → Zipped NameSo (n.names_or columns xs) (n.names_or columns ys)
-unfolding n.names_or
-names_or_so [] xs ys r = r
-names_or_so (x ∷ ns) xs ys r = plain_so (x ∷ ns)
-
-before_so : (lateral : Bool) (level seen : Level) → LevelSo level seen → LevelSo (n.before lateral level) (n.before lateral seen)
-before_so true level seen r = r
-before_so false level seen r = tt
+use Rattle.placed_names.proofs.PlacedSelects as sel
+use Rattle.placed_names.proofs.PlacedSelects.{MayStand, may_stand}
 
 item_name_so : (alias : Option Name) (e : Expr) (last : Option Name) (v : Expr) → NameSo (n.shown e last) (own_name v) → NameSo (n.named_as alias e last) (column_name alias v)
 unfolding n.named_as column_name
@@ -73,20 +39,6 @@ item_name_so (Some x) e last v h = refl
 node : (s : Scope) (w : Expr) → IsClear value s w → own_name (dotted_expr w s.levels) ≡ None → ClearExpr s None w
 node s w k e = record { clear = k; named = subst (NameSo None) (sym e) tt }
 
--- the alias and the list of columns of an item that breaks no rule
-record MayStand (alias : Name) (columns : List Name) : Type 0 where
-  written : is_kept alias ≡ false
-  differ : has_double columns ≡ false
-
-may_stand : (s : Scope) (alias : Name) (columns : List Name) → s.in_function ≡ true → Clean (n.part_note s alias columns) → MayStand alias columns
-unfolding n.part_note
-may_stand s alias columns h k =
-    let both = clean_parts (n.written s alias) (joined (n.all_written s columns) (breaks 6 (has_double columns))) k in
-    record {
-      written = may_write s alias h both.0;
-      differ = test_fails 6 (has_double columns) (omega arith) (clean_parts (n.all_written s columns) (breaks 6 (has_double columns)) both.1).1;
-    }
-
 module _ (q : Scope) (slots : ℕ → Bool) (leaf : ℕ → ℕ → Expr) (leaves : Leaves q slots leaf) where
   abbrev P : Algebra
   P = placing leaf
@@ -94,238 +46,20 @@ module _ (q : Scope) (slots : ℕ → Bool) (leaf : ℕ → ℕ → Expr) (leave
   abbrev May : List Read → Type 0
   May = Allowed slots
 
-  abbrev Queries : n.Whole → Type 0
-  Queries w =
-      (s : Scope) (ms : List Level) → Fits q s ms → Clean (w s).note → May (query_of reading (w s).it.it (length ms))
-      → ClearQuery (under ms q) (w s).it.names (query_of P (w s).it.it (length ms))
-
-  -- with the alias of its item
-  abbrev Sources : n.Rows → Type 0
-  Sources r =
-      (columns : List Name) (alias : Name) (s : Scope) (level seen : Level) (ms : List Level) → LevelSo level seen → Fits q s ms → MayStand alias columns → Clean (r columns s level).note
-      → May (source_of reading (r columns s level).it.source (r columns s level).it.columns (suc (length ms)))
-      → ClearPart (under ms q) seen (record { alias = alias; columns = (r columns s level).it.names })
-      (roll-FromItem (record { source = source_of P (r columns s level).it.source (suc (length ms)); alias = alias; columns = (r columns s level).it.columns }))
-
   abbrev relation : Relation naming naming naming
   relation = record {
     Exprs = λ x y z. part.Exprs q slots leaf x;
-    Sources = λ x y z. Sources x;
+    Sources = λ x y z. sel.Sources q slots leaf x;
     Froms = λ x y z. part.Froms q slots leaf x;
     Items = λ x y z. part.Items q slots leaf x;
     Keys = λ x y z. part.Keys q slots leaf x;
-    Queries = λ x y z. Queries x;
+    Queries = λ x y z. sel.Queries q slots leaf x;
     Recursives = λ x y z. Unit {0};
     Selects = λ x y z. part.Selects q slots leaf x;
   }
 
   by : (d : ℕ) (s : Scope) (own : Option Name) (v w : ℕ → Expr) → v ≡ w → ClearExpr s own (w d) → ClearExpr s own (v d)
   by d s own v w e h = subst (λ (x : ℕ → Expr). ClearExpr s own (x d)) (sym e) h
-
-  -- what a node reads, by what its parts do
-  reads_so : (d : ℕ) (v w : Reads) → v ≡ w → May (v d) → May (w d)
-  reads_so d v w e h = subst (λ (x : Reads). May (x d)) e h
-
-  one : (u v : List Read) → May (u ++ v) → May u
-  one u v h = left (one_of_these slots) u v h
-
-  two : (u v : List Read) → May (u ++ v) → May v
-  two u v h = right (one_of_these slots) u v h
-
-  -- ---- FROM
-
-  table_clear : (x alias : Name) (columns : List Name) (s : Scope) (seen : Level) (ms : List Level) → Fits q s ms → MayStand alias columns → is_kept x ≡ false
-      → (t : Option Listed) → s.table x ≡ t → Clean (n.of_table x t).note
-      → ClearPart (under ms q) seen (record { alias = alias; columns = (n.of_table x t).it.names })
-      (roll-FromItem (record { source = source_of P (n.of_table x t).it.source (suc (length ms)); alias = alias; columns = (n.of_table x t).it.columns }))
-  unfolding n.of_table
-  table_clear x alias columns s seen ms f m h None is g = absurd (not_broken 9 (omega arith) g)
-  table_clear x alias columns s seen ms f m h (Some t) is g =
-      let w : FromItem = roll-FromItem (record { source = source.Table x; alias = alias; columns = t.written }) in
-      let names : List (Option Name) = n.plain_names (drop 1 t.written) in
-      let seen_is : (dotted_part w (ms ++ q.levels) seen).seen ≡ record { alias = alias; columns = names } =
-      ap (λ (p : Part). p.seen) (d.part_rule w (ms ++ q.levels) seen ∙ ap (n.shaped alias) (d.table_is x t.written (ms ++ q.levels) seen)) in
-      record {
-        clear = c.table x alias t.written t.recursive (f.tables x h ∙ is);
-        seen_so = subst (SeenSo (record { alias = alias; columns = names })) (sym seen_is) (record { alias = refl; written = m.written; columns = plain_so (drop 1 t.written) });
-        alias = refl;
-      }
-
-  sub_clear : (x : n.Whole) (lateral : Bool) → Queries x → Sources (n.origin (ex.Sub x lateral))
-  sub_clear x lateral k columns alias s level seen ms r f m g a =
-      let d' : ℕ = suc (length ms) in
-      let found : Named (Shown Query) = x (inside (n.before lateral level) s) in
-      let inner = k (inside (n.before lateral level) s) (n.before lateral seen ∷ ms) (record { in_function = f.in_function; tables = f.tables; so = (before_so lateral level seen r, f.so) }) g
-          (subst (λ (t : SourceReads). May (t columns d')) (eq.of_sub reading found.it.it lateral) a) in
-      let y : Query = query_of P found.it.it d' in
-      let w : FromItem = roll-FromItem (record { source = source.Sub y lateral; alias = alias; columns = columns }) in
-      let own : Seen = record { alias = alias; columns = n.names_or columns found.it.names } in
-      let seen_is : (dotted_part w (ms ++ q.levels) seen).seen ≡ record { alias = alias; columns = n.names_or columns (dotted_shown y (n.before lateral seen ∷ (ms ++ q.levels))).names } =
-      ap (λ (p : Part). p.seen) (d.part_rule w (ms ++ q.levels) seen ∙ ap (n.shaped alias) (d.sub_is y lateral columns (ms ++ q.levels) seen)) in
-      subst (λ (z : Source). ClearPart (under ms q) seen own (roll-FromItem (record { source = z; alias = alias; columns = columns })))
-      (sym (ap (λ (t : ℕ → Source). t d') (eq.of_sub P found.it.it lateral)))
-      (record {
-        clear = c.subquery alias columns lateral m.differ inner.clear;
-        seen_so = subst (SeenSo own) (sym seen_is) (record { alias = refl; written = m.written; columns = names_or_so columns found.it.names _ inner.names_so });
-        alias = refl;
-      })
-
-  -- ---- selects
-
-  abbrev at : {A : Type 0} → ℕ → List (ℕ → A) → List A
-  at d xs = map (λ x. x d) xs
-
-  abbrev maybe_at : ℕ → Option Expr → Option Expr
-  maybe_at d o = option_map (λ x. x d) (option_map (λ e. expr_of P e) o)
-
-  abbrev Fields : Type 0
-  Fields = Select-F Expr Source FromItem Item Key Query Recursive Select
-
-  dotted_fields : (x : Fields) (l : Sight) → dotted_select (roll-Select x) l ≡ dotted_over x ((dotted_from l x.from).seen ∷ l) (dotted_from l x.from).items
-  dotted_fields x l = d.select_rule (roll-Select x) l ∙ ap (λ (x : Fields). dotted_over x ((dotted_from l x.from).seen ∷ l) (dotted_from l x.from).items) (out-roll-Select x)
-
-  -- the items of FROM, as the query sees them
-  record FromClear (ms : List Level) (aliases : List Name) (seen : Level) (fs : List FromItem) : Type 0 where
-    clear : IsClear (from_items []) (under ms q) (at (suc (length ms)) (map (λ x. from_of P x) fs))
-    seen_so : LevelSo seen (dotted_from (ms ++ q.levels) (at (suc (length ms)) (map (λ x. from_of P x) fs))).seen
-    aliases_are : map (λ f. (out-FromItem f).alias) (at (suc (length ms)) (map (λ x. from_of P x) fs)) ≡ aliases
-
-  from_clear : (s : Scope) (ms : List Level) → Fits q s ms → (fs : List n.Piece) → Every (part.Froms q slots leaf) fs → Clean (n.framed s fs).note
-      → May (of_list (suc (length ms)) (map (λ x. from_of reading x) (n.framed s fs).it.items)) → FromClear ms (map (λ f. f.alias) fs) (n.framed s fs).it.seen (n.framed s fs).it.items
-  from_clear s ms f fs h g a =
-      let ps : List Part = part.pieces s [] fs in
-      let so = part.from_clear q slots leaf s ms f fs h [] [] tt (part.framed_clean s fs g) (subst (λ xs. May (of_list (suc (length ms)) (map (λ x. from_of reading x) xs))) (part.framed_items s fs) a) in
-      let placed : List FromItem = at (suc (length ms)) (map (λ x. from_of P x) (map (λ p. p.item) ps)) in
-      subst (λ xs. FromClear ms (map (λ f. f.alias) fs) (n.framed s fs).it.seen xs) (sym (part.framed_items s fs))
-      (subst (λ seen. FromClear ms (map (λ f. f.alias) fs) seen (map (λ p. p.item) ps)) (sym (part.framed_seen s fs))
-      (record {
-        clear = so.clear;
-        seen_so = subst (λ (a : Framed). LevelSo (map (λ p. p.seen) ps) a.seen) (sym (from_is (ms ++ q.levels) placed)) so.seen_so;
-        aliases_are = so.aliases_are;
-      }))
-
-  abbrev inner_levels : List Level → List FromItem → List Level
-  inner_levels ms from = (dotted_from (ms ++ q.levels) (at (suc (length ms)) (map (λ x. from_of P x) from))).seen ∷ ms
-
-  select_clear : (ms : List Level) (names : List (Option Name)) (aliases : List Name) (seen : Level) (list : List Item) (from : List FromItem) (filter : Option Expr) (order : List Key) (limit : Option Expr)
-      → has_double aliases ≡ false → FromClear ms aliases seen from
-      → IsClear items (under (inner_levels ms from) q) (at (suc (length ms)) (map (λ x. item_of P x) list))
-      → Zipped NameSo names (map (λ c. c.name) (map (λ i. dotted_item i (inner_levels ms from ++ q.levels)) (at (suc (length ms)) (map (λ x. item_of P x) list))))
-      → IsClear maybe (under (inner_levels ms from) q) (maybe_at (suc (length ms)) filter)
-      → IsClear keys (under (inner_levels ms from) q) (at (suc (length ms)) (map (λ x. key_of P x) order))
-      → IsClear maybe (under (inner_levels ms from) q) (maybe_at (suc (length ms)) limit)
-      → ClearSelect (under ms q) names (select_of P (roll-Select (record { list = list; from = from; filter = filter; order = order; limit = limit })) (length ms))
-  select_clear ms names aliases seen list from filter order limit differ f l r w o m =
-      let d' : ℕ = suc (length ms) in
-      let x : Fields = record { list = at d' (map (λ x. item_of P x) list); from = at d' (map (λ x. from_of P x) from); filter = maybe_at d' filter; order = at d' (map (λ x. key_of P x) order); limit = maybe_at d' limit } in
-      subst (λ (t : ℕ → Select). ClearSelect (under ms q) names (t (length ms))) (sym (eq.of_select P list from filter order limit))
-      (record {
-        clear = c.whole (ap has_double f.aliases_are ∙ differ) f.clear l w o m;
-        names_so = subst (λ (t : Shown Select). Zipped NameSo names t.names) (sym (dotted_fields x (ms ++ q.levels))) r;
-      })
-
-  abbrev MaybeExprs : Option n.Term → Type 0
-  MaybeExprs None = Unit {0}
-  MaybeExprs (Some t) = part.Exprs q slots leaf t
-
-  -- what a select reads: its list, FROM, the condition, the keys and LIMIT
-  record MayParts (d : ℕ) (is : List Item) (fs : List FromItem) (w : Option Expr) (ks : List Key) (m : Option Expr) : Type 0 where
-    list : May (of_list d (map (λ x. item_of reading x) is))
-    from : May (of_list d (map (λ x. from_of reading x) fs))
-    filter : May (of_option d (option_map (λ e. expr_of reading e) w))
-    order : May (of_list d (map (λ x. key_of reading x) ks))
-    limit : May (of_option d (option_map (λ e. expr_of reading e) m))
-
-  may_parts : (d : ℕ) (list : List Item) (from : List FromItem) (filter : Option Expr) (order : List Key) (limit : Option Expr)
-      → May (select_of reading (roll-Select (record { list = list; from = from; filter = filter; order = order; limit = limit })) d) → MayParts (suc d) list from filter order limit
-  may_parts d list from filter order limit a =
-      let e : ℕ = suc d in
-      let all = reads_so d _ _ (eq.of_select reading list from filter order limit) a in
-      let h₁ = two (of_list e (map (λ x. item_of reading x) list)) _ all in
-      let h₂ = two (of_list e (map (λ x. from_of reading x) from)) _ h₁ in
-      let h₃ = two (of_option e (option_map (λ e. expr_of reading e) filter)) _ h₂ in
-      record {
-        list = one (of_list e (map (λ x. item_of reading x) list)) _ all;
-        from = one (of_list e (map (λ x. from_of reading x) from)) _ h₁;
-        filter = one (of_option e (option_map (λ e. expr_of reading e) filter)) _ h₂;
-        order = one (of_list e (map (λ x. key_of reading x) order)) _ h₃;
-        limit = two (of_list e (map (λ x. key_of reading x) order)) _ h₃;
-      }
-
-  maybe_clear : (t : Option n.Term) → MaybeExprs t → (s : Scope) (ms : List Level) → Fits q s ms → Clean (held (λ t. t.judge s) t).note
-      → May (of_option (length ms) (option_map (λ e. expr_of reading e) (held (λ t. t.judge s) t).it)) → IsClear maybe (under ms q) (maybe_at (length ms) (held (λ t. t.judge s) t).it)
-  maybe_clear None h s ms f g a = c.nothing
-  maybe_clear (Some t) h s ms f g a = c.something (h s ms f g a).clear
-
-  items_clear : (l : List n.Entry) → Every (part.Items q slots leaf) l → (s : Scope) (ms : List Level) → Fits q s ms → Clean (n.items s l).note → May (of_list (length ms) (map (λ x. item_of reading x) (n.items s l).it.it))
-      → IsClear items (under ms q) (at (length ms) (map (λ x. item_of P x) (n.items s l).it.it))
-      × Zipped NameSo (n.items s l).it.names (map (λ c. c.name) (map (λ i. dotted_item i (ms ++ q.levels)) (at (length ms) (map (λ x. item_of P x) (n.items s l).it.it))))
-  items_clear l h s ms f g a =
-      let clean_all = items_clean (λ i. i.judge s) l g in
-      let may = subst (λ xs. May (of_list (length ms) (map (λ x. item_of reading x) xs))) (items_are (λ i. i.judge s) l) a in
-      let names = part.names_so q slots leaf s ms f l h clean_all may in (
-        subst (λ xs. IsClear items (under ms q) (at (length ms) (map (λ x. item_of P x) xs))) (sym (items_are (λ i. i.judge s) l)) (part.list_clear q slots leaf s ms f l h clean_all may),
-        subst (λ xs. Zipped NameSo (n.items s l).it.names (map (λ c. c.name) (map (λ i. dotted_item i (ms ++ q.levels)) (at (length ms) (map (λ x. item_of P x) xs))))) (sym (items_are (λ i. i.judge s) l))
-            (subst (λ ns. Zipped NameSo ns (map (λ c. c.name) (map (λ i. dotted_item i (ms ++ q.levels)) (at (length ms) (map (λ x. item_of P x) (map (λ i. (i.judge s).it.it) l))))))
-            (sym (item_names (λ i. i.judge s) l)) names),
-      )
-
-  keys_clear : (aliases : List (Option Name)) (o : List n.Sort) → Every (part.Keys q slots leaf) o → (s : Scope) (ms : List Level) → Fits q s ms → Clean (each (λ k. k aliases s) o).note
-      → May (of_list (length ms) (map (λ x. key_of reading x) (each (λ k. k aliases s) o).it)) → IsClear keys (under ms q) (at (length ms) (map (λ x. key_of P x) (each (λ k. k aliases s) o).it))
-  keys_clear aliases o h s ms f g a =
-      subst (λ xs. IsClear keys (under ms q) (at (length ms) (map (λ x. key_of P x) xs))) (sym (each_is (λ k. k aliases s) o))
-      (part.keys_clear q slots leaf s ms f aliases o h (each_clean (λ k. k aliases s) o g) (subst (λ xs. May (of_list (length ms) (map (λ x. key_of reading x) xs))) (each_is (λ k. k aliases s) o) a))
-
-  listing_clear : (l : List n.Entry) (f : List n.Piece) (w : Option n.Term) (o : List n.Sort) (m : Option n.Term) → Every (part.Items q slots leaf) l → Every (part.Froms q slots leaf) f
-      → MaybeExprs w → Every (part.Keys q slots leaf) o → MaybeExprs m → part.Selects q slots leaf (n.listing (record { list = l; from = f; filter = w; order = o; limit = m }))
-  listing_clear l f w o m lh fh wh oh mh s ms fits g a =
-      let from : Named Framed = n.framed s f in
-      let inner : Scope = inside from.it.seen s in
-      let aliases : List (Option Name) = map (λ i. i.alias) l in
-      let two_notes = clean_parts _ _ g in
-      let heads = clean_parts (breaks 6 (has_double (map (λ f. f.alias) f))) from.note two_notes.0 in
-      let over = clean_parts _ _ two_notes.1 in
-      let first = clean_parts (n.items inner l).note (held (λ t. t.judge inner) w).note over.0 in
-      let second = clean_parts (each (λ k. k aliases inner) o).note (held (λ t. t.judge inner) m).note over.1 in
-      let may = may_parts (length ms) (n.items inner l).it.it from.it.items (held (λ t. t.judge inner) w).it (each (λ k. k aliases inner) o).it (held (λ t. t.judge inner) m).it a in
-      let so = from_clear s ms fits f fh heads.1 may.from in
-      let ns : List Level = inner_levels ms from.it.items in
-      let here : Fits q inner ns = record { in_function = fits.in_function; tables = fits.tables; so = (so.seen_so, fits.so) } in
-      let list = items_clear l lh inner ns here first.0 may.list in
-      select_clear ms (n.items inner l).it.names (map (λ f. f.alias) f) from.it.seen (n.items inner l).it.it from.it.items (held (λ t. t.judge inner) w).it (each (λ k. k aliases inner) o).it (held (λ t. t.judge inner) m).it
-      (test_fails 6 (has_double (map (λ f. f.alias) f)) (omega arith) heads.0) so list.0 list.1 (maybe_clear w wh inner ns here first.1 may.filter) (keys_clear aliases o oh inner ns here second.0 may.order)
-      (maybe_clear m mh inner ns here second.1 may.limit)
-
-  -- ---- queries
-
-  abbrev QueryFields : Type 0
-  QueryFields = Query-F Expr Source FromItem Item Key Query Recursive Select
-
-  first_so : (s : Scope) (ms : List Level) → Fits q s ms → (ls : List n.Listing) → Every (part.Selects q slots leaf) ls → Every (λ l. Clean (l s).note) ls
-      → May (of_list (length ms) (map (λ x. select_of reading x) (map (λ l. (l s).it.it) ls)))
-      → Zipped NameSo (first_names_of (map (λ l. (l s).it) ls)) (dot.first_of (map (λ x. dotted_select x (ms ++ q.levels)) (at (length ms) (map (λ x. select_of P x) (map (λ l. (l s).it.it) ls)))))
-  first_so s ms f [] h g a = tt
-  first_so s ms f (l ∷ ls) h g a = (h.0 s ms f g.0 (one (select_of reading (l s).it.it (length ms)) _ a)).names_so
-
-  query_clear : (s : Scope) (ms : List Level) → Fits q s ms → (ls : List n.Listing) → Every (part.Selects q slots leaf) ls → Clean (n.united ls s).note → May (query_of reading (n.query_with (n.united ls s).it).it (length ms))
-      → ClearQuery (under ms q) (n.united ls s).it.names (query_of P (n.query_with (n.united ls s).it).it (length ms))
-  query_clear s ms f ls h g a =
-      let l : Sight = ms ++ q.levels in
-      let clean_all = selects_clean (λ l. l s) ls g in
-      let xs : List Select = map (λ l. (l s).it.it) ls in
-      let may = subst (λ zs. May (of_list (length ms) (map (λ x. select_of reading x) zs))) (selects_are (λ l. l s) ls) (reads_so (length ms) _ _ (eq.of_query reading (n.united ls s).it.it) a) in
-      let ys : List Select = at (length ms) (map (λ x. select_of P x) xs) in
-      let x : QueryFields = record { recursive = None; selects = ys } in
-      let dotted : dotted_shown (roll-Query x) l ≡ dot.query_of None (dotted_selects l ys) =
-      d.query_rule (roll-Query x) l ∙ ap (λ (x : QueryFields). dot.query_of (option_map (λ r. dotted_recursive r l) x.recursive) (dotted_selects l x.selects)) (out-roll-Query x) in
-      let made : ClearQuery (under ms q) (first_names_of (map (λ l. (l s).it) ls)) (query_of P (roll-Query (record { recursive = None; selects = xs })) (length ms)) =
-      subst (λ (t : ℕ → Query). ClearQuery (under ms q) (first_names_of (map (λ l. (l s).it) ls)) (t (length ms))) (sym (eq.of_query P xs))
-      (record {
-        clear = c.union (part.selects_clear q slots leaf s ms f ls h clean_all may);
-        names_so = subst (λ (t : Shown Query). Zipped NameSo (first_names_of (map (λ l. (l s).it) ls)) t.names) (sym dotted) (first_so s ms f ls h clean_all may);
-      }) in
-      subst (λ (zs : List Select). ClearQuery (under ms q) (n.united ls s).it.names (query_of P (roll-Query (record { recursive = None; selects = zs })) (length ms))) (sym (selects_are (λ l. l s) ls))
-      (subst (λ names. ClearQuery (under ms q) names (query_of P (roll-Query (record { recursive = None; selects = xs })) (length ms))) (sym (select_names (λ l. l s) ls)) made)
 
   -- ---- all steps
 
@@ -335,9 +69,9 @@ module _ (q : Scope) (slots : ℕ → Bool) (leaf : ℕ → ℕ → Expr) (leave
 
   module _ (s : Scope) (ms : List Level) (f : Fits q s ms) where
     values_of : (ts : List n.Term) → Every (part.Exprs q slots leaf) ts → Clean (each (λ t. t.judge s) ts).note → May (of_list (length ms) (map (λ e. expr_of reading e) (each (λ t. t.judge s) ts).it))
-        → IsClear values (under ms q) (at (length ms) (map (λ e. expr_of P e) (each (λ t. t.judge s) ts).it))
+        → IsClear values (under ms q) (map (λ x. x (length ms)) (map (λ e. expr_of P e) (each (λ t. t.judge s) ts).it))
     values_of ts h g a =
-        subst (λ xs. IsClear values (under ms q) (at (length ms) (map (λ e. expr_of P e) xs))) (sym (each_is (λ t. t.judge s) ts)) (part.values_clear q slots leaf s ms f ts h (each_clean (λ t. t.judge s) ts g) (subst (λ xs. May (of_list (length ms) (map (λ e. expr_of reading e) xs))) (each_is (λ t. t.judge s) ts) a))
+        subst (λ xs. IsClear values (under ms q) (map (λ x. x (length ms)) (map (λ e. expr_of P e) xs))) (sym (each_is (λ t. t.judge s) ts)) (part.values_clear q slots leaf s ms f ts h (each_clean (λ t. t.judge s) ts g) (subst (λ xs. May (of_list (length ms) (map (λ e. expr_of reading e) xs))) (each_is (λ t. t.judge s) ts) a))
 
     links_of : (ls : List (ChainOp × n.Term)) → Every (λ (l : ChainOp × n.Term). part.Exprs q slots leaf l.1) ls → Clean (each (n.linked s) ls).note → May (flat_map (λ (l : ChainOp × Reads). l.1 (length ms)) (map (λ l. eq.link_of reading l) (each (n.linked s) ls).it))
         → IsClear links (under ms q) (map (λ (l : ChainOp × (ℕ → Expr)). (l.0, l.1 (length ms))) (map (λ l. eq.link_of P l) (each (n.linked s) ls).it))
@@ -349,7 +83,7 @@ module _ (q : Scope) (slots : ℕ → Bool) (leaf : ℕ → ℕ → Expr) (leave
     arms_of as_ h g a =
         subst (λ xs. IsClear arms (under ms q) (map (λ (a : (ℕ → Expr) × (ℕ → Expr)). (a.0 (length ms), a.1 (length ms))) (map (λ a. eq.arm_of P a) xs))) (sym (each_is (n.armed s) as_)) (part.arms_clear q slots leaf s ms f as_ h (each_clean (n.armed s) as_ g) (subst (λ xs. May (flat_map (λ (a : Reads × Reads). a.0 (length ms) ++ a.1 (length ms)) (map (λ a. eq.arm_of reading a) xs))) (each_is (n.armed s) as_) a))
 
-  option : (x y z : Option n.Term) → AlikeOption (λ x y z. part.Exprs q slots leaf x) x y z → MaybeExprs x
+  option : (x y z : Option n.Term) → AlikeOption (λ x y z. part.Exprs q slots leaf x) x y z → sel.MaybeExprs q slots leaf x
   option None None None r = tt
   option (Some x) (Some y) (Some z) r = r
   option _ _ _ r = absurd r
@@ -358,7 +92,7 @@ module _ (q : Scope) (slots : ℕ → Bool) (leaf : ℕ → ℕ → Expr) (leave
   unfolding n.shown
   steps = record {
     no_expr = λ s ms f g a. node _ expr.Null c.null (ap own_name (d.null_is _));
-    no_query = λ s ms f g a. query_clear s ms f [] tt g a;
+    no_query = λ s ms f g a. sel.query_clear q slots leaf s ms f [] tt g a;
     int = λ x s ms f g a. node _ _ (c.cast _ (c.int x)) (ap own_name (d.cast_is (expr.Int x) _ _));
     str = λ t s ms f g a. node _ _ (c.cast _ (c.str t)) (ap own_name (d.cast_is (expr.Str t) _ _));
     bool = λ b s ms f g a. node _ _ (c.cast _ (c.bool b)) (ap own_name (d.cast_is (expr.Bool b) _ _));
@@ -368,54 +102,54 @@ module _ (q : Scope) (slots : ℕ → Bool) (leaf : ℕ → ℕ → Expr) (leave
     slot = λ i s ms f g a. absurd (unwritten_not (expr.Slot i) g);
     column = λ x s ms f g a. absurd (unwritten_not (expr.Column x) g);
     param = λ i t s ms f g a. absurd (no_param s f.in_function g);
-    neg = λ x y z k s ms f g a. by (length ms) _ _ _ _ (eq.of_neg P (x.judge s).it) (node _ _ (c.neg (k s ms f g (reads_so (length ms) _ _ (eq.of_neg reading (x.judge s).it) a)).clear) (ap own_name (d.neg_is _ _)));
-    neg_small = λ x y z k s ms f g a. by (length ms) _ _ _ _ (eq.of_negsmall P (x.judge s).it) (node _ _ (c.neg_small (k s ms f g (reads_so (length ms) _ _ (eq.of_negsmall reading (x.judge s).it) a)).clear) (ap own_name (d.negsmall_is _ _)));
-    not = λ x y z k s ms f g a. by (length ms) _ _ _ _ (eq.of_not P (x.judge s).it) (node _ _ (c.not (k s ms f g (reads_so (length ms) _ _ (eq.of_not reading (x.judge s).it) a)).clear) (ap own_name (d.not_is _ _)));
-    is = λ x y z test negative k s ms f g a. by (length ms) _ _ _ _ (eq.of_is P (x.judge s).it test negative) (node _ _ (c.is test negative (k s ms f g (reads_so (length ms) _ _ (eq.of_is reading (x.judge s).it test negative) a)).clear) (ap own_name (d.is_is _ _ _ _)));
+    neg = λ x y z k s ms f g a. by (length ms) _ _ _ _ (eq.of_neg P (x.judge s).it) (node _ _ (c.neg (k s ms f g (sel.reads_so q slots leaf (length ms) _ _ (eq.of_neg reading (x.judge s).it) a)).clear) (ap own_name (d.neg_is _ _)));
+    neg_small = λ x y z k s ms f g a. by (length ms) _ _ _ _ (eq.of_negsmall P (x.judge s).it) (node _ _ (c.neg_small (k s ms f g (sel.reads_so q slots leaf (length ms) _ _ (eq.of_negsmall reading (x.judge s).it) a)).clear) (ap own_name (d.negsmall_is _ _)));
+    not = λ x y z k s ms f g a. by (length ms) _ _ _ _ (eq.of_not P (x.judge s).it) (node _ _ (c.not (k s ms f g (sel.reads_so q slots leaf (length ms) _ _ (eq.of_not reading (x.judge s).it) a)).clear) (ap own_name (d.not_is _ _)));
+    is = λ x y z test negative k s ms f g a. by (length ms) _ _ _ _ (eq.of_is P (x.judge s).it test negative) (node _ _ (c.is test negative (k s ms f g (sel.reads_so q slots leaf (length ms) _ _ (eq.of_is reading (x.judge s).it test negative) a)).clear) (ap own_name (d.is_is _ _ _ _)));
     chain = λ x y z xs ys zs k r s ms f g a.
         let both = clean_parts (x.judge s).note (each (n.linked s) xs).note g in
-        let may = reads_so (length ms) _ _ (eq.of_chain reading (x.judge s).it (each (n.linked s) xs).it) a in
+        let may = sel.reads_so q slots leaf (length ms) _ _ (eq.of_chain reading (x.judge s).it (each (n.linked s) xs).it) a in
         let u : List Read = expr_of reading (x.judge s).it (length ms) in
         by (length ms) _ _ _ _ (eq.of_chain P (x.judge s).it (each (n.linked s) xs).it)
-        (node _ _ (c.chain (k s ms f both.0 (one u _ may)).clear (links_of s ms f xs (firsts (AlikeLink (λ x y z. part.Exprs q slots leaf x)) (λ (l : ChainOp × n.Term). part.Exprs q slots leaf l.1) (λ x y z r. r.2) xs ys zs r) both.1 (two u _ may))) (ap own_name (d.chain_is _ _ _)));
+        (node _ _ (c.chain (k s ms f both.0 (sel.one q slots leaf u _ may)).clear (links_of s ms f xs (firsts (AlikeLink (λ x y z. part.Exprs q slots leaf x)) (λ (l : ChainOp × n.Term). part.Exprs q slots leaf l.1) (λ x y z r. r.2) xs ys zs r) both.1 (sel.two q slots leaf u _ may))) (ap own_name (d.chain_is _ _ _)));
     compare = λ op x₁ x₂ y₁ y₂ z₁ z₂ k₁ k₂ s ms f g a.
         let both = clean_parts (x₁.judge s).note (x₂.judge s).note g in
-        let may = reads_so (length ms) _ _ (eq.of_compare reading op (x₁.judge s).it (x₂.judge s).it) a in
+        let may = sel.reads_so q slots leaf (length ms) _ _ (eq.of_compare reading op (x₁.judge s).it (x₂.judge s).it) a in
         let u : List Read = expr_of reading (x₁.judge s).it (length ms) in
-        by (length ms) _ _ _ _ (eq.of_compare P op (x₁.judge s).it (x₂.judge s).it) (node _ _ (c.compare op (k₁ s ms f both.0 (one u _ may)).clear (k₂ s ms f both.1 (two u _ may)).clear) (ap own_name (d.compare_is _ _ _ _)));
+        by (length ms) _ _ _ _ (eq.of_compare P op (x₁.judge s).it (x₂.judge s).it) (node _ _ (c.compare op (k₁ s ms f both.0 (sel.one q slots leaf u _ may)).clear (k₂ s ms f both.1 (sel.two q slots leaf u _ may)).clear) (ap own_name (d.compare_is _ _ _ _)));
     between = λ v x₁ x₂ x₃ y₁ y₂ y₃ z₁ z₂ z₃ k₁ k₂ k₃ s ms f g a.
         let both = clean_parts (x₁.judge s).note (joined (x₂.judge s).note (x₃.judge s).note) g in
         let more = clean_parts (x₂.judge s).note (x₃.judge s).note both.1 in
-        let may = reads_so (length ms) _ _ (eq.of_between reading v (x₁.judge s).it (x₂.judge s).it (x₃.judge s).it) a in
+        let may = sel.reads_so q slots leaf (length ms) _ _ (eq.of_between reading v (x₁.judge s).it (x₂.judge s).it (x₃.judge s).it) a in
         let u : List Read = expr_of reading (x₁.judge s).it (length ms) in
         let w : List Read = expr_of reading (x₂.judge s).it (length ms) in
         by (length ms) _ _ _ _ (eq.of_between P v (x₁.judge s).it (x₂.judge s).it (x₃.judge s).it)
-        (node _ _ (c.between v (k₁ s ms f both.0 (one u _ may)).clear (k₂ s ms f more.0 (one w _ (two u _ may))).clear (k₃ s ms f more.1 (two w _ (two u _ may))).clear) (ap own_name (d.between_is _ _ _ _ _)));
+        (node _ _ (c.between v (k₁ s ms f both.0 (sel.one q slots leaf u _ may)).clear (k₂ s ms f more.0 (sel.one q slots leaf w _ (sel.two q slots leaf u _ may))).clear (k₃ s ms f more.1 (sel.two q slots leaf w _ (sel.two q slots leaf u _ may))).clear) (ap own_name (d.between_is _ _ _ _ _)));
     one_of = λ v x y z xs ys zs k r s ms f g a.
         let both = clean_parts (x.judge s).note (each (λ t. t.judge s) xs).note g in
-        let may = reads_so (length ms) _ _ (eq.of_oneof reading v (x.judge s).it (each (λ t. t.judge s) xs).it) a in
+        let may = sel.reads_so q slots leaf (length ms) _ _ (eq.of_oneof reading v (x.judge s).it (each (λ t. t.judge s) xs).it) a in
         let u : List Read = expr_of reading (x.judge s).it (length ms) in
         by (length ms) _ _ _ _ (eq.of_oneof P v (x.judge s).it (each (λ t. t.judge s) xs).it)
-        (node _ _ (c.one_of v (k s ms f both.0 (one u _ may)).clear (values_of s ms f xs (firsts (λ x y z. part.Exprs q slots leaf x) (part.Exprs q slots leaf) (λ x y z r. r) xs ys zs r) both.1 (two u _ may))) (ap own_name (d.oneof_is _ _ _ _)));
-    cast = λ x y z t k s ms f g a. by (length ms) _ _ _ _ (eq.of_cast P (x.judge s).it t) (node _ _ (c.cast t (k s ms f g (reads_so (length ms) _ _ (eq.of_cast reading (x.judge s).it t) a)).clear) (ap own_name (d.cast_is _ _ _)));
+        (node _ _ (c.one_of v (k s ms f both.0 (sel.one q slots leaf u _ may)).clear (values_of s ms f xs (firsts (λ x y z. part.Exprs q slots leaf x) (part.Exprs q slots leaf) (λ x y z r. r) xs ys zs r) both.1 (sel.two q slots leaf u _ may))) (ap own_name (d.oneof_is _ _ _ _)));
+    cast = λ x y z t k s ms f g a. by (length ms) _ _ _ _ (eq.of_cast P (x.judge s).it t) (node _ _ (c.cast t (k s ms f g (sel.reads_so q slots leaf (length ms) _ _ (eq.of_cast reading (x.judge s).it t) a)).clear) (ap own_name (d.cast_is _ _ _)));
     cases = λ xs ys zs x y z r k s ms f g a.
         let both = clean_parts (each (n.armed s) xs).note (held (λ t. t.judge s) x).note g in
-        let may = reads_so (length ms) _ _ (eq.of_cases reading (each (n.armed s) xs).it (held (λ t. t.judge s) x).it) a in
+        let may = sel.reads_so q slots leaf (length ms) _ _ (eq.of_cases reading (each (n.armed s) xs).it (held (λ t. t.judge s) x).it) a in
         let u : List Read = flat_map (λ (a : Reads × Reads). a.0 (length ms) ++ a.1 (length ms)) (map (λ a. eq.arm_of reading a) (each (n.armed s) xs).it) in
         by (length ms) _ _ _ _ (eq.of_cases P (each (n.armed s) xs).it (held (λ t. t.judge s) x).it)
-        (node _ _ (c.cases (arms_of s ms f xs (firsts (AlikeArm (λ x y z. part.Exprs q slots leaf x)) (λ (a : n.Term × n.Term). part.Exprs q slots leaf a.0 × part.Exprs q slots leaf a.1) (λ x y z r. r) xs ys zs r) both.0 (one u _ may))
-        (maybe_clear x (option x y z k) s ms f both.1 (two u _ may))) (ap own_name (d.cases_is _ _ _)));
+        (node _ _ (c.cases (arms_of s ms f xs (firsts (AlikeArm (λ x y z. part.Exprs q slots leaf x)) (λ (a : n.Term × n.Term). part.Exprs q slots leaf a.0 × part.Exprs q slots leaf a.1) (λ x y z r. r) xs ys zs r) both.0 (sel.one q slots leaf u _ may))
+        (sel.maybe_clear q slots leaf x (option x y z k) s ms f both.1 (sel.two q slots leaf u _ may))) (ap own_name (d.cases_is _ _ _)));
     call = λ name xs ys zs r s ms f g a.
         let both = clean_parts (n.called s name) (each (λ t. t.judge s) xs).note g in
         by (length ms) _ _ _ _ (eq.of_call P name (each (λ t. t.judge s) xs).it)
-        (node _ _ (c.call name (known_function s name both.0) (values_of s ms f xs (firsts (λ x y z. part.Exprs q slots leaf x) (part.Exprs q slots leaf) (λ x y z r. r) xs ys zs r) both.1 (reads_so (length ms) _ _ (eq.of_call reading name (each (λ t. t.judge s) xs).it) a))) (ap own_name (d.call_is _ _ _)));
+        (node _ _ (c.call name (known_function s name both.0) (values_of s ms f xs (firsts (λ x y z. part.Exprs q slots leaf x) (part.Exprs q slots leaf) (λ x y z r. r) xs ys zs r) both.1 (sel.reads_so q slots leaf (length ms) _ _ (eq.of_call reading name (each (λ t. t.judge s) xs).it) a))) (ap own_name (d.call_is _ _ _)));
     count_rows = λ s ms f g a. node _ expr.CountRows c.count_rows (ap own_name (d.countrows_is _));
-    scalar = λ x y z k s ms f g a. by (length ms) _ _ _ _ (eq.of_scalar P (x s).it.it) (node _ _ (c.scalar (k s ms f g (reads_so (length ms) _ _ (eq.of_scalar reading (x s).it.it) a)).clear) (ap own_name (d.scalar_is _ _)));
-    exists = λ x y z k s ms f g a. by (length ms) _ _ _ _ (eq.of_exists P (x s).it.it) (node _ _ (c.exists (k s ms f g (reads_so (length ms) _ _ (eq.of_exists reading (x s).it.it) a)).clear) (ap own_name (d.exists_is _ _)));
+    scalar = λ x y z k s ms f g a. by (length ms) _ _ _ _ (eq.of_scalar P (x s).it.it) (node _ _ (c.scalar (k s ms f g (sel.reads_so q slots leaf (length ms) _ _ (eq.of_scalar reading (x s).it.it) a)).clear) (ap own_name (d.scalar_is _ _)));
+    exists = λ x y z k s ms f g a. by (length ms) _ _ _ _ (eq.of_exists P (x s).it.it) (node _ _ (c.exists (k s ms f g (sel.reads_so q slots leaf (length ms) _ _ (eq.of_exists reading (x s).it.it) a)).clear) (ap own_name (d.exists_is _ _)));
     table = λ name columns alias s level seen ms r f m g a.
         let both = clean_parts (n.written s name) (n.of_table name (s.table name)).note g in
-        table_clear name alias columns s seen ms f m (may_write s name f.in_function both.0) (s.table name) refl both.1;
-    sub = λ x y z lateral k. sub_clear x lateral k;
+        sel.table_clear q slots leaf name alias columns s seen ms f m (may_write s name f.in_function both.0) (s.table name) refl both.1;
+    sub = λ x y z lateral k. sel.sub_clear q slots leaf x lateral k;
     from = λ x y z alias columns k s level seen ms r f g a.
         let both = clean_parts (n.part_note s alias columns) (x columns s level).note g in
         (refl, k columns alias s level seen ms r f (may_stand s alias columns f.in_function both.0) both.1 a);
@@ -429,11 +163,11 @@ module _ (q : Scope) (slots : ℕ → Bool) (leaf : ℕ → ℕ → Expr) (leave
         let h = k s ms f (clean_parts (breaks 8 (n.is_alias aliases x.alone)) (x.judge s).note g).1 a in
         record { clear = λ rest r. c.one_key descending h.clear r };
     select = λ l₁ l₂ l₃ f₁ f₂ f₃ w₁ w₂ w₃ o₁ o₂ o₃ m₁ m₂ m₃ lr fr wr kr mr.
-        listing_clear l₁ f₁ w₁ o₁ m₁ (firsts (λ x y z. part.Items q slots leaf x) (part.Items q slots leaf) (λ x y z r. r) l₁ l₂ l₃ lr) (firsts (λ x y z. part.Froms q slots leaf x) (part.Froms q slots leaf) (λ x y z r. r) f₁ f₂ f₃ fr)
+        sel.listing_clear q slots leaf l₁ f₁ w₁ o₁ m₁ (firsts (λ x y z. part.Items q slots leaf x) (part.Items q slots leaf) (λ x y z r. r) l₁ l₂ l₃ lr) (firsts (λ x y z. part.Froms q slots leaf x) (part.Froms q slots leaf) (λ x y z r. r) f₁ f₂ f₃ fr)
         (option w₁ w₂ w₃ wr) (firsts (λ x y z. part.Keys q slots leaf x) (part.Keys q slots leaf) (λ x y z r. r) o₁ o₂ o₃ kr) (option m₁ m₂ m₃ mr);
     recursive = λ name columns xs ys zs x y z r k. tt;
     query = λ x y z xs ys zs h r s ms f g a.
-        query_clear s ms f xs (firsts (λ x y z. part.Selects q slots leaf x) (part.Selects q slots leaf) (λ x y z r. r) xs ys zs r) (clean_parts (breaks 13 (is_some x)) (n.united xs s).note g).1 a;
+        sel.query_clear q slots leaf s ms f xs (firsts (λ x y z. part.Selects q slots leaf x) (part.Selects q slots leaf) (λ x y z r. r) xs ys zs r) (clean_parts (breaks 13 (is_some x)) (n.united xs s).note g).1 a;
   }
 
   -- an expression under no select

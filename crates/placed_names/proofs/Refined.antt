@@ -1,17 +1,16 @@
 -- What is found among a function's own columns is found where columns that have no name have one of the query's own.
-use Rattle.std.proofs.Common.{◌≡◌, refl, ap, sym, subst, ◌∙◌, ℕ, zero, suc, ◌+◌, arith, Bool, true, false, if◌then◌else◌, List, [], ◌∷◌, ◌++◌, length, Option, Some, None, option_map}
+use Rattle.std.proofs.Common.{◌≡◌, refl, ap, subst, ◌∙◌, ℕ, zero, suc, ◌+◌, arith, Bool, true, false, if◌then◌else◌, List, [], ◌∷◌, ◌++◌, length, Option, Some, None, option_map}
 use Rattle.std.specs.Prelude.{slice_get, cond, bytes_eq}
 use Rattle.std.specs.List.{position_from}
 use Rattle.std.specs.Option.{option_and_then}
 use Rattle.std.proofs.lemmas.Slice.Eq.{bytes_eq-Decides}
 use Rattle.away_trees.specs.declared.queries.Col.{Col}
-use Rattle.away_trees.specs.declared.queries.Expr.{Expr}
 use Rattle.away_trees.specs.declared.queries.Expr.TheVariants as expr
 use Rattle.away_names.specs.declared.scope.Hit.{Hit}
 use Rattle.away_names.specs.declared.scope.Seen.{Seen}
 use Rattle.away_names.specs.Lookups.{Name, Level, or_else, is_named, is_kept, place_of, hit_at, in_item, nearest, column_dotted}
 use Rattle.sql_meaning.proofs.Lists.{Zipped}
-use Rattle.dotted_names.specs.Sight.{called, called_in, holder, name_at, spoken}
+use Rattle.dotted_names.specs.Sight.{called, called_in, spoken}
 
 -- ---- names
 

@@ -1,5 +1,5 @@
 -- Where a function's own selects stand in a query, and what is clear there.
-use Rattle.std.proofs.Common.{◌≡◌, refl, subst, sym, ap, ◌∙◌, ℕ, Bool, true, false, ◌&&◌, List, [], ◌∷◌, ◌++◌, length, Option, Some, None, arith}
+use Rattle.std.proofs.Common.{◌≡◌, refl, subst, sym, ap, ◌∙◌, ℕ, Bool, true, false, ◌&&◌, List, ◌∷◌, ◌++◌, length, Option, Some, None, arith}
 use Rattle.std.specs.Prelude.{not, is_some}
 use Rattle.std.specs.List.{list_all}
 use Rattle.away_trees.specs.declared.queries.Expr.{Expr}
@@ -29,7 +29,7 @@ use Rattle.dotted_names.specs.Unambiguous.{value, items, keys, from_item, select
 use Rattle.dotted_names.specs.Unambiguous as c
 use Rattle.dotted_names.proofs.DottingRules as d
 use Rattle.dotted_names.proofs.ReadColumns.{named_read, dotted_read}
-use Rattle.placed_names.proofs.Refined.{NameSo, SeenSo, LevelSo, LevelsSo, found_still, called_still}
+use Rattle.placed_names.proofs.Refined.{NameSo, SeenSo, LevelsSo, found_still, called_still}
 
 -- a place inside a function's own selects, whose items the query sees so
 abbrev pub under : List Level → Scope → Scope
