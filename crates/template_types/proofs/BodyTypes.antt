@@ -1,5 +1,5 @@
 -- The bodies of labels keep types: each term has its type, and what a label or a block gets has the type of its place.
-use Rattle.std.proofs.Common.{◌≡◌, refl, ap, sym, ◌∙◌, subst, ℕ, zero, suc, ◌<◌, Bool, true, false, if◌then◌else◌, List, [], ◌∷◌, length, get_or, Option, Some, None, arith}
+use Rattle.std.proofs.Common.{◌≡◌, refl, ap, sym, ◌∙◌, subst, ℕ, zero, suc, ◌<◌, Bool, true, false, if◌then◌else◌, List, [], ◌∷◌, length, get_or, Option, Some, None}
 use Rattle.std.specs.Prelude.{slice_get, nat_eq}
 use Rattle.std.proofs.lemmas.Bool.{eqb-true}
 use Rattle.std.proofs.lemmas.Option.{same_Some, slice_get_within}
@@ -17,13 +17,13 @@ use Rattle.call_forms.specs.declared.forms.CallEnd.{CallEnd}
 use Rattle.call_forms.specs.declared.forms.CallEnd.TheVariants.{Go, Pick, Return, Fail}
 use Rattle.call_forms.specs.declared.forms.Tail.{Tail}
 use Rattle.call_forms.specs.Bodies.{Body, sets, enters, picks, returns, fails, calls, endless, goes_to, goes, end_body, sets_first, block_body, tree, body_of}
-use Rattle.call_forms.specs.Columned.{HasType, PlacesAt, PlacesOf, Columned, type_of_name}
+use Rattle.call_forms.specs.Columned.{HasType, PlacesAt, Columned, type_of_name}
 use Rattle.call_forms.specs.Forms.{params_of, label_of}
 use Rattle.call_forms.specs.Scopes.{paired}
 use Rattle.call_forms.specs.Templated.{types_of, type_or_bigint}
 use Rattle.call_law.proofs.Labels.{element_there, place_found}
 use Rattle.cte_template.specs.Places.{beside}
-use Rattle.template_types.specs.Given.{TermHasType, CallKeepsTypes, SetHasType, EndHasTypes, BlockHasTypes, EndKeepsTypes, BlockKeepsTypes}
+use Rattle.typed_forms.specs.Typed.{TermHasType, CallKeepsTypes, SetHasType, EndHasType, BlockHasTypes, EndKeepsTypes, BlockKeepsTypes}
 
 -- ---- what stands beside a key
 
@@ -124,7 +124,7 @@ module _ (slots : List Slot) (z : Ssa) (a : Anf) (r : Tail) (tables : List (List
           passed_cells (params_of (slice_get a.blocks c.target)) (get_or r.places l []) c.args (at_label_fits l c.target (place_found r.labels c.target l found)) pass
       by None found = (pass, each c.target)
 
-  end_typed : (trees : ℕ → Body) → EachTyped trees → (e : CallEnd) → EndHasTypes tables table types result e → EndKeepsTypes types a e → Typed (end_body a r trees e)
+  end_typed : (trees : ℕ → Body) → EachTyped trees → (e : CallEnd) → EndHasType tables table types result e → EndKeepsTypes types a e → Typed (end_body a r trees e)
   end_typed trees each (Go c) h k = call_typed trees each c k
   end_typed trees each (Pick t x y) h k = (h, call_typed trees each x k.0, call_typed trees each y k.1)
   end_typed trees each (Return t) h k = h

@@ -1,7 +1,6 @@
 -- Expressions of the query that have a type where they stand, no aggregate and no parameter.
-use Rattle.std.proofs.Common.{◌≡◌, refl, ap, sym, ◌∙◌, subst, ℕ, zero, suc, ℤ, Bool, true, false, ◌&&◌, ◌||◌, List, [], ◌∷◌, map, fold, Option, Some, None}
+use Rattle.std.proofs.Common.{◌≡◌, refl, ap, sym, ◌∙◌, subst, ℕ, ℤ, Bool, true, false, ◌&&◌, ◌||◌, List, [], ◌∷◌, fold, Option, Some}
 use Rattle.std.specs.Prelude.{option_and_then, slice_get}
-use Rattle.std.specs.List.{list_all}
 use Rattle.away_values.specs.declared.types.Ty.{Ty}
 use Rattle.away_values.specs.declared.types.Ty.TheVariants as ty
 use Rattle.away_values.specs.declared.operators.CmpOp.{CmpOp}
@@ -11,17 +10,16 @@ use Rattle.away_trees.specs.declared.queries.Expr.{Expr}
 use Rattle.away_trees.specs.declared.queries.Expr.TheVariants as expr
 use Rattle.away_trees.specs.Algebra.{expr_of}
 use Rattle.away_trees.proofs.Equations as eq
-use Rattle.away_typing.specs.declared.kind.Kind.{Kind}
-use Rattle.away_typing.specs.declared.kind.Kind.TheVariants.{Null, Of, Sum, Wrong}
+use Rattle.away_typing.specs.declared.kind.Kind.TheVariants.{Of}
 use Rattle.away_typing.specs.declared.params.Params.{Params}
 use Rattle.away_typing.specs.declared.uses.Uses.{Uses}
 use Rattle.away_typing.specs.Aggregates.{using_, unused, either, of_column, of_select, outside, apart, all_of}
 use Rattle.away_typing.specs.Kinds.{same, only_if, meet, fits, is_right, of_type, type_of}
 use Rattle.away_typing.specs.Parameters.{Found, finding}
 use Rattle.away_typing.specs.Typing.{Places, Frame, typing, column, kind_at, cast_kind, castable, passed}
-use Rattle.sql_meaning.specs.Trees.{col, cast_to, number, truth, null_of}
+use Rattle.sql_meaning.specs.Trees.{cast_to, number, truth, null_of}
 use Rattle.typed_values.specs.Sorts.{Every}
-use Rattle.template_types.specs.Types.{HasKind}
+use Rattle.typed_forms.specs.Typed.{HasKind}
 
 -- ---- types that expressions have
 

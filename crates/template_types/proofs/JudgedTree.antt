@@ -1,6 +1,6 @@
 -- The query of a function breaks no rule of types, aggregates, recursion and parameters.
-use Rattle.std.proofs.Common.{◌≡◌, refl, ap, sym, ◌∙◌, subst, ℕ, zero, suc, ◌+◌, ◌<◌, ◌^◌, Bool, true, false, not, ◌&&◌, ◌||◌, if◌then◌else◌, List, [], ◌∷◌, ◌++◌, map, fold, length, Option, Some, None, is_some, arith}
-use Rattle.std.specs.Prelude.{slice_get, ◌==◌, nat_le, bytes_eq}
+use Rattle.std.proofs.Common.{◌≡◌, refl, ap, ◌∙◌, ℕ, ◌<◌, ◌^◌, Bool, true, false, not, ◌&&◌, if◌then◌else◌, List, [], ◌∷◌, map, length, Option, Some, None, is_some, arith}
+use Rattle.std.specs.Prelude.{slice_get, ◌==◌, nat_le}
 use Rattle.std.specs.List.{list_any}
 use Rattle.std.proofs.lemmas.Bool.{eq-eqb}
 use Rattle.away_trees.specs.declared.schemas.Schema.{Schema}
@@ -13,11 +13,10 @@ use Rattle.away_trees.specs.declared.queries.Recursive.{Recursive}
 use Rattle.away_trees.specs.declared.queries.Select.{Select}
 use Rattle.away_trees.specs.declared.queries.Query.{Query}
 use Rattle.away_trees.specs.declared.queries.Expr.TheOpen.{Select-F, Recursive-F, Query-F}
-use Rattle.away_trees.specs.declared.queries.Expr.TheViews.{out-Query, out-Recursive, out-Select, out-FromItem, roll-Select, out-roll-Query, out-roll-Recursive, out-roll-Select}
-use Rattle.away_trees.specs.Algebra.{select_of, query_of, recursive_of}
+use Rattle.away_trees.specs.declared.queries.Expr.TheViews.{out-Query, out-FromItem, out-roll-Query, out-roll-Recursive, out-roll-Select}
+use Rattle.away_trees.specs.Algebra.{select_of, query_of}
 use Rattle.away_trees.proofs.Equations as eq
 use Rattle.away_names.specs.declared.note.Note.{Note}
-use Rattle.away_names.specs.declared.note.Times.{Times}
 use Rattle.away_names.specs.declared.note.Times.TheVariants.{Never, Once}
 use Rattle.away_names.specs.Lookups.{Name}
 use Rattle.away_names.specs.Notes.{joined, breaks, lesser}
@@ -31,17 +30,17 @@ use Rattle.away_typing.specs.ParameterLists.{params_of, with_query}
 use Rattle.away_typing.specs.Trees.{uses_of_query, uses_of_select, kinds_of_select}
 use Rattle.away_typing.specs.Typing.{Places, Shape, typing, shape_of, further, or_none, types_of}
 use Rattle.away_typing.specs.TypingLists.{union_in}
-use Rattle.away_typing.specs.Wholes.{with_table, over_tables, padded, types_or_none, first_shape, is_never, is_once, recursive_types, in_own_from, is_table, is_plain, all_fit, fits_shape, is_recursion, recursion_by, recursion, is_answer, answer_note, uses_note, final_shape, column_types}
+use Rattle.away_typing.specs.Wholes.{with_table, over_tables, padded, types_or_none, first_shape, is_never, is_once, recursive_types, in_own_from, is_table, is_plain, all_fit, fits_shape, recursion_by, recursion, is_answer, answer_note, uses_note, final_shape, column_types}
 use Rattle.away_values.specs.declared.types.Ty.{Ty}
 use Rattle.away_values.specs.declared.types.Ty.TheVariants as ty
 use Rattle.call_forms.specs.Called.{Among}
-use Rattle.sql_meaning.specs.Trees.{col, item, select}
+use Rattle.sql_meaning.specs.Trees.{col, item}
 use Rattle.cte_template.specs.Making.{Making}
 use Rattle.cte_template.specs.Tree as t
 use Rattle.cte_template.specs.Walks.{all_columns}
 use Rattle.template_parts.specs.Names.{table_name, row_names}
 use Rattle.template_parts.specs.Trees.{working}
-use Rattle.template_types.specs.Types.{HasKind}
+use Rattle.typed_forms.specs.Typed.{HasKind}
 use Rattle.template_types.proofs.BodyTypes.{FillsCells}
 use Rattle.typed_values.specs.Sorts.{Every}
 use Rattle.template_types.proofs.Fine.{Calm, calm_is, either_calm, all_calm, apart_calm, type_fits, type_back}

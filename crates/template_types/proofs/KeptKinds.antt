@@ -1,7 +1,5 @@
 -- Kinds that are kept: what has a type has the same one, and of what has none nothing is said. Each operator keeps them.
-use Rattle.std.proofs.Common.{◌≡◌, refl, ap, sym, ◌∙◌, subst, Bool, true, false, ◌&&◌, ◌||◌, List, [], ◌∷◌, fold, Option, Some, None}
-use Rattle.std.specs.Prelude.{is_some}
-use Rattle.std.specs.List.{list_all}
+use Rattle.std.proofs.Common.{◌≡◌, refl, ap, sym, subst, Bool, true, false, ◌&&◌, ◌||◌, List, [], ◌∷◌, fold, Option, Some, None}
 use Rattle.away_values.specs.declared.types.Ty.{Ty}
 use Rattle.away_values.specs.declared.types.Ty.TheVariants as ty
 use Rattle.away_values.specs.declared.operators.ChainOp.{ChainOp}
@@ -12,7 +10,7 @@ use Rattle.away_names.specs.declared.function.Known.{Known}
 use Rattle.away_names.specs.declared.function.Known.TheVariants as known
 use Rattle.away_typing.specs.declared.kind.Kind.{Kind}
 use Rattle.away_typing.specs.declared.kind.Kind.TheVariants.{Null, Of, Sum, Wrong}
-use Rattle.away_typing.specs.Kinds.{only_if, meet, fits, is_right, of_type, settled, common}
+use Rattle.away_typing.specs.Kinds.{only_if, meet, fits, is_right, settled, common}
 use Rattle.away_typing.specs.Typing.{Shape, pair, passed, cast_kind, call_kind, called, is_ordered, scalar_kind, exists_kind}
 use Rattle.sql_meaning.proofs.Lists.{Zipped}
 

@@ -1,17 +1,17 @@
 -- The types of columns are kept by FROM, by a select and by UNION ALL.
-use Rattle.std.proofs.Common.{◌≡◌, refl, ap, sym, ◌∙◌, subst, Bool, true, false, ◌&&◌, List, [], ◌∷◌, ◌++◌, map, fold, Option, Some, None, option_map}
+use Rattle.std.proofs.Common.{◌≡◌, refl, ap, sym, ◌∙◌, subst, Bool, true, false, ◌&&◌, List, [], ◌∷◌, ◌++◌, fold, Option, Some, None}
 use Rattle.std.specs.Prelude.{option_and_then, if◌then◌else◌}
 use Rattle.std.specs.List.{list_all}
 use Rattle.away_values.specs.declared.types.Ty.{Ty}
 use Rattle.away_values.specs.declared.types.Ty.TheVariants as ty
 use Rattle.away_typing.specs.declared.kind.Kind.{Kind}
 use Rattle.away_typing.specs.declared.kind.Kind.TheVariants.{Null, Of, Sum, Wrong}
-use Rattle.away_typing.specs.Kinds.{is_right, fits}
+use Rattle.away_typing.specs.Kinds.{is_right}
 use Rattle.away_typing.specs.Typing as typing
 use Rattle.away_typing.specs.Typing.{Places, Frame, Shape, framed, maybe_fits, select_kinds, both, further, or_none, union, shape_of}
 use Rattle.sql_meaning.proofs.Lists.{Zipped, ZippedOption}
 use Rattle.sql_meaning.proofs.Uses.{and_first, and_second, both_true}
-use Rattle.template_types.proofs.KeptKinds.{Keeps, KeepsSome, fits_kept, some_under, some_then, some_itself}
+use Rattle.template_types.proofs.KeptKinds.{Keeps, KeepsSome, fits_kept, some_under, some_then}
 
 -- ---- FROM
 

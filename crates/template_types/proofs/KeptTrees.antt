@@ -1,12 +1,10 @@
 -- A placed expression has the kind of the expression, where each slot that it reads has the kind of its column.
-use Rattle.std.proofs.Common.{◌≡◌, refl, ap, sym, ◌∙◌, subst, ℕ, zero, suc, ◌+◌, Bool, true, false, ◌&&◌, List, [], ◌∷◌, ◌++◌, map, fold, Option, Some, None, option_map, slice_index_or, arith}
-use Rattle.std.specs.Prelude.{option_and_then, slice_get, length, ◌==◌, if◌then◌else◌}
+use Rattle.std.proofs.Common.{◌≡◌, refl, sym, subst, ℕ, zero, suc, ◌+◌, Bool, true, ◌&&◌, List, [], ◌∷◌, ◌++◌, map, fold, Option, Some, None, option_map, slice_index_or, arith}
+use Rattle.std.specs.Prelude.{option_and_then, slice_get}
 use Rattle.std.specs.List.{list_all, flat_map}
 use Rattle.std.specs.Str.Parse.{digits_value}
-use Rattle.away_values.specs.declared.types.Ty.{Ty}
 use Rattle.away_values.specs.declared.types.Ty.TheVariants as ty
 use Rattle.away_values.specs.declared.operators.ChainOp.{ChainOp}
-use Rattle.away_values.specs.declared.operators.IsTest.{IsTest}
 use Rattle.away_trees.specs.declared.queries.Col.{Col}
 use Rattle.away_trees.specs.declared.queries.Expr.{Expr}
 use Rattle.away_trees.specs.declared.queries.Expr.TheVariants as expr
@@ -16,23 +14,22 @@ use Rattle.away_trees.specs.declared.queries.Source.TheVariants as source
 use Rattle.away_trees.specs.declared.queries.FromItem.{FromItem}
 use Rattle.away_trees.specs.declared.queries.Item.{Item}
 use Rattle.away_trees.specs.declared.queries.Key.{Key}
-use Rattle.away_trees.specs.declared.queries.Recursive.{Recursive}
 use Rattle.away_trees.specs.declared.queries.Select.{Select}
 use Rattle.away_trees.specs.declared.queries.Query.{Query}
 use Rattle.away_trees.specs.Algebra.{expr_of, item_of, key_of, source_of, from_of, select_of, query_of}
 use Rattle.away_trees.proofs.Equations as eq
 use Rattle.away_names.specs.Functions.{function}
 use Rattle.away_typing.specs.declared.kind.Kind.{Kind}
-use Rattle.away_typing.specs.declared.kind.Kind.TheVariants.{Null, Of, Sum, Wrong}
-use Rattle.away_typing.specs.Kinds.{fits, meet, common, is_right, settled, only_if, same, of_type}
+use Rattle.away_typing.specs.declared.kind.Kind.TheVariants.{Of}
+use Rattle.away_typing.specs.Kinds.{fits, meet, common, only_if, same, of_type}
 use Rattle.away_typing.specs.Typing as typing
 use Rattle.away_typing.specs.Typing.{Places, Frame, Shape, inside, before, column, kind_at, table_shape, listed, pair, kind, kinds, chained, tested, chosen, other_kind, kind_or_null, framed, select_kinds, listing, cast_kind, castable}
-use Rattle.sql_meaning.specs.Placed.{Deep, replacing, column_of, further, with_cast, placed, select_in_place, query_in_place}
+use Rattle.sql_meaning.specs.Placed.{Deep, replacing, column_of, further, with_cast, placed, select_in_place}
 use Rattle.sql_meaning.specs.Reads.{Read, Reads, SourceReads, reading, reads, of_list, of_option}
 use Rattle.sql_meaning.proofs.Lists.{Zipped, ZippedOption}
 use Rattle.sql_meaning.proofs.Related.{Alike, AlikeOption, AlikeLink, AlikeArm, Relation, IsKept, expr_related}
 use Rattle.sql_meaning.proofs.Uses.{and_first, and_second, both_true, left, right, zipped, zipped_option, under, under_option}
-use Rattle.template_types.proofs.KeptKinds.{Keeps, KeepsSome, kept_same, kept_itself, asked_kept, right_kept, only_if_kept, fits_kept, meet_kept, common_kept, pair_kept, is_kept, cast_kept, settled_kept, called_kept, scalar_kept, exists_kept, some_itself, some_same, some_under}
+use Rattle.template_types.proofs.KeptKinds.{Keeps, KeepsSome, kept_itself, asked_kept, right_kept, only_if_kept, fits_kept, meet_kept, common_kept, pair_kept, is_kept, cast_kept, settled_kept, called_kept, scalar_kept, exists_kept, some_under}
 use Rattle.template_types.proofs.SlotsRead.{reads_slots}
 use Rattle.template_types.proofs.KeptSelects.{PartKept, ListingKept, framed_kept, select_kinds_kept, union_kept}
 

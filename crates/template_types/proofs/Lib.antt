@@ -16,3 +16,4 @@ pub mod WalkTypes
 pub mod TreeTypes
 pub mod StartTypes
 pub mod JudgedTree
+pub mod FormsJudged

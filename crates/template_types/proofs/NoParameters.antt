@@ -1,14 +1,18 @@
--- An expression of a function whose names are resolved and break no rule has no parameter.
-use Rattle.std.proofs.Common.{◌≡◌, sym, ap, subst, refl, ◌∙◌, ℕ, suc, arith, Bool, true, false, List, [], ◌∷◌, ◌++◌, map, fold, Option, Some, None, option_map}
+-- The expressions of a checked function have no parameters.
+use Rattle.std.proofs.Common.{◌≡◌, subst, refl, ◌∙◌, ℕ, zero, suc, arith, Bool, true, false, List, [], ◌∷◌, ◌++◌, map, fold, Option, Some, None, option_map}
 use Rattle.std.specs.Prelude.{is_some}
+use Rattle.std.proofs.lemmas.Option.{same_Some}
 use Rattle.away_values.specs.declared.types.Ty.{Ty}
 use Rattle.away_values.specs.declared.operators.ChainOp.{ChainOp}
 use Rattle.away_trees.specs.declared.queries.Expr.{Expr}
+use Rattle.away_trees.specs.declared.queries.Expr.TheBlock as b
 use Rattle.away_trees.specs.declared.queries.Expr.TheVariants as expr
 use Rattle.away_trees.specs.declared.queries.Item.{Item}
 use Rattle.away_trees.specs.declared.queries.FromItem.{FromItem}
 use Rattle.away_trees.specs.declared.queries.Key.{Key}
 use Rattle.away_trees.specs.declared.queries.Select.{Select}
+use Rattle.away_trees.specs.declared.schemas.Schema.{Schema}
+use Rattle.away_trees.specs.declared.statements.Function.{Function}
 use Rattle.away_trees.specs.Algebra.{expr_of, source_of, from_of, item_of, key_of, select_of, query_of}
 use Rattle.away_trees.proofs.Equations as eq
 use Rattle.away_names.specs.declared.note.Named.{Named}
@@ -22,8 +26,13 @@ use Rattle.away_names.specs.Lookups.{Name, Level, Scope, inside, column_named, c
 use Rattle.away_names.specs.Naming as n
 use Rattle.away_names.specs.Naming.{naming}
 use Rattle.away_names.specs.Trees.{named_expr}
+use Rattle.away_types.specs.declared.slots.Slot.{Slot}
+use Rattle.away_types.specs.CheckedFunctions.{IsChecked}
 use Rattle.away_typing.specs.Parameters.{Found, finding}
 use Rattle.away_typing.specs.Parameters as params
+use Rattle.block_forms.specs.Expressions.{Sources, sources, fixed_list, expressions}
+use Rattle.block_forms.specs.Places.{Each}
+use Rattle.placed_names.proofs.Sources.{IsResolved, checked_sources}
 use Rattle.sql_meaning.proofs.Related.{AlikeOption, AlikeLink, AlikeArm, Relation, IsKept, expr_related}
 use Rattle.typed_values.proofs.CleanNotes.{Clean, clean_parts, not_broken}
 use Rattle.slots_in_sight.proofs.Names.{every_each}
@@ -39,8 +48,8 @@ IsQuiet e = Quiet (expr_of finding e)
 abbrev Exprs : n.Term → Type 0
 Exprs t = (s : Scope) → s.in_function ≡ true → Clean (t.judge s).note → IsQuiet (t.judge s).it
 
-abbrev Sources : n.Rows → Type 0
-Sources r = (columns : List Name) (s : Scope) (level : Level) → s.in_function ≡ true → Clean (r columns s level).note → Quiet (source_of finding (r columns s level).it.source)
+abbrev Origins : n.Rows → Type 0
+Origins r = (columns : List Name) (s : Scope) (level : Level) → s.in_function ≡ true → Clean (r columns s level).note → Quiet (source_of finding (r columns s level).it.source)
 
 abbrev Froms : n.Piece → Type 0
 Froms f = (s : Scope) (level : Level) → s.in_function ≡ true → Clean (f.judge s level).note → Quiet (from_of finding (f.judge s level).it.item)
@@ -60,7 +69,7 @@ Selects l = (s : Scope) → s.in_function ≡ true → Clean (l s).note → Quie
 abbrev relation : Relation naming naming naming
 relation = record {
   Exprs = λ x y z. Exprs x;
-  Sources = λ x y z. Sources x;
+  Sources = λ x y z. Origins x;
   Froms = λ x y z. Froms x;
   Items = λ x y z. Items x;
   Keys = λ x y z. Keys x;
@@ -320,3 +329,26 @@ steps = record {
 pub named_quiet : (e : Expr) (s : Scope) → s.in_function ≡ true → Clean (named_expr e s).note → IsQuiet (named_expr e s).it
 unfolding named_expr
 named_quiet e s w c = expr_related naming naming naming relation steps e s w c
+
+-- ---- a checked function
+
+resolved_quiet : (schema : Schema) (e : Expr) → IsResolved schema e → IsQuiet e
+resolved_quiet schema e h = subst IsQuiet h.resolved (named_quiet h.written h.scope h.plain.in_function h.clean)
+
+sources_quiet : (schema : Schema) (es : Sources) → Every (IsResolved schema) es → Every IsQuiet es
+sources_quiet schema [] h = tt
+sources_quiet schema (e ∷ es) h = (resolved_quiet schema e h.0, sources_quiet schema es h.1)
+
+fixed_quiet : Every IsQuiet fixed_list
+unfolding b.hidden-the_row-Expr-0 b.hidden-the_row-Expr-Chain-1-2-1 denote.Hole.Carrier.hidden
+fixed_quiet = ((λ p. refl), ((λ p. refl), ((λ p. refl), ((λ p. refl), ((λ p. refl), ((λ p. refl), ((λ p. refl), ((λ p. refl), ((λ p. refl), ((λ p. refl), ((λ p. refl), ((λ p. refl), ((λ p. refl), ((λ p. refl), ((λ p. refl), ((λ p. refl), ((λ p. refl), tt)))))))))))))))))
+
+each_of_every : (es : List Expr) → Every IsQuiet es → Each IsQuiet es
+each_of_every [] h i x e = cc
+each_of_every (y ∷ es) h zero x e = subst IsQuiet (same_Some y x e) h.0
+each_of_every (y ∷ es) h (suc i) x e = each_of_every es h.1 i x e
+
+pub checked_quiet : (schema : Schema) (written f : Function) (slots : List Slot) → IsChecked schema written f slots → Each IsQuiet (expressions f)
+checked_quiet schema written f slots h =
+    each_of_every (expressions f)
+    (every_append IsQuiet (sources f.body) fixed_list (sources_quiet schema (sources f.body) (checked_sources schema written f slots h)) fixed_quiet)

@@ -1,5 +1,5 @@
 -- The whole expression of a place that asks for a type has this type where it is placed, and uses and parameters as before.
-use Rattle.std.proofs.Common.{◌≡◌, refl, ap, sym, ◌∙◌, subst, ℕ, zero, suc, ◌+◌, ◌≤◌, Bool, true, false, List, [], ◌∷◌, ◌++◌, Option, Some, None, arith}
+use Rattle.std.proofs.Common.{◌≡◌, refl, ap, sym, ◌∙◌, subst, ℕ, zero, suc, ◌+◌, ◌≤◌, true, false, List, [], ◌∷◌, ◌++◌, arith}
 use Rattle.std.specs.Prelude.{slice_get}
 use Rattle.away_trees.specs.declared.queries.Col.{Col}
 use Rattle.away_trees.specs.declared.queries.Expr.{Expr}
@@ -7,26 +7,23 @@ use Rattle.away_trees.specs.declared.queries.Expr.TheVariants as expr
 use Rattle.away_trees.specs.declared.queries.Expr.TheBlock as b
 use Rattle.away_trees.specs.Algebra.{expr_of}
 use Rattle.away_trees.proofs.Equations as eq
-use Rattle.away_typing.specs.declared.kind.Kind.{Kind}
-use Rattle.away_typing.specs.declared.kind.Kind.TheVariants.{Null, Of, Sum, Wrong}
-use Rattle.away_typing.specs.declared.uses.Uses.{Uses}
+use Rattle.away_typing.specs.declared.kind.Kind.TheVariants.{Of}
 use Rattle.away_typing.specs.Aggregates.{using_}
 use Rattle.away_typing.specs.Kinds.{fits, of_type}
-use Rattle.away_typing.specs.Parameters.{Found, finding}
-use Rattle.away_typing.specs.Typing.{Places, Frame, typing, column, kind_at, cast_kind}
+use Rattle.away_typing.specs.Parameters.{finding}
+use Rattle.away_typing.specs.Typing.{Places, Frame, typing, column, kind_at}
 use Rattle.away_values.specs.declared.types.Ty.{Ty}
 use Rattle.sql_meaning.specs.Placed.{further, placed, placed_at}
 use Rattle.sql_meaning.specs.Reads.{slots_of}
-use Rattle.sql_meaning.specs.Trees.{null_of}
+use Rattle.typed_forms.specs.Typed.{HasKind}
 use Rattle.template_types.specs.Linked.{IsLinked}
-use Rattle.template_types.specs.Types.{HasKind}
 use Rattle.template_types.proofs.KeptKinds.{Keeps, KeepsSome, kept_same}
 use Rattle.template_types.proofs.KeptTrees.{Placement, placed_kept}
 use Rattle.template_types.proofs.PlacedUses.{placed_uses}
 use Rattle.template_types.proofs.PlacedParameters.{placed_params}
 use Rattle.template_types.proofs.NullAlone.{is_null, kind_exact}
 use Rattle.template_types.proofs.SlotsRead.{is_in, reads_its_slots}
-use Rattle.template_types.proofs.Fine.{Fine, type_has, null_fine}
+use Rattle.template_types.proofs.Fine.{type_has, null_fine}
 
 still_there : {A : Type 0} (xs ys : List A) (k : ℕ) → KeepsSome (slice_get xs k) (slice_get (xs ++ ys) k)
 still_there [] ys k = tt

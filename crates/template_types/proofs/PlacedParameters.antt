@@ -1,23 +1,19 @@
 -- A placed expression has the parameters of the expression.
-use Rattle.std.proofs.Common.{◌≡◌, refl, ap, sym, ◌∙◌, subst, ℕ, zero, suc, List, [], ◌∷◌, map, fold, Option, Some, None, option_map}
-use Rattle.away_values.specs.declared.types.Ty.{Ty}
+use Rattle.std.proofs.Common.{◌≡◌, refl, ◌∙◌, ℕ, suc, List, [], ◌∷◌, map, Option, Some, None, option_map}
 use Rattle.away_values.specs.declared.types.Ty.TheVariants as ty
 use Rattle.away_values.specs.declared.operators.ChainOp.{ChainOp}
 use Rattle.away_trees.specs.declared.queries.Col.{Col}
 use Rattle.away_trees.specs.declared.queries.Expr.{Expr}
 use Rattle.away_trees.specs.declared.queries.Expr.TheVariants as expr
 use Rattle.away_trees.specs.declared.queries.Expr.TheOpen as ex
-use Rattle.away_trees.specs.declared.queries.Source.{Source}
-use Rattle.away_trees.specs.declared.queries.Source.TheVariants as source
 use Rattle.away_trees.specs.declared.queries.FromItem.{FromItem}
 use Rattle.away_trees.specs.declared.queries.Item.{Item}
 use Rattle.away_trees.specs.declared.queries.Key.{Key}
 use Rattle.away_trees.specs.declared.queries.Recursive.{Recursive}
 use Rattle.away_trees.specs.declared.queries.Select.{Select}
-use Rattle.away_trees.specs.declared.queries.Query.{Query}
 use Rattle.away_trees.specs.Algebra.{expr_of, item_of, key_of, source_of, from_of, select_of, recursive_of, query_of}
 use Rattle.away_trees.proofs.Equations as eq
-use Rattle.away_typing.specs.Parameters.{Found, finding, found, in_source, in_select, in_recursive, in_query}
+use Rattle.away_typing.specs.Parameters.{Found, finding, found, in_select, in_recursive, in_query}
 use Rattle.sql_meaning.specs.Placed.{Deep, replacing, column_of, with_cast, placed}
 use Rattle.sql_meaning.proofs.Related.{Alike, AlikeOption, AlikeLink, AlikeArm, Relation, IsKept, expr_related}
 

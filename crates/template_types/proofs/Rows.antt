@@ -1,6 +1,6 @@
 -- Selects and items of FROM whose columns have types, with no aggregate and no parameter.
-use Rattle.std.proofs.Common.{◌≡◌, refl, ap, sym, ◌∙◌, subst, ℕ, zero, suc, Bool, true, false, ◌&&◌, ◌||◌, List, [], ◌∷◌, ◌++◌, map, fold, length, Option, Some, None, option_map, append_assoc}
-use Rattle.std.specs.Prelude.{option_and_then, slice_get, ◌==◌, if◌then◌else◌}
+use Rattle.std.proofs.Common.{◌≡◌, refl, ap, ◌∙◌, ℕ, true, ◌&&◌, List, [], ◌∷◌, ◌++◌, map, fold, length, Option, Some, None, option_map, append_assoc}
+use Rattle.std.specs.Prelude.{option_and_then, if◌then◌else◌}
 use Rattle.std.specs.List.{list_all}
 use Rattle.std.proofs.lemmas.Bool.{eq-eqb}
 use Rattle.away_values.specs.declared.types.Ty.{Ty}
@@ -10,24 +10,22 @@ use Rattle.away_trees.specs.declared.queries.FromItem.{FromItem}
 use Rattle.away_trees.specs.declared.queries.Query.{Query}
 use Rattle.away_trees.specs.declared.queries.Select.{Select}
 use Rattle.away_trees.specs.declared.queries.Expr.TheViews.{roll-Query}
-use Rattle.away_trees.specs.Algebra.{expr_of, item_of, from_of, source_of, select_of, query_of}
+use Rattle.away_trees.specs.Algebra.{expr_of, item_of, from_of, select_of, query_of}
 use Rattle.away_trees.proofs.Equations as eq
 use Rattle.away_typing.specs.declared.kind.Kind.{Kind}
-use Rattle.away_typing.specs.declared.params.Params.{Params}
-use Rattle.away_typing.specs.declared.uses.Uses.{Uses}
-use Rattle.away_typing.specs.Aggregates.{using_, Term, unused, either, all_of, outside, apart, maybe}
-use Rattle.away_typing.specs.Kinds.{is_right, meet, fits, of_type, type_of}
+use Rattle.away_typing.specs.Aggregates.{using_, Term, maybe}
+use Rattle.away_typing.specs.Kinds.{is_right, meet, fits, of_type}
 use Rattle.away_typing.specs.Parameters.{Found, finding}
 use Rattle.away_typing.specs.Parameters as params
 use Rattle.away_typing.specs.Typing as typing
 use Rattle.away_typing.specs.Typing.{Places, Frame, Shape, inside, kinds, framed, maybe_fits, select_kinds, both_from, both, further, or_none, union, shape_of, types_of, listed}
-use Rattle.sql_meaning.specs.Trees.{item, select, one}
+use Rattle.sql_meaning.specs.Trees.{item, select}
 use Rattle.sql_meaning.proofs.Lists.{Zipped}
 use Rattle.template_parts.specs.Names.{alias_name, only_name}
 use Rattle.template_parts.specs.Trees.{lateral_as, only_as}
-use Rattle.template_types.specs.Types.{HasKind}
 use Rattle.typed_values.specs.Sorts.{Every}
-use Rattle.template_types.proofs.Fine.{type_right, type_met, type_back, type_fits, Calm, unused_calm, either_calm, all_calm, outside_calm, apart_calm, select_calm, calm_is, Quiet, quiet_is, quiet_then, quiet_all, Fine}
+use Rattle.typed_forms.specs.Typed.{HasKind}
+use Rattle.template_types.proofs.Fine.{type_right, type_met, type_back, type_fits, Calm, unused_calm, either_calm, all_calm, outside_calm, apart_calm, select_calm, calm_is, Quiet, quiet_is, quiet_all, Fine}
 
 abbrev pub kinds_of : List Ty → List Kind
 kinds_of ts = map of_type ts

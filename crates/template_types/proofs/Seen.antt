@@ -1,5 +1,5 @@
 -- Where names stand along a body: each name that is known stands at a column of its type.
-use Rattle.std.proofs.Common.{◌≡◌, refl, ap, sym, ◌∙◌, subst, ℕ, zero, suc, ◌+◌, ◌-◌, ◌≤◌, Bool, true, false, cond, if◌then◌else◌, List, [], ◌∷◌, ◌++◌, length, Option, Some, None, arith}
+use Rattle.std.proofs.Common.{◌≡◌, refl, ap, sym, ◌∙◌, ℕ, zero, suc, ◌-◌, ◌≤◌, Bool, true, false, cond, if◌then◌else◌, List, [], ◌∷◌, ◌++◌, length, Some, arith}
 use Rattle.std.specs.Prelude.{slice_get, nat_eq, option_and_then}
 use Rattle.std.proofs.lemmas.Bool.{eqb-true, eq-eqb}
 use Rattle.std.proofs.lemmas.Option.{same_Some}
@@ -9,7 +9,7 @@ use Rattle.away_values.specs.declared.types.Ty.{Ty}
 use Rattle.block_forms.specs.Places.{Each, EachPair}
 use Rattle.call_forms.specs.Called.{Among}
 use Rattle.call_forms.specs.Scopes.{Scope, paired}
-use Rattle.cte_template.specs.Places.{nowhere, first_of, row_place, seen, stands}
+use Rattle.cte_template.specs.Places.{nowhere, first_of, seen, stands}
 use Rattle.cte_template.specs.declared.places.Place.{Place}
 use Rattle.cte_template.proofs.PlacesSeen.{Shallow, shallow_inside, shallow_stands, shallow_paired}
 use Rattle.template_types.proofs.Fine.{at_type}

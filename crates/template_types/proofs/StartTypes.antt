@@ -1,10 +1,8 @@
 -- The first row of a compiled query: its types, and its parameters, which stand with one type each.
-use Rattle.std.proofs.Common.{◌≡◌, refl, ap, sym, ◌∙◌, subst, ℕ, zero, suc, ◌+◌, pos, Bool, true, false, not, ◌||◌, if◌then◌else◌, List, [], ◌∷◌, ◌++◌, map, fold, length, Option, Some, None, arith}
+use Rattle.std.proofs.Common.{◌≡◌, refl, ap, sym, ◌∙◌, subst, ℕ, suc, ◌+◌, pos, Bool, true, false, not, ◌||◌, if◌then◌else◌, List, [], ◌∷◌, ◌++◌, map, fold, Option, Some, None, arith}
 use Rattle.std.specs.Prelude.{slice_get, nat_lt, ◌==◌}
 use Rattle.std.proofs.lemmas.Bool.{eqb-true}
 use Rattle.away_trees.specs.declared.queries.Expr.{Expr}
-use Rattle.away_trees.specs.declared.queries.Expr.TheVariants as expr
-use Rattle.away_trees.specs.declared.queries.Select.{Select}
 use Rattle.away_trees.specs.Algebra.{expr_of, item_of, select_of}
 use Rattle.away_trees.proofs.Equations as eq
 use Rattle.away_typing.specs.declared.params.Params.{Params}
@@ -16,16 +14,15 @@ use Rattle.away_values.specs.declared.types.Ty.{Ty}
 use Rattle.away_values.specs.declared.types.Ty.TheVariants as ty
 use Rattle.call_forms.specs.Forms.{params_of}
 use Rattle.call_forms.specs.Template.{entry_place}
-use Rattle.sql_meaning.specs.Trees.{number, truth, null_of, item, select}
+use Rattle.sql_meaning.specs.Trees.{number, truth, null_of, item}
 use Rattle.sql_meaning.proofs.Lists.{Zipped}
 use Rattle.cte_template.specs.Making.{Making}
 use Rattle.cte_template.specs.Places.{beside}
 use Rattle.cte_template.specs.Tree as t
 use Rattle.cte_template.specs.Walks.{keys_of, argument, arguments_at}
-use Rattle.template_types.specs.Types.{HasKind}
 use Rattle.template_types.proofs.BodyTypes.{FillsCells}
 use Rattle.typed_values.specs.Sorts.{Every}
-use Rattle.template_types.proofs.Fine.{Fine, Calm, unused_calm, Quiet, number_fine, truth_fine, null_fine}
+use Rattle.template_types.proofs.Fine.{Calm, unused_calm, Quiet, number_fine, truth_fine, null_fine}
 use Rattle.template_types.proofs.Rows.{IsOfType, kinds_of, of_types, list_uses, kinds_are, select_calm_of}
 use Rattle.template_types.proofs.WalkTypes.{IsSound, row_types, from_zero, zipped_append, rows_have}
 

@@ -1,45 +1,34 @@
 -- The types of a compiled query: its terms have the columns of a row, and its last select the result and the fault.
-use Rattle.std.proofs.Common.{◌≡◌, refl, ap, sym, ◌∙◌, subst, ℕ, zero, suc, ◌+◌, ◌-◌, ◌≤◌, ◌<◌, ◌^◌, pos, Bool, true, false, if◌then◌else◌, List, [], ◌∷◌, ◌++◌, map, length, get_or, Option, Some, None, decimal, arith}
-use Rattle.std.specs.Prelude.{slice_get, nat_eq, option_and_then}
+use Rattle.std.proofs.Common.{◌≡◌, refl, ap, sym, ◌∙◌, subst, ℕ, zero, suc, ◌+◌, ◌<◌, ◌^◌, pos, Bool, true, false, if◌then◌else◌, List, [], ◌∷◌, ◌++◌, length, Some, arith}
+use Rattle.std.specs.Prelude.{slice_get, nat_eq}
 use Rattle.std.proofs.lemmas.Bool.{eqb-true, eq-eqb}
 use Rattle.std.proofs.lemmas.Option.{same_Some}
 use Rattle.std.proofs.lemmas.Fmt.{decimal_is_IsNumeral}
-use Rattle.away_trees.specs.declared.queries.Expr.{Expr}
 use Rattle.away_trees.specs.declared.queries.Expr.TheVariants as expr
-use Rattle.away_trees.specs.declared.queries.FromItem.{FromItem}
-use Rattle.away_trees.specs.declared.queries.Select.{Select}
-use Rattle.away_trees.specs.Algebra.{expr_of, from_of, select_of}
-use Rattle.away_typing.specs.Aggregates.{using_}
-use Rattle.away_typing.specs.Kinds.{of_type}
-use Rattle.away_typing.specs.Parameters.{Found, finding}
-use Rattle.away_typing.specs.Typing.{Places, Frame, typing, inside, framed, table_shape}
+use Rattle.away_typing.specs.Typing.{Places, Frame, table_shape}
 use Rattle.away_values.specs.declared.operators.CmpOp.TheVariants as cmp
 use Rattle.away_values.specs.declared.types.Ty.{Ty}
 use Rattle.away_values.specs.declared.types.Ty.TheVariants as ty
 use Rattle.block_forms.specs.Places.{EachPair}
-use Rattle.call_forms.specs.Bodies.{Body, body_of}
+use Rattle.call_forms.specs.Bodies.{body_of}
 use Rattle.call_forms.specs.Called.{Among}
 use Rattle.call_forms.specs.Forms.{params_of}
-use Rattle.call_forms.specs.Scopes.{Scope, paired}
+use Rattle.call_forms.specs.Scopes.{paired}
 use Rattle.call_forms.specs.Templated.{HasTree}
-use Rattle.sql_meaning.specs.Trees.{col, number, truth, null_of, item, select}
-use Rattle.sql_meaning.proofs.Lists.{Zipped}
+use Rattle.sql_meaning.specs.Trees.{col, number}
 use Rattle.cte_template.specs.Making.{Making}
 use Rattle.cte_template.specs.Places.{nowhere, row_place, seen}
 use Rattle.cte_template.specs.Tree as t
 use Rattle.cte_template.specs.Walks.{Walked, walk, all_columns, keys_of}
-use Rattle.cte_template.specs.declared.places.Place.{Place}
 use Rattle.cte_template.proofs.PlacesSeen.{row_shallow}
 use Rattle.template_parts.specs.Names.{step_name, row_names}
 use Rattle.template_parts.specs.Trees.{lateral_as, gate_as, working}
-use Rattle.template_types.specs.Types.{HasKind}
 use Rattle.template_types.proofs.BodyTypes.{IsTyped}
 use Rattle.typed_values.specs.Sorts.{Every}
-use Rattle.template_types.proofs.Fine.{Fine, at_type, Calm, unused_calm, Quiet, column_fine, number_fine, truth_fine, not_fine, compare_fine}
-use Rattle.template_types.proofs.Rows.{united, Good, IsCalmItem, Brings, parts, one_more, good_select, lateral_brings}
+use Rattle.template_types.proofs.Fine.{Fine, at_type, unused_calm, column_fine, number_fine, not_fine, compare_fine}
+use Rattle.template_types.proofs.Rows.{united, Good, Brings, one_more, good_select, lateral_brings}
 use Rattle.template_types.proofs.Seen.{Sees, none_among}
-use Rattle.template_types.proofs.WalkTypes as w
-use Rattle.template_types.proofs.WalkTypes.{IsSound, row_types, rows, here, rows_have, row_names_size, columns_fine, Walks, walks, walk_good, Behind, gate_behind}
+use Rattle.template_types.proofs.WalkTypes.{IsSound, row_types, here, rows_have, row_names_size, columns_fine, walks, walk_good, gate_behind}
 
 -- ---- a row
 

@@ -1,5 +1,5 @@
 -- The term of a body has its type where it is placed.
-use Rattle.std.proofs.Common.{◌≡◌, refl, ap, sym, ◌∙◌, subst, ℕ, zero, suc, ◌+◌, ◌≤◌, Bool, true, false, ◌||◌, if◌then◌else◌, List, [], ◌∷◌, ◌++◌, map, length, Option, Some, None, arith}
+use Rattle.std.proofs.Common.{◌≡◌, refl, ap, sym, ◌∙◌, ℕ, suc, ◌≤◌, Bool, true, false, ◌||◌, if◌then◌else◌, List, [], ◌∷◌, ◌++◌, map, length, Some, arith}
 use Rattle.std.specs.Prelude.{slice_get, nat_eq}
 use Rattle.std.proofs.lemmas.Bool.{eqb-true}
 use Rattle.away_trees.specs.declared.queries.Col.{Col}
@@ -15,9 +15,8 @@ use Rattle.call_forms.specs.Called.{Among}
 use Rattle.sql_meaning.specs.Placed.{placed_at}
 use Rattle.sql_meaning.specs.Reads.{slots_of}
 use Rattle.template_parts.specs.Columns.{column_beside}
-use Rattle.template_types.specs.Given.{HasTypeBy}
+use Rattle.typed_forms.specs.Typed.{HasKind, HasTypeBy}
 use Rattle.template_types.specs.Linked.{IsLinked}
-use Rattle.template_types.specs.Types.{HasKind}
 use Rattle.template_types.proofs.PlacedKinds.{kind_at_place, uses_at_place, params_at_place}
 use Rattle.template_types.proofs.SlotsRead.{is_in}
 use Rattle.template_types.proofs.Fine.{Calm, calm_is, Quiet, quiet_is, Fine, at_type}

@@ -1,25 +1,22 @@
 -- The select of a label's body has the columns of a row, with their types, and no aggregate and no parameter.
-use Rattle.std.proofs.Common.{◌≡◌, refl, ap, sym, ◌∙◌, subst, ℕ, zero, suc, ◌+◌, ◌-◌, ◌≤◌, pos, Bool, true, false, List, [], ◌∷◌, ◌++◌, map, length, get_or, Option, Some, None, append_assoc, length-append, arith}
+use Rattle.std.proofs.Common.{◌≡◌, refl, ap, sym, ◌∙◌, subst, ℕ, zero, suc, ◌+◌, ◌≤◌, pos, true, false, List, [], ◌∷◌, ◌++◌, map, length, get_or, Option, Some, None, append_assoc, length-append, arith}
 use Rattle.std.specs.Prelude.{slice_get, option_and_then}
-use Rattle.away_trees.specs.declared.queries.Col.{Col}
 use Rattle.away_trees.specs.declared.queries.Expr.{Expr}
 use Rattle.away_trees.specs.declared.queries.Expr.TheVariants as expr
 use Rattle.away_trees.specs.declared.queries.Expr.TheViews.{roll-Select}
 use Rattle.away_trees.specs.declared.queries.FromItem.{FromItem}
-use Rattle.away_trees.specs.declared.queries.Select.{Select}
-use Rattle.away_typing.specs.Typing.{Places, Frame, inside, framed}
+use Rattle.away_typing.specs.Typing.{Places, Frame, framed}
 use Rattle.away_values.specs.declared.types.Ty.{Ty}
 use Rattle.away_values.specs.declared.types.Ty.TheVariants as ty
-use Rattle.away_values.specs.declared.values.Class.{Class}
 use Rattle.block_forms.specs.declared.forms.Term.{Term}
 use Rattle.block_forms.specs.Places.{Each}
 use Rattle.call_forms.specs.Bodies.{Body, sets, enters, picks, returns, fails, calls, endless}
 use Rattle.call_forms.specs.Called.{Among}
 use Rattle.call_forms.specs.Scopes.{Scope, paired}
 use Rattle.call_forms.specs.Template.{is_not_true}
-use Rattle.call_forms.specs.Templated.{HasReferences, PassesKnown, HasTree}
+use Rattle.call_forms.specs.Templated.{HasReferences, HasTree}
 use Rattle.sql_meaning.specs.Template.{below, count_from}
-use Rattle.sql_meaning.specs.Trees.{col, number, truth, null_of, item, select}
+use Rattle.sql_meaning.specs.Trees.{col, truth, null_of, item}
 use Rattle.sql_meaning.proofs.Lists.{Zipped}
 use Rattle.cte_template.specs.Making.{Making}
 use Rattle.cte_template.specs.Places.{nowhere, first_of, seen, stands, beside}
@@ -28,8 +25,7 @@ use Rattle.cte_template.specs.Walks as written
 use Rattle.cte_template.specs.declared.places.Place.{Place}
 use Rattle.template_parts.specs.Names.{alias_name, column_name, row_names, result_name, fault_name}
 use Rattle.template_parts.specs.Trees.{gate_as, either_as}
-use Rattle.template_types.specs.Given.{TermHasType}
-use Rattle.template_types.specs.Types.{HasKind}
+use Rattle.typed_forms.specs.Typed.{HasKind, TermHasType}
 use Rattle.template_types.proofs.BodyTypes.{IsTyped, FillsCells, stands_of}
 use Rattle.typed_values.specs.Sorts.{Every}
 use Rattle.template_types.proofs.Fine.{Fine, at_type, column_fine, number_fine, truth_fine, null_fine, text_fine, not_true_fine}

@@ -2,9 +2,10 @@
 use Rattle.std.specs.Prelude.{◌≡◌, ℕ, ◌≤◌, true, List, [], ◌++◌, slice_get}
 use Rattle.away_trees.specs.declared.queries.Col.{Col}
 use Rattle.away_trees.specs.declared.queries.Expr.{Expr}
-use Rattle.away_names.specs.Lookups.{Scope}
-use Rattle.away_names.specs.Trees.{named_expr}
-use Rattle.away_types.specs.Refusals.{IsUnbroken}
+use Rattle.away_trees.specs.declared.schemas.Schema.{Schema}
+use Rattle.away_trees.specs.declared.statements.Function.{Function}
+use Rattle.away_types.specs.declared.slots.Slot.{Slot}
+use Rattle.away_types.specs.CheckedFunctions.{IsChecked}
 use Rattle.away_typing.specs.declared.kind.Kind.TheVariants.{Of}
 use Rattle.away_typing.specs.declared.params.Params.{Params}
 use Rattle.away_typing.specs.Kinds.{fits}
@@ -12,13 +13,12 @@ use Rattle.away_typing.specs.ParameterLists.{with_expr}
 use Rattle.away_typing.specs.Trees.{kind_of, uses_of}
 use Rattle.away_typing.specs.Typing.{Frame, column, kind_at}
 use Rattle.away_values.specs.declared.types.Ty.{Ty}
-use Rattle.block_forms.specs.Expressions.{fixed_list}
+use Rattle.block_forms.specs.Expressions.{expressions}
 use Rattle.block_forms.specs.Places.{Each}
 use Rattle.sql_meaning.specs.Placed.{placed_at}
 use Rattle.sql_meaning.specs.Reads.{slots_of}
-use Rattle.typed_values.specs.Sorts.{Every}
+use Rattle.typed_forms.specs.Typed.{HasKind}
 use Rattle.template_types.specs.Linked.{IsLinked}
-use Rattle.template_types.specs.Types.{HasKind}
 
 -- Each slot that an expression reads has the type of the column that stands for it among the columns of enclosing selects.
 pub record HaveTypesOfSlots (frames : List Frame) (ref : ℕ → Col) (slots : List Ty) (e : Expr) : Type 0 where
@@ -41,9 +41,7 @@ PlacingKeepsParameters = (e : Expr) (t : Ty) (ref : ℕ → Col) (p : Params) �
 abbrev pub HasNoParameter : Expr → Type 0
 HasNoParameter e = (p : Params) → with_expr p e ≡ p
 
--- An expression in a function whose names are resolved and break no rule has no parameter, and the fixed entries of the table have none.
-abbrev pub NamedHaveNoParameters : Type 0
-NamedHaveNoParameters = (e : Expr) (s : Scope) → s.in_function ≡ true → IsUnbroken (named_expr e s).note → HasNoParameter (named_expr e s).it
-
-abbrev pub FixedHaveNoParameters : Type 0
-FixedHaveNoParameters = Every HasNoParameter fixed_list
+-- The expressions of a checked function, and the fixed ones behind them, have no parameters.
+abbrev pub ExpressionsHaveNoParameters : Type 0
+ExpressionsHaveNoParameters =
+    (schema : Schema) (written f : Function) (slots : List Slot) → IsChecked schema written f slots → Each HasNoParameter (expressions f)

@@ -10,9 +10,9 @@ use Rattle.away_typing.specs.Typing.{Frame}
 use Rattle.away_values.specs.declared.types.Ty.{Ty}
 use Rattle.sql_meaning.specs.Placed.{placed_at}
 use Rattle.sql_meaning.specs.Reads.{slots_of}
+use Rattle.typed_forms.specs.Typed.{HasKind}
 use Rattle.template_types.specs.Laws.{HaveTypesOfSlots}
 use Rattle.template_types.specs.Linked.{IsLinked}
-use Rattle.template_types.specs.Types.{HasKind}
 use Rattle.template_types.proofs.Fine.{type_has}
 use Rattle.template_types.proofs.PlacedKinds.{kind_at_place, uses_at_place, params_at_place}
 use Rattle.template_types.proofs.SlotsRead.{has_place}
