@@ -40,7 +40,8 @@ stands_by [] names i n h = absurd (cc)
 stands_by (k ∷ keys) [] i n h = absurd (cc)
 stands_by (k ∷ keys) (m ∷ names) i n h = by (λ h. stands_by keys names i n h) (nat_eq k i) refl h
   where
-    by : (beside_by keys names i ≡ Some n → Stands keys names i n) → (b : Bool) → nat_eq k i ≡ b → (if b then Some m else beside_by keys names i) ≡ Some n → Stands (k ∷ keys) (m ∷ names) i n
+    by : (beside_by keys names i ≡ Some n → Stands keys names i n) → (b : Bool) → nat_eq k i ≡ b → (if b then Some m else beside_by keys names i) ≡ Some n
+        → Stands (k ∷ keys) (m ∷ names) i n
     by rest true e h = record { place = 0; key = ap (λ k. Some k) (eqb-true k i e); name = h }
     by rest false e h = let more = rest h in record { place = suc more.place; key = more.key; name = more.name }
 
@@ -85,7 +86,11 @@ module _ (slots : List Slot) (z : Ssa) (a : Anf) (r : Tail) (tables : List (List
 
   places_fit : (o : Option AnfBlock) (keys : List ℕ) → PlacesAt slots z.names r.columns o keys → LabelFits (params_of o) keys
   places_fit None keys h = absurd h
-  places_fit (Some x) keys h = record { as_many = h.as_many; have_types = λ i p c e g. column_type (type_of_name slots z.names p) (slice_get r.columns c) (h.typed i p c e g) }
+  places_fit (Some x) keys h = record {
+    as_many = h.as_many;
+    have_types = λ i p c e g. column_type (type_of_name slots z.names p) (slice_get r.columns c)
+        (h.typed i p c e g);
+  }
 
   found_or : (keys : List (List ℕ)) (l : ℕ) (k : List ℕ) → slice_get keys l ≡ Some k → get_or keys l [] ≡ k
   found_or [] l k h = absurd (cc)
@@ -95,14 +100,16 @@ module _ (slots : List Slot) (z : Ssa) (a : Anf) (r : Tail) (tables : List (List
   pub at_label_fits : (l b : ℕ) → slice_get r.labels l ≡ Some b → LabelFits (params_of (slice_get a.blocks b)) (get_or r.places l [])
   at_label_fits l b found =
       let there = element_there r.places l (subst (λ n. l < n) (sym columned.as_many) (slice_get_within r.labels l b found)) in
-      subst (LabelFits (params_of (slice_get a.blocks b))) (sym (found_or r.places l there.0 there.1)) (places_fit (slice_get a.blocks b) there.0 (columned.each l b there.0 found there.1))
+      subst (LabelFits (params_of (slice_get a.blocks b))) (sym (found_or r.places l there.0 there.1))
+      (places_fit (slice_get a.blocks b) there.0 (columned.each l b there.0 found there.1))
 
   pub own_cells : (params keys : List ℕ) → LabelFits params keys → FillsCells tables table types result r.columns keys params
   own_cells params keys fit i t n column there =
       let at = stands_of keys params i n there in
       same_Some (types n) t (sym (fit.have_types at.place n i at.name at.key) ∙ column)
 
-  passed_cells : (params keys args : List ℕ) → LabelFits params keys → EachPair (λ i p n. types n ≡ types p) params args → FillsCells tables table types result r.columns keys args
+  passed_cells : (params keys args : List ℕ) → LabelFits params keys → EachPair (λ i p n. types n ≡ types p) params args
+      → FillsCells tables table types result r.columns keys args
   passed_cells params keys args fit pass i t n column there =
       let at = stands_of keys args i n there in
       let param = element_there params at.place (subst (λ k. at.place < k) fit.as_many (slice_get_within keys at.place i at.key)) in
@@ -121,10 +128,12 @@ module _ (slots : List Slot) (z : Ssa) (a : Anf) (r : Tail) (tables : List (List
     where
       by : (o : Option ℕ) → label_of r c.target ≡ o → Typed (goes_to a r trees c o)
       by (Some l) found =
-          passed_cells (params_of (slice_get a.blocks c.target)) (get_or r.places l []) c.args (at_label_fits l c.target (place_found r.labels c.target l found)) pass
+          passed_cells (params_of (slice_get a.blocks c.target)) (get_or r.places l []) c.args
+          (at_label_fits l c.target (place_found r.labels c.target l found)) pass
       by None found = (pass, each c.target)
 
-  end_typed : (trees : ℕ → Body) → EachTyped trees → (e : CallEnd) → EndHasType tables table types result e → EndKeepsTypes types a e → Typed (end_body a r trees e)
+  end_typed : (trees : ℕ → Body) → EachTyped trees → (e : CallEnd) → EndHasType tables table types result e → EndKeepsTypes types a e
+      → Typed (end_body a r trees e)
   end_typed trees each (Go c) h k = call_typed trees each c k
   end_typed trees each (Pick t x y) h k = (h, call_typed trees each x k.0, call_typed trees each y k.1)
   end_typed trees each (Return t) h k = h

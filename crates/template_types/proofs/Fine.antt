@@ -139,7 +139,8 @@ pub column_fine : (p : Places) (c : Col) (t : Ty) → at_type p.frames c ≡ Som
 unfolding column kind_at
 column_fine p c t h = record { kind = ap kind_at h; calm = column_calm c.level; quiet = λ q. refl }
 
-cast_fine : (p : Places) (e : Expr) (t : Ty) → cast_kind t (expr_of typing e p) ≡ of_type t → Calm (expr_of using_ e).uses → Quiet (expr_of finding e) → Fine p (expr.Cast e t) t
+cast_fine : (p : Places) (e : Expr) (t : Ty) → cast_kind t (expr_of typing e p) ≡ of_type t → Calm (expr_of using_ e).uses → Quiet (expr_of finding e)
+    → Fine p (expr.Cast e t) t
 cast_fine p e t k c q = record {
   kind = ap (λ f. f p) (eq.of_cast typing e t) ∙ k;
   calm = calm_is _ _ (ap (λ f. f.uses) (eq.of_cast using_ e t)) c;
@@ -183,7 +184,8 @@ unfolding only_if of_type
 compare_fine p op x y t h a b = record {
   kind =
       ap (λ f. f p) (eq.of_compare typing op x y)
-      ∙ ((λ i. only_if (is_right (meet (a.kind i) (b.kind i))) (Of ty.Boolean)) ∙ ap (λ c. only_if c (Of ty.Boolean)) (ap is_right (type_met t h) ∙ type_right t h));
+      ∙ ((λ i. only_if (is_right (meet (a.kind i) (b.kind i))) (Of ty.Boolean)) ∙ ap (λ c. only_if c (Of ty.Boolean))
+      (ap is_right (type_met t h) ∙ type_right t h));
   calm = calm_is _ _ (ap (λ f. f.uses) (eq.of_compare using_ op x y)) (either_calm _ _ a.calm b.calm);
   quiet = quiet_is _ _ (eq.of_compare finding op x y) (quiet_then (expr_of finding x) (expr_of finding y) a.quiet b.quiet);
 }

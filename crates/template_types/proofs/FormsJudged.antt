@@ -85,7 +85,8 @@ every_of : (ts : List Ty) → Each HasKind ts → Every HasKind ts
 every_of [] h = tt
 every_of (t ∷ ts) h = (h 0 t refl, every_of ts (λ i u e. h (suc i) u e))
 
-slot_type : (slots : List Slot) → Each (λ (s : Slot). HasKind s.ty) slots → (i : ℕ) (o : Option Slot) → slice_get slots i ≡ o → HasKind (type_or_bigint (type_of_slot o))
+slot_type : (slots : List Slot) → Each (λ (s : Slot). HasKind s.ty) slots → (i : ℕ) (o : Option Slot) → slice_get slots i ≡ o
+    → HasKind (type_or_bigint (type_of_slot o))
 slot_type slots h i None e = tt
 slot_type slots h i (Some s) e = h i s e
 
@@ -109,7 +110,8 @@ module _ (schema : Schema) (f : Function) (slots : List Slot) (g : Goto) (z : Ss
     columns = every_of r.columns h.columns;
   }
 
-  fits : (l b : ℕ) → slice_get r.labels l ≡ Some b → LabelFits slots z a r (column_types schema) (expressions f) f.result h.columned h.terms h.calls (params_of (slice_get a.blocks b)) (get_or r.places l [])
+  fits : (l b : ℕ) → slice_get r.labels l ≡ Some b → LabelFits slots z a r (column_types schema) (expressions f) f.result h.columned h.terms h.calls
+      (params_of (slice_get a.blocks b)) (get_or r.places l [])
   fits = at_label_fits slots z a r (column_types schema) (expressions f) f.result h.columned h.terms h.calls
 
   labels : (j b : ℕ) → slice_get r.labels j ≡ Some b → IsLabel m (column_types schema) sound j b
@@ -122,13 +124,16 @@ module _ (schema : Schema) (f : Function) (slots : List Slot) (g : Goto) (z : Ss
         typed = body_typed slots z a r (column_types schema) (expressions f) f.result h.columned h.terms h.calls b;
       }
 
-  fills : FillsCells (column_types schema) m.table m.types m.result r.columns (keys_of m (entry_place m.table m.types m.result a r g.entry)) (params_of (slice_get a.blocks g.entry))
+  fills : FillsCells (column_types schema) m.table m.types m.result r.columns (keys_of m (entry_place m.table m.types m.result a r g.entry))
+      (params_of (slice_get a.blocks g.entry))
   fills = by (label_of r g.entry) refl
     where
       by : (o : Option ℕ) → label_of r g.entry ≡ o
-          → FillsCells (column_types schema) m.table m.types m.result r.columns (keys_of m (label_or (length r.labels) o)) (params_of (slice_get a.blocks g.entry))
+          → FillsCells (column_types schema) m.table m.types m.result r.columns (keys_of m (label_or (length r.labels) o))
+          (params_of (slice_get a.blocks g.entry))
       by (Some l) e =
-          own_cells slots z a r (column_types schema) (expressions f) f.result h.columned h.terms h.calls (params_of (slice_get a.blocks g.entry)) (get_or r.places l [])
+          own_cells slots z a r (column_types schema) (expressions f) f.result h.columned h.terms h.calls (params_of (slice_get a.blocks g.entry))
+          (get_or r.places l [])
           (fits l g.entry (place_found r.labels g.entry l e))
       by None e = absurd (placed 0 r.labels g.entry h.entry.place h.entry.there e)
 
@@ -138,9 +143,11 @@ module _ (schema : Schema) (f : Function) (slots : List Slot) (g : Goto) (z : Ss
   abbrev note_of : Note → Query → Times → Times → Note
   note_of note q first second =
       joined (joined note (uses_note q))
-      (joined (breaks 13 (params_in q).clash) (joined (recursion schema first second (out-Query q).recursive).note (answer_note (final_shape q (recursion schema first second (out-Query q).recursive)))))
+      (joined (breaks 13 (params_in q).clash) (joined (recursion schema first second (out-Query q).recursive).note
+      (answer_note (final_shape q (recursion schema first second (out-Query q).recursive)))))
 
-  pub clean : (names : File) → names.query ≡ tree m g.entry (length schema.tables) → IsUnbroken names.note → names.first.refers ≡ Never → names.second.refers ≡ Once → IsUnbroken (judged schema names).note
+  pub clean : (names : File) → names.query ≡ tree m g.entry (length schema.tables) → IsUnbroken names.note → names.first.refers ≡ Never
+      → names.second.refers ≡ Once → IsUnbroken (judged schema names).note
   unfolding judged
   clean names same unbroken first second =
       let small : length (column_types schema) < 2 ^ 64 = subst (λ n. n < 2 ^ 64) size h.few in

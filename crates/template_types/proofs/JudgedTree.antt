@@ -92,9 +92,11 @@ shape_back ts h = ap (λ ts. Some ts) (back ts h)
     back [] h = refl
     back (t ∷ ts) h = λ i. type_back t h.0 i ∷ back ts h.1 i
 
-module _ (schema : Schema) (m : Making) (sound : IsSound m) (small : length (column_types schema) < 2 ^ 64) (labels : (j b : ℕ) → slice_get m.tail.labels j ≡ Some b → IsLabel m (column_types schema) sound j b)
+module _ (schema : Schema) (m : Making) (sound : IsSound m) (small : length (column_types schema) < 2 ^ 64)
+    (labels : (j b : ℕ) → slice_get m.tail.labels j ≡ Some b → IsLabel m (column_types schema) sound j b)
     (entry : ℕ) (entered : Among m.tail.labels entry)
-    (fills : FillsCells (column_types schema) m.table m.types m.result m.tail.columns (keys_of m (entry_place m.table m.types m.result m.anf m.tail entry)) (params_of_block (slice_get m.anf.blocks entry))) where
+    (fills : FillsCells (column_types schema) m.table m.types m.result m.tail.columns (keys_of m (entry_place m.table m.types m.result m.anf m.tail entry))
+    (params_of_block (slice_get m.anf.blocks entry))) where
   abbrev tables : List (List Ty)
   tables = column_types schema
 
@@ -154,7 +156,8 @@ module _ (schema : Schema) (m : Making) (sound : IsSound m) (small : length (col
   shape_is : shape_by fields ≡ Some Rows
   unfolding kinds_of_select
   shape_is =
-      ap shape_of (one_union (over_tables (with_table schema (padded names []))) first (Some (kinds_of Rows)) (start_kinds m tables sound entry fills (over_tables (with_table schema (padded names [])))))
+      ap shape_of (one_union (over_tables (with_table schema (padded names []))) first (Some (kinds_of Rows))
+      (start_kinds m tables sound entry fills (over_tables (with_table schema (padded names [])))))
       ∙ shape_back Rows have
 
   tables_are : tables_by fields (Some Rows) ≡ with_table schema Rows
@@ -169,14 +172,28 @@ module _ (schema : Schema) (m : Making) (sound : IsSound m) (small : length (col
   unfolding is_table
   own_from =
       ap (λ (x : Select-F Expr Source FromItem Item Key Query Recursive Select). list_any (λ f. is_table table_name (out-FromItem f).source) x.from)
-      (out-roll-Select (record { list = map item (all_columns m 1); from = working (length tables) (t.width m) ∷ t.label_rows m ∷ []; filter = Some (col 0 0 0); order = []; limit = None }))
+      (out-roll-Select (record {
+        list = map item (all_columns m 1);
+        from = working (length tables) (t.width m) ∷ t.label_rows m ∷ [];
+        filter = Some
+            (col 0 0 0);
+        order = [];
+        limit = None;
+      }))
 
   plain : is_plain second ≡ true
   unfolding uses_of_select
   plain =
       both_true _ _ (ap not second_good.calm.aggregate)
       (ap (λ (x : Select-F Expr Source FromItem Item Key Query Recursive Select). not (is_some_of x.order) && not (is_some x.limit))
-      (out-roll-Select (record { list = map item (all_columns m 1); from = working (length tables) (t.width m) ∷ t.label_rows m ∷ []; filter = Some (col 0 0 0); order = []; limit = None })))
+      (out-roll-Select (record {
+        list = map item (all_columns m 1);
+        from = working (length tables) (t.width m) ∷ t.label_rows m ∷ [];
+        filter = Some
+            (col 0 0 0);
+        order = [];
+        limit = None;
+      })))
 
   recursive_is : is_recursion_by fields (Some Rows) (Some (kinds_of Rows)) ≡ true
   unfolding is_never is_once types_or_none fits_shape
@@ -242,12 +259,14 @@ module _ (schema : Schema) (m : Making) (sound : IsSound m) (small : length (col
   shape_final =
       ap (λ (x : Wholes). shape_of (union_in (over_tables (found x).tables) x.selects)) (out-roll-Query whole)
       ∙ (ap (λ ts. shape_of (union_in (over_tables ts) (final ∷ []))) recursion_tables
-      ∙ (ap shape_of (one_union (over_tables (with_table schema Rows)) final (Some (kinds_of (m.result ∷ ty.Text ∷ []))) final_good.kinds) ∙ shape_back (m.result ∷ ty.Text ∷ []) (sound.result, (tt, tt))))
+      ∙ (ap shape_of (one_union (over_tables (with_table schema Rows)) final (Some (kinds_of (m.result ∷ ty.Text ∷ []))) final_good.kinds)
+      ∙ shape_back (m.result ∷ ty.Text ∷ []) (sound.result, (tt, tt))))
 
   answer_clean : (shape : Shape) → shape ≡ Some (m.result ∷ ty.Text ∷ []) → (answer_note shape).least ≡ 255
   unfolding is_answer same
   answer_clean shape h =
-      joined_least _ _ (breaks_least 13 (not (is_some shape)) (ap (λ s. not (is_some s)) h)) (breaks_least 18 (not (is_answer shape)) (ap (λ s. not (is_answer s)) h))
+      joined_least _ _ (breaks_least 13 (not (is_some shape)) (ap (λ s. not (is_some s)) h))
+      (breaks_least 18 (not (is_answer shape)) (ap (λ s. not (is_answer s)) h))
 
   uses_clean : (uses_note tree).least ≡ 255
   unfolding uses_of_query
@@ -255,7 +274,9 @@ module _ (schema : Schema) (m : Making) (sound : IsSound m) (small : length (col
 
   -- behind a clean note of its names
   pub judged_clean : (note : Note) → note.least ≡ 255
-      → (joined (joined note (uses_note tree)) (joined (breaks 13 (params_of tree).clash) (joined (recursion schema Never Once (out-Query tree).recursive).note (answer_note (final_shape tree (recursion schema Never Once (out-Query tree).recursive)))))).least ≡ 255
+      → (joined (joined note (uses_note tree))
+      (joined (breaks 13 (params_of tree).clash) (joined (recursion schema Never Once (out-Query tree).recursive).note
+      (answer_note (final_shape tree (recursion schema Never Once (out-Query tree).recursive)))))).least ≡ 255
   judged_clean note h =
       joined_least _ _ (joined_least note (uses_note tree) h uses_clean)
       (joined_least _ _ (breaks_least 13 (params_of tree).clash no_clash)

@@ -117,7 +117,8 @@ pair_wrong : (op : ChainOp) (k : Kind) → pair op Wrong k ≡ Wrong
 unfolding pair only_if fits is_right
 pair_wrong chain.Or k = refl
 pair_wrong chain.And k = refl
-pair_wrong chain.Concat k = if_wrong ((fits ty.Text Wrong || fits ty.Text k) && (is_right Wrong && is_right k)) (Of ty.Text) (and_false (fits ty.Text Wrong || fits ty.Text k) (is_right Wrong && is_right k) refl)
+pair_wrong chain.Concat k = if_wrong ((fits ty.Text Wrong || fits ty.Text k) && (is_right Wrong && is_right k)) (Of ty.Text)
+    (and_false (fits ty.Text Wrong || fits ty.Text k) (is_right Wrong && is_right k) refl)
 pair_wrong (chain.Int op) k = refl
 pair_wrong (chain.Small op) k = refl
 
@@ -211,14 +212,18 @@ call_kept known.Coalesce xs ys h = least_kept xs ys h
 call_kept known.Greatest xs ys h = least_kept xs ys h
 call_kept known.Least xs ys h = least_kept xs ys h
 call_kept known.Length xs ys h =
-    one_kept (call_kind known.Length) (λ a. only_if (fits ty.Text a) (Of ty.Bigint)) refl (λ a. refl) (λ a b ks. refl) (if_wrong _ (Of ty.Bigint) (fits_wrong ty.Text)) xs ys h
+    one_kept (call_kind known.Length) (λ a. only_if (fits ty.Text a) (Of ty.Bigint)) refl (λ a. refl) (λ a b ks. refl)
+    (if_wrong _ (Of ty.Bigint) (fits_wrong ty.Text)) xs ys h
 call_kept known.Substr xs ys h = substr_kept xs ys h
 call_kept known.Count xs ys h =
-    one_kept (call_kind known.Count) (λ a. only_if (is_right a) (Of ty.Bigint)) refl (λ a. refl) (λ a b ks. refl) (if_wrong _ (Of ty.Bigint) right_wrong) xs ys h
+    one_kept (call_kind known.Count) (λ a. only_if (is_right a) (Of ty.Bigint)) refl (λ a. refl) (λ a b ks. refl) (if_wrong _ (Of ty.Bigint) right_wrong) xs
+    ys h
 call_kept known.BoolAnd xs ys h =
-    one_kept (call_kind known.BoolAnd) (λ a. only_if (fits ty.Boolean a) (Of ty.Boolean)) refl (λ a. refl) (λ a b ks. refl) (if_wrong _ (Of ty.Boolean) (fits_wrong ty.Boolean)) xs ys h
+    one_kept (call_kind known.BoolAnd) (λ a. only_if (fits ty.Boolean a) (Of ty.Boolean)) refl (λ a. refl) (λ a b ks. refl)
+    (if_wrong _ (Of ty.Boolean) (fits_wrong ty.Boolean)) xs ys h
 call_kept known.BoolOr xs ys h =
-    one_kept (call_kind known.BoolOr) (λ a. only_if (fits ty.Boolean a) (Of ty.Boolean)) refl (λ a. refl) (λ a b ks. refl) (if_wrong _ (Of ty.Boolean) (fits_wrong ty.Boolean)) xs ys h
+    one_kept (call_kind known.BoolOr) (λ a. only_if (fits ty.Boolean a) (Of ty.Boolean)) refl (λ a. refl) (λ a b ks. refl)
+    (if_wrong _ (Of ty.Boolean) (fits_wrong ty.Boolean)) xs ys h
 call_kept known.Min xs ys h =
     one_kept (call_kind known.Min) (λ a. only_if (is_ordered a) (settled a)) refl (λ a. refl) (λ a b ks. refl) extreme_wrong xs ys h
 call_kept known.Max xs ys h =

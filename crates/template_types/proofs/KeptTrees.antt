@@ -40,7 +40,8 @@ kinds_zipped p q [] [] h = tt
 kinds_zipped p q (x ∷ xs) (y ∷ ys) h = (h.0, kinds_zipped p q xs ys h.1)
 kinds_zipped p q _ _ h = absurd h
 
-option_zipped : (p q : Places) (x y : Option typing.Term) → ZippedOption (λ x y. Keeps (x p) (y q)) x y → ZippedOption Keeps (option_map (λ t. t p) x) (option_map (λ t. t q) y)
+option_zipped : (p q : Places) (x y : Option typing.Term) → ZippedOption (λ x y. Keeps (x p) (y q)) x y
+    → ZippedOption Keeps (option_map (λ t. t p) x) (option_map (λ t. t q) y)
 option_zipped p q None None h = tt
 option_zipped p q (Some x) (Some y) h = h
 option_zipped p q _ _ h = absurd h
@@ -53,7 +54,8 @@ or_null_kept _ _ h = absurd h
 abbrev LinkKept : Places → Places → ChainOp × typing.Term → ChainOp × typing.Term → Type 0
 LinkKept p q x y = (y.0 ≡ x.0) × Keeps (x.1 p) (y.1 q)
 
-chained_kept : (p q : Places) (xs ys : List (ChainOp × typing.Term)) → Zipped (LinkKept p q) xs ys → (a b : Kind) → Keeps a b → Keeps (chained p xs a) (chained q ys b)
+chained_kept : (p q : Places) (xs ys : List (ChainOp × typing.Term)) → Zipped (LinkKept p q) xs ys → (a b : Kind) → Keeps a b
+    → Keeps (chained p xs a) (chained q ys b)
 chained_kept p q [] [] h a b k = k
 chained_kept p q (x ∷ xs) (y ∷ ys) h a b k =
     chained_kept p q xs ys h.1 (pair x.0 a (x.1 p)) (pair y.0 b (y.1 q))
@@ -71,7 +73,8 @@ tested_kept : (p q : Places) (xs ys : List (typing.Term × typing.Term)) → Zip
 tested_kept p q [] [] h a b k t = k t
 tested_kept p q (x ∷ xs) (y ∷ ys) h a b k t =
     tested_kept p q xs ys h.1 (a && fits ty.Boolean (x.0 p)) (b && fits ty.Boolean (y.0 q))
-    (λ c. both_true b (fits ty.Boolean (y.0 q)) (k (and_first a (fits ty.Boolean (x.0 p)) c)) (fits_kept ty.Boolean (x.0 p) (y.0 q) h.0.0 (and_second a (fits ty.Boolean (x.0 p)) c))) t
+    (λ c. both_true b (fits ty.Boolean (y.0 q)) (k (and_first a (fits ty.Boolean (x.0 p)) c))
+    (fits_kept ty.Boolean (x.0 p) (y.0 q) h.0.0 (and_second a (fits ty.Boolean (x.0 p)) c))) t
 tested_kept p q _ _ h a b k t = absurd h
 
 chosen_zipped : (p q : Places) (xs ys : List (typing.Term × typing.Term)) → Zipped (ArmKept p q) xs ys
@@ -121,7 +124,8 @@ module _ (ref : ℕ → Col) (wanted : ℕ → Bool) where
       → KeepsSome (x columns p frame) (source_of typing.typing (z (suc d)) columns q frame)
 
   abbrev Froms : typing.Part → Reads → Deep FromItem → Type 0
-  Froms x u z = (d : ℕ) (p q : Places) → Placement d p q → list_all ok (u (suc d)) ≡ true → (frame : Frame) → KeepsSome (x p frame) (from_of typing.typing (z (suc d)) q frame)
+  Froms x u z = (d : ℕ) (p q : Places) → Placement d p q → list_all ok (u (suc d)) ≡ true → (frame : Frame)
+      → KeepsSome (x p frame) (from_of typing.typing (z (suc d)) q frame)
 
   abbrev Items : typing.Term → Reads → Deep Item → Type 0
   Items x u z = (d : ℕ) (p q : Places) → Placement d p q → list_all ok (u d) ≡ true → Keeps (x p) (item_of typing.typing (z d) q)
@@ -173,13 +177,16 @@ module _ (ref : ℕ → Col) (wanted : ℕ → Bool) where
         (zipped_option ok Exprs (λ x z. Keeps (x p) (E (z d) q)) d (λ x u z r t. r d p q h t) x u z r t)
 
     links : (xs : List (ChainOp × typing.Term)) (us : List (ChainOp × Reads)) (zs : List (ChainOp × Deep Expr)) → Alike (AlikeLink Exprs) xs us zs
-        → list_all ok (flat_map (λ (l : ChainOp × Reads). l.1 d) us) ≡ true → Zipped (LinkKept p q) xs (map (λ l. eq.link_of typing.typing l) (map (λ l. link_at d l) zs))
+        → list_all ok (flat_map (λ (l : ChainOp × Reads). l.1 d) us) ≡ true → Zipped (LinkKept p q) xs
+        (map (λ l. eq.link_of typing.typing l) (map (λ l. link_at d l) zs))
     links xs us zs r t =
         under (LinkKept p q) (λ l. link_at d l) (λ l. eq.link_of typing.typing l) xs zs
-        (zipped ok (AlikeLink Exprs) (λ x z. LinkKept p q x (eq.link_of typing.typing (link_at d z))) (λ (l : ChainOp × Reads). l.1 d) (λ x u z r t. (r.1, r.2 d p q h t)) xs us zs r t)
+        (zipped ok (AlikeLink Exprs) (λ x z. LinkKept p q x (eq.link_of typing.typing (link_at d z))) (λ (l : ChainOp × Reads). l.1 d)
+        (λ x u z r t. (r.1, r.2 d p q h t)) xs us zs r t)
 
     arms : (xs : List (typing.Term × typing.Term)) (us : List (Reads × Reads)) (zs : List (Deep Expr × Deep Expr)) → Alike (AlikeArm Exprs) xs us zs
-        → list_all ok (flat_map (λ (a : Reads × Reads). a.0 d ++ a.1 d) us) ≡ true → Zipped (ArmKept p q) xs (map (λ a. eq.arm_of typing.typing a) (map (λ a. arm_at d a) zs))
+        → list_all ok (flat_map (λ (a : Reads × Reads). a.0 d ++ a.1 d) us) ≡ true → Zipped (ArmKept p q) xs
+        (map (λ a. eq.arm_of typing.typing a) (map (λ a. arm_at d a) zs))
     arms xs us zs r t =
         under (ArmKept p q) (λ a. arm_at d a) (λ a. eq.arm_of typing.typing a) xs zs
         (zipped ok (AlikeArm Exprs) (λ x z. ArmKept p q x (eq.arm_of typing.typing (arm_at d z))) (λ (a : Reads × Reads). a.0 d ++ a.1 d)
@@ -211,13 +218,16 @@ module _ (ref : ℕ → Col) (wanted : ℕ → Bool) where
 
   -- ---- nodes
 
-  chain : (x : typing.Term) (u : Reads) (z : Deep Expr) (xs : List (ChainOp × typing.Term)) (us : List (ChainOp × Reads)) (zs : List (ChainOp × Deep Expr)) → Exprs x u z
-      → Alike (AlikeLink Exprs) xs us zs → Exprs (λ p. chained p xs (x p)) (λ d. u d ++ flat_map (λ (l : ChainOp × Reads). l.1 d) us) (λ d. expr.Chain (z d) (map (λ l. (l.0, l.1 d)) zs))
+  chain : (x : typing.Term) (u : Reads) (z : Deep Expr) (xs : List (ChainOp × typing.Term)) (us : List (ChainOp × Reads)) (zs : List (ChainOp × Deep Expr))
+      → Exprs x u z
+      → Alike (AlikeLink Exprs) xs us zs → Exprs (λ p. chained p xs (x p)) (λ d. u d ++ flat_map (λ (l : ChainOp × Reads). l.1 d) us)
+      (λ d. expr.Chain (z d) (map (λ l. (l.0, l.1 d)) zs))
   chain x u z xs us zs k r d p q h t =
       node (chained p xs (x p)) q _ _ (eq.of_chain typing.typing (z d) (map (λ l. link_at d l) zs))
       (chained_kept p q xs _ (links d p q h xs us zs r (right ok (u d) _ t)) (x p) (E (z d) q) (k d p q h (left ok (u d) _ t)))
 
-  one_of : (v : Bool) (x : typing.Term) (u : Reads) (z : Deep Expr) (xs : List typing.Term) (us : List Reads) (zs : List (Deep Expr)) → Exprs x u z → Alike Exprs xs us zs
+  one_of : (v : Bool) (x : typing.Term) (u : Reads) (z : Deep Expr) (xs : List typing.Term) (us : List Reads) (zs : List (Deep Expr)) → Exprs x u z
+      → Alike Exprs xs us zs
       → Exprs (kind (ex.OneOf v x xs)) (λ d. u d ++ of_list d us) (λ d. expr.OneOf v (z d) (map (λ z. z d) zs))
   one_of v x u z xs us zs k r d p q h t =
       node (kind (ex.OneOf v x xs) p) q _ _ (eq.of_oneof typing.typing v (z d) (map (λ z. z d) zs))
@@ -233,9 +243,11 @@ module _ (ref : ℕ → Col) (wanted : ℕ → Bool) where
       (meet_kept (x₁ p) (x₂ p) (E (z₁ d) q) (E (z₂ d) q) (k₁ d p q h (left ok (u₁ d) (u₂ d ++ u₃ d) t)) (k₂ d p q h (left ok (u₂ d) (u₃ d) rest)))
       (k₃ d p q h (right ok (u₂ d) (u₃ d) rest))))
 
-  cases : (xs : List (typing.Term × typing.Term)) (us : List (Reads × Reads)) (zs : List (Deep Expr × Deep Expr)) (x : Option typing.Term) (u : Option Reads) (z : Option (Deep Expr))
+  cases : (xs : List (typing.Term × typing.Term)) (us : List (Reads × Reads)) (zs : List (Deep Expr × Deep Expr)) (x : Option typing.Term) (u : Option Reads)
+      (z : Option (Deep Expr))
       → Alike (AlikeArm Exprs) xs us zs → AlikeOption Exprs x u z
-      → Exprs (kind (ex.Cases xs x)) (λ d. flat_map (λ (a : Reads × Reads). a.0 d ++ a.1 d) us ++ of_option d u) (λ d. expr.Cases (map (λ a. (a.0 d, a.1 d)) zs) (option_map (λ e. e d) z))
+      → Exprs (kind (ex.Cases xs x)) (λ d. flat_map (λ (a : Reads × Reads). a.0 d ++ a.1 d) us ++ of_option d u)
+      (λ d. expr.Cases (map (λ a. (a.0 d, a.1 d)) zs) (option_map (λ e. e d) z))
   cases xs us zs x u z r k d p q h t =
       let all = arms d p q h xs us zs r (left ok (flat_map (λ (a : Reads × Reads). a.0 d ++ a.1 d) us) (of_option d u) t) in
       node (kind (ex.Cases xs x) p) q _ _ (eq.of_cases typing.typing (map (λ a. arm_at d a) zs) (option_map (λ z. z d) z))
@@ -256,8 +268,10 @@ module _ (ref : ℕ → Col) (wanted : ℕ → Bool) where
       (some_under (listed columns) (listed_none columns) (x (inner p)) (query_of typing.typing (z (suc d)) (inner q))
       (k (suc d) (inner p) (inner q) (placed_inside d p q h (before lateral frame)) t))
 
-  select : (l₁ : List typing.Term) (l₂ : List Reads) (l₃ : List (Deep Item)) (f₁ : List typing.Part) (f₂ : List Reads) (f₃ : List (Deep FromItem)) (w₁ : Option typing.Term)
-      (w₂ : Option Reads) (w₃ : Option (Deep Expr)) (o₁ : List typing.Term) (o₂ : List Reads) (o₃ : List (Deep Key)) (m₁ : Option typing.Term) (m₂ : Option Reads) (m₃ : Option (Deep Expr))
+  select : (l₁ : List typing.Term) (l₂ : List Reads) (l₃ : List (Deep Item)) (f₁ : List typing.Part) (f₂ : List Reads) (f₃ : List (Deep FromItem))
+      (w₁ : Option typing.Term)
+      (w₂ : Option Reads) (w₃ : Option (Deep Expr)) (o₁ : List typing.Term) (o₂ : List Reads) (o₃ : List (Deep Key)) (m₁ : Option typing.Term)
+      (m₂ : Option Reads) (m₃ : Option (Deep Expr))
       → Alike Items l₁ l₂ l₃ → Alike Froms f₁ f₂ f₃ → AlikeOption Exprs w₁ w₂ w₃ → Alike Keys o₁ o₂ o₃ → AlikeOption Exprs m₁ m₂ m₃
       → Selects (listing (record { list = l₁; from = f₁; filter = w₁; order = o₁; limit = m₁ }))
       (λ d. of_list (suc d) l₂ ++ (of_list (suc d) f₂ ++ (of_option (suc d) w₂ ++ (of_list (suc d) o₂ ++ of_option (suc d) m₂))))
@@ -284,7 +298,8 @@ module _ (ref : ℕ → Col) (wanted : ℕ → Bool) where
 
       by : (a b : Option Frame) → KeepsSome a b
           → KeepsSome
-          (option_and_then (λ frame. select_kinds (kinds (inside frame p) l₁) (option_map (λ t. t (inside frame p)) w₁) (kinds (inside frame p) o₁) (option_map (λ t. t (inside frame p)) m₁)) a)
+          (option_and_then (λ frame. select_kinds (kinds (inside frame p) l₁) (option_map (λ t. t (inside frame p)) w₁) (kinds (inside frame p) o₁)
+          (option_map (λ t. t (inside frame p)) m₁)) a)
           (option_and_then (λ frame. select_kinds (kinds (inside frame q) (map (λ i. item_of typing.typing i) (map (λ z. z e) l₃)))
           (option_map (λ t. t (inside frame q)) (option_map (λ x. E x) (option_map (λ z. z e) w₃)))
           (kinds (inside frame q) (map (λ k. key_of typing.typing k) (map (λ z. z e) o₃)))
@@ -299,8 +314,10 @@ module _ (ref : ℕ → Col) (wanted : ℕ → Bool) where
           let order = map (λ k. key_of typing.typing k) (map (λ (z : Deep Key). z e) o₃) in
           let limit = option_map (λ x. E x) (option_map (λ (z : Deep Expr). z e) m₃) in
           subst (λ o. KeepsSome (select_kinds (kinds P l₁) (option_map (λ t. t P) w₁) (kinds P o₁) (option_map (λ t. t P) m₁))
-          (option_and_then (λ frame. select_kinds (kinds (inside frame q) list) (option_map (λ t. t (inside frame q)) filter) (kinds (inside frame q) order) (option_map (λ t. t (inside frame q)) limit)) o)) (sym g)
-          (select_kinds_kept (kinds P l₁) (kinds Q list) (option_map (λ t. t P) w₁) (option_map (λ t. t Q) filter) (kinds P o₁) (kinds Q order) (option_map (λ t. t P) m₁) (option_map (λ t. t Q) limit)
+          (option_and_then (λ frame. select_kinds (kinds (inside frame q) list) (option_map (λ t. t (inside frame q)) filter) (kinds (inside frame q) order)
+          (option_map (λ t. t (inside frame q)) limit)) o)) (sym g)
+          (select_kinds_kept (kinds P l₁) (kinds Q list) (option_map (λ t. t P) w₁) (option_map (λ t. t Q) filter) (kinds P o₁) (kinds Q order)
+          (option_map (λ t. t P) m₁) (option_map (λ t. t Q) limit)
           (kinds_zipped P Q l₁ list (items e P Q here l₁ l₂ l₃ lr (left ok (of_list e l₂) _ t)))
           (option_zipped P Q w₁ filter (option e P Q here w₁ w₂ w₃ wr (left ok (of_option e w₂) _ t₂)))
           (kinds_zipped P Q o₁ order (keys e P Q here o₁ o₂ o₃ kr (left ok (of_list e o₂) _ t₃)))
@@ -343,13 +360,15 @@ module _ (ref : ℕ → Col) (wanted : ℕ → Bool) where
     chain = chain;
     compare = λ op x₁ x₂ u₁ u₂ z₁ z₂ k₁ k₂ d p q h t.
         node _ q _ _ (eq.of_compare typing.typing op (z₁ d) (z₂ d))
-        (right_kept (Of ty.Boolean) _ _ (meet_kept (x₁ p) (x₂ p) (E (z₁ d) q) (E (z₂ d) q) (k₁ d p q h (left ok (u₁ d) (u₂ d) t)) (k₂ d p q h (right ok (u₁ d) (u₂ d) t))));
+        (right_kept (Of ty.Boolean) _ _ (meet_kept (x₁ p) (x₂ p) (E (z₁ d) q) (E (z₂ d) q) (k₁ d p q h (left ok (u₁ d) (u₂ d) t))
+        (k₂ d p q h (right ok (u₁ d) (u₂ d) t))));
     between = between;
     one_of = one_of;
     cast = λ x u z ty k d p q h t. node _ q _ _ (eq.of_cast typing.typing (z d) ty) (cast_kept ty (x p) (E (z d) q) (k d p q h t));
     cases = cases;
     call = λ name xs us zs r d p q h t.
-        node _ q _ _ (eq.of_call typing.typing name (map (λ z. z d) zs)) (called_kept (function name) (kinds p xs) _ (kinds_zipped p q xs _ (exprs d p q h xs us zs r t)));
+        node _ q _ _ (eq.of_call typing.typing name (map (λ z. z d) zs)) (called_kept (function name) (kinds p xs) _
+        (kinds_zipped p q xs _ (exprs d p q h xs us zs r t)));
     count_rows = λ d p q h t. refl;
     scalar = λ x u z k d p q h t. node _ q _ _ (eq.of_scalar typing.typing (z d)) (scalar_kept (x p) (query_of typing.typing (z d) q) (k d p q h t));
     exists = λ x u z k d p q h t. node _ q _ _ (eq.of_exists typing.typing (z d)) (exists_kept (x p) (query_of typing.typing (z d) q) (k d p q h t));
@@ -361,7 +380,8 @@ module _ (ref : ℕ → Col) (wanted : ℕ → Bool) where
     select = select;
     recursive = λ name columns xs us zs x u z r k. tt;
     query = λ x u z xs us zs k r d p q h t.
-        subst (λ (w : typing.Whole). KeepsSome (typing.shape_of (typing.union xs p)) (w q)) (sym (eq.query_roll typing.typing (option_map (λ z. z d) z) (map (λ z. z d) zs)))
+        subst (λ (w : typing.Whole). KeepsSome (typing.shape_of (typing.union xs p)) (w q))
+        (sym (eq.query_roll typing.typing (option_map (λ z. z d) z) (map (λ z. z d) zs)))
         (union_kept p q xs _ (selects d p q h xs us zs r t));
   }
 

@@ -49,7 +49,8 @@ abbrev Exprs : n.Term → Type 0
 Exprs t = (s : Scope) → s.in_function ≡ true → Clean (t.judge s).note → IsQuiet (t.judge s).it
 
 abbrev Origins : n.Rows → Type 0
-Origins r = (columns : List Name) (s : Scope) (level : Level) → s.in_function ≡ true → Clean (r columns s level).note → Quiet (source_of finding (r columns s level).it.source)
+Origins r = (columns : List Name) (s : Scope) (level : Level) → s.in_function ≡ true → Clean (r columns s level).note
+    → Quiet (source_of finding (r columns s level).it.source)
 
 abbrev Froms : n.Piece → Type 0
 Froms f = (s : Scope) (level : Level) → s.in_function ≡ true → Clean (f.judge s level).note → Quiet (from_of finding (f.judge s level).it.item)
@@ -118,7 +119,8 @@ arms_quiet [] h p = refl
 arms_quiet (a ∷ as_) h p = arms_quiet as_ h.1 (expr_of finding a.1 (expr_of finding a.0 p)) ∙ (h.0.1 (expr_of finding a.0 p) ∙ h.0.0 p)
 
 module _ (s : Scope) (w : s.in_function ≡ true) where
-  each_of : {A B : Type 0} (P : A → Type 0) (Q : B → Type 0) (f : A → Named B) → ((x : A) → P x → Clean (f x).note → Q (f x).it) → (xs : List A) → Every P xs → Clean (each f xs).note → Every Q (each f xs).it
+  each_of : {A B : Type 0} (P : A → Type 0) (Q : B → Type 0) (f : A → Named B) → ((x : A) → P x → Clean (f x).note → Q (f x).it) → (xs : List A) → Every P xs
+      → Clean (each f xs).note → Every Q (each f xs).it
   each_of {A} P Q f go xs h c = every_each Q f xs (all xs h) (pure []) (λ c. tt) c
     where
       all : (xs : List A) → Every P xs → Every (λ x. Clean (f x).note → Q (f x).it) xs
@@ -128,10 +130,12 @@ module _ (s : Scope) (w : s.in_function ≡ true) where
   all_quiet : (ts : List n.Term) → Every Exprs ts → Clean (each (λ t. t.judge s) ts).note → AreQuiet (each (λ t. t.judge s) ts).it
   all_quiet ts h c = each_of Exprs IsQuiet (λ t. t.judge s) (λ t g c. g s w c) ts h c
 
-  all_links : (ls : List (ChainOp × n.Term)) → Every (λ (l : ChainOp × n.Term). Exprs l.1) ls → Clean (each (n.linked s) ls).note → QuietLinks (each (n.linked s) ls).it
+  all_links : (ls : List (ChainOp × n.Term)) → Every (λ (l : ChainOp × n.Term). Exprs l.1) ls → Clean (each (n.linked s) ls).note
+      → QuietLinks (each (n.linked s) ls).it
   all_links ls h c = each_of (λ (l : ChainOp × n.Term). Exprs l.1) (λ (l : ChainOp × Expr). IsQuiet l.1) (n.linked s) (λ l g c. g s w c) ls h c
 
-  all_arms : (as_ : List (n.Term × n.Term)) → Every (λ (a : n.Term × n.Term). Exprs a.0 × Exprs a.1) as_ → Clean (each (n.armed s) as_).note → QuietArms (each (n.armed s) as_).it
+  all_arms : (as_ : List (n.Term × n.Term)) → Every (λ (a : n.Term × n.Term). Exprs a.0 × Exprs a.1) as_ → Clean (each (n.armed s) as_).note
+      → QuietArms (each (n.armed s) as_).it
   all_arms as_ h c =
       each_of (λ (a : n.Term × n.Term). Exprs a.0 × Exprs a.1) (λ (a : Expr × Expr). IsQuiet a.0 × IsQuiet a.1) (n.armed s)
       (λ a g c. let both = clean_parts (a.0.judge s).note (a.1.judge s).note c in (g.0 s w both.0, g.1 s w both.1)) as_ h c
@@ -154,17 +158,20 @@ module _ (s : Scope) (w : s.in_function ≡ true) where
   abbrev FromQuiet : FromItem → Type 0
   FromQuiet f = Quiet (from_of finding f)
 
-  framed_quiet : (fs : List n.Piece) → Every Froms fs → (acc : Named Framed) → (Clean acc.note → Every FromQuiet acc.it.items) → Clean (fold (λ a f. n.with_part a (f.judge s a.it.seen)) acc fs).note
+  framed_quiet : (fs : List n.Piece) → Every Froms fs → (acc : Named Framed) → (Clean acc.note → Every FromQuiet acc.it.items)
+      → Clean (fold (λ a f. n.with_part a (f.judge s a.it.seen)) acc fs).note
       → Every FromQuiet (fold (λ a f. n.with_part a (f.judge s a.it.seen)) acc fs).it.items
   framed_quiet [] h acc g c = g c
   framed_quiet (f ∷ fs) h acc g c =
       framed_quiet fs h.1 (n.with_part acc (f.judge s acc.it.seen))
-      (λ c. let both = clean_parts acc.note (f.judge s acc.it.seen).note c in every_append FromQuiet acc.it.items ((f.judge s acc.it.seen).it.item ∷ []) (g both.0) (h.0 s acc.it.seen w both.1, tt)) c
+      (λ c. let both = clean_parts acc.note (f.judge s acc.it.seen).note c in every_append FromQuiet acc.it.items ((f.judge s acc.it.seen).it.item ∷ [])
+      (g both.0) (h.0 s acc.it.seen w both.1, tt)) c
 
   abbrev ItemQuiet : Item → Type 0
   ItemQuiet i = Quiet (item_of finding i)
 
-  items_quiet : (is : List n.Entry) → Every Items is → (acc : Named (Shown (List Item))) → (Clean acc.note → Every ItemQuiet acc.it.it) → Clean (fold (λ a i. n.with_item a (i.judge s)) acc is).note
+  items_quiet : (is : List n.Entry) → Every Items is → (acc : Named (Shown (List Item))) → (Clean acc.note → Every ItemQuiet acc.it.it)
+      → Clean (fold (λ a i. n.with_item a (i.judge s)) acc is).note
       → Every ItemQuiet (fold (λ a i. n.with_item a (i.judge s)) acc is).it.it
   items_quiet [] h acc g c = g c
   items_quiet (i ∷ is) h acc g c =
@@ -174,13 +181,15 @@ module _ (s : Scope) (w : s.in_function ≡ true) where
   abbrev KeyQuiet : Key → Type 0
   KeyQuiet k = Quiet (key_of finding k)
 
-  keys_quiet : (aliases : List (Option Name)) (ks : List n.Sort) → Every Keys ks → Clean (each (λ k. k aliases s) ks).note → Every KeyQuiet (each (λ k. k aliases s) ks).it
+  keys_quiet : (aliases : List (Option Name)) (ks : List n.Sort) → Every Keys ks → Clean (each (λ k. k aliases s) ks).note
+      → Every KeyQuiet (each (λ k. k aliases s) ks).it
   keys_quiet aliases ks h c = each_of Keys KeyQuiet (λ k. k aliases s) (λ k g c. g aliases s w c) ks h c
 
   abbrev SelectQuiet : Select → Type 0
   SelectQuiet x = Quiet (select_of finding x)
 
-  selects_quiet : (ls : List n.Listing) → Every Selects ls → (acc : Named (Shown (List Select))) → (Clean acc.note → Every SelectQuiet acc.it.it) → Clean (fold (λ a l. n.with_select a (l s)) acc ls).note
+  selects_quiet : (ls : List n.Listing) → Every Selects ls → (acc : Named (Shown (List Select))) → (Clean acc.note → Every SelectQuiet acc.it.it)
+      → Clean (fold (λ a l. n.with_select a (l s)) acc ls).note
       → Every SelectQuiet (fold (λ a l. n.with_select a (l s)) acc ls).it.it
   selects_quiet [] h acc g c = g c
   selects_quiet (l ∷ ls) h acc g c =
@@ -201,13 +210,15 @@ one_of_quiet v e es h k = quiet_is _ _ (eq.of_oneof finding v e es) (λ p. quiet
 call_quiet : (name : Name) (es : List Expr) → AreQuiet es → IsQuiet (expr.Call name es)
 call_quiet name es k = quiet_is _ _ (eq.of_call finding name es) (λ p. quiet_each (λ x. expr_of finding x) es k p)
 
-select_quiet : (list : List Item) (from : List FromItem) (filter : Option Expr) (order : List Key) (limit : Option Expr) → Every (λ i. Quiet (item_of finding i)) list
+select_quiet : (list : List Item) (from : List FromItem) (filter : Option Expr) (order : List Key) (limit : Option Expr)
+    → Every (λ i. Quiet (item_of finding i)) list
     → Every (λ f. Quiet (from_of finding f)) from → MaybeQuiet filter → Every (λ k. Quiet (key_of finding k)) order → MaybeQuiet limit
     → Quiet (select_of finding (n.select_of from (pure (record { it = list; names = [] })) (pure filter) (pure order) (pure limit)).it.it)
 select_quiet list from filter order limit a b c k m =
     quiet_is _ _ (eq.of_select finding list from filter order limit)
     (λ p. maybe_quiet limit m _
-    ∙ (quiet_each (λ x. key_of finding x) order k _ ∙ (maybe_quiet filter c _ ∙ (quiet_each (λ x. from_of finding x) from b _ ∙ quiet_each (λ x. item_of finding x) list a p))))
+    ∙ (quiet_each (λ x. key_of finding x) order k _
+    ∙ (maybe_quiet filter c _ ∙ (quiet_each (λ x. from_of finding x) from b _ ∙ quiet_each (λ x. item_of finding x) list a p))))
 
 slot_or_quiet : (x : Name) (o : Option Variable) → IsQuiet (n.slot_or x o).it
 unfolding n.slot_or
@@ -244,12 +255,14 @@ whole_quiet : (q : List n.Listing) → Every Selects q → (with_ : Bool) (s : S
     → Quiet (query_of finding (n.query_with (n.united q s).it).it)
 whole_quiet q h with_ s w c =
     quiet_is _ _ (eq.of_query finding (n.united q s).it.it)
-    (quiet_each (λ x. select_of finding x) (n.united q s).it.it (selects_quiet s w q h n.no_select (λ c. tt) (clean_parts (breaks 13 with_) (n.united q s).note c).1))
+    (quiet_each (λ x. select_of finding x) (n.united q s).it.it (selects_quiet s w q h n.no_select (λ c. tt)
+    (clean_parts (breaks 13 with_) (n.united q s).note c).1))
 
 abbrev MaybeAnywhere : Option n.Term → Type 0
 MaybeAnywhere o = (s : Scope) (w : s.in_function ≡ true) → MaybeExprs s w o
 
-listing_quiet : (l : List n.Entry) (f : List n.Piece) (t : Option n.Term) (o : List n.Sort) (m : Option n.Term) → Every Items l → Every Froms f → MaybeAnywhere t → Every Keys o → MaybeAnywhere m
+listing_quiet : (l : List n.Entry) (f : List n.Piece) (t : Option n.Term) (o : List n.Sort) (m : Option n.Term) → Every Items l → Every Froms f
+    → MaybeAnywhere t → Every Keys o → MaybeAnywhere m
     → Selects (n.listing (record { list = l; from = f; filter = t; order = o; limit = m }))
 listing_quiet l f t o m lh fh th oh mh s w c =
     let from = n.framed s f in
@@ -259,7 +272,8 @@ listing_quiet l f t o m lh fh th oh mh s w c =
     let over_note = clean_parts _ _ two_notes.1 in
     let first = clean_parts _ _ over_note.0 in
     let second = clean_parts _ _ over_note.1 in
-    select_quiet _ _ _ _ _ (items_quiet inner w l lh n.no_item (λ c. tt) first.0) (framed_quiet s w f fh n.no_part (λ c. tt) from_note.1) (held_quiet inner w t (th inner w) first.1)
+    select_quiet _ _ _ _ _ (items_quiet inner w l lh n.no_item (λ c. tt) first.0) (framed_quiet s w f fh n.no_part (λ c. tt) from_note.1)
+    (held_quiet inner w t (th inner w) first.1)
     (keys_quiet inner w _ o oh second.0) (held_quiet inner w m (mh inner w) second.1)
 
 -- ---- all steps
@@ -294,7 +308,8 @@ steps = record {
       quiet_is _ _ (eq.of_between finding v (x₁.judge s).it (x₂.judge s).it (x₃.judge s).it) (λ p. k₃ s w more.1 _ ∙ (k₂ s w more.0 _ ∙ k₁ s w both.0 p));
   one_of = λ v x y z xs ys zs k r s w c.
       let both = clean_parts (x.judge s).note (each (λ t. t.judge s) xs).note c in
-      one_of_quiet v (x.judge s).it (each (λ t. t.judge s) xs).it (k s w both.0) (all_quiet s w xs (firsts (λ x y z. Exprs x) Exprs (λ x y z r. r) xs ys zs r) both.1);
+      one_of_quiet v (x.judge s).it (each (λ t. t.judge s) xs).it (k s w both.0) (all_quiet s w xs (firsts (λ x y z. Exprs x) Exprs (λ x y z r. r) xs ys zs r)
+      both.1);
   cast = λ x y z t k s w c. quiet_is _ _ (eq.of_cast finding (x.judge s).it t) (k s w c);
   cases = λ xs ys zs x y z r k s w c.
       let both = clean_parts (each (n.armed s) xs).note (held (λ t. t.judge s) x).note c in
@@ -308,7 +323,8 @@ steps = record {
   scalar = λ x y z k s w c. quiet_is _ _ (eq.of_scalar finding (x s).it.it) (k s w c);
   exists = λ x y z k s w c. quiet_is _ _ (eq.of_exists finding (x s).it.it) (k s w c);
   table = λ name columns s level w c. table_quiet s w name (s.table name);
-  sub = λ x y z lateral k columns s level w c. quiet_is _ _ (eq.of_sub finding (x (inside (n.before lateral level) s)).it.it lateral) (k (inside (n.before lateral level) s) w c);
+  sub = λ x y z lateral k columns s level w c. quiet_is _ _ (eq.of_sub finding (x (inside (n.before lateral level) s)).it.it lateral)
+      (k (inside (n.before lateral level) s) w c);
   from = λ x y z alias columns k s level w c.
       let both = clean_parts (n.part_note s alias columns) (x columns s level).note c in
       k columns s level w both.1;
@@ -341,7 +357,34 @@ sources_quiet schema (e ∷ es) h = (resolved_quiet schema e h.0, sources_quiet 
 
 fixed_quiet : Every IsQuiet fixed_list
 unfolding b.hidden-the_row-Expr-0 b.hidden-the_row-Expr-Chain-1-2-1 denote.Hole.Carrier.hidden
-fixed_quiet = ((λ p. refl), ((λ p. refl), ((λ p. refl), ((λ p. refl), ((λ p. refl), ((λ p. refl), ((λ p. refl), ((λ p. refl), ((λ p. refl), ((λ p. refl), ((λ p. refl), ((λ p. refl), ((λ p. refl), ((λ p. refl), ((λ p. refl), ((λ p. refl), ((λ p. refl), tt)))))))))))))))))
+fixed_quiet = (
+  (λ p. refl),
+  (
+    (λ p. refl),
+    (
+      (λ p. refl),
+      (
+        (λ p. refl),
+        (
+          (λ p. refl),
+          (
+            (λ p. refl),
+            (
+              (λ p. refl),
+              (
+                (λ p. refl),
+                (
+                  (λ p. refl),
+                  ((λ p. refl), ((λ p. refl), ((λ p. refl), ((λ p. refl), ((λ p. refl), ((λ p. refl), ((λ p. refl), ((λ p. refl), tt)))))))),
+                ),
+              ),
+            ),
+          ),
+        ),
+      ),
+    ),
+  ),
+)
 
 each_of_every : (es : List Expr) → Every IsQuiet es → Each IsQuiet es
 each_of_every [] h i x e = cc

@@ -75,7 +75,8 @@ settled_not (Of t) n = n
 settled_not Sum n = n
 settled_not Wrong n = n
 
-one_not : (f : List Kind → Kind) → (IsNull (f []) → ⊥) → ((j : Kind) → IsNull (f (j ∷ [])) → ⊥) → ((j k : Kind) (ks : List Kind) → IsNull (f (j ∷ k ∷ ks)) → ⊥) → (ks : List Kind) → IsNull (f ks) → ⊥
+one_not : (f : List Kind → Kind) → (IsNull (f []) → ⊥) → ((j : Kind) → IsNull (f (j ∷ [])) → ⊥)
+    → ((j k : Kind) (ks : List Kind) → IsNull (f (j ∷ k ∷ ks)) → ⊥) → (ks : List Kind) → IsNull (f ks) → ⊥
 one_not f none one more [] n = none n
 one_not f none one more (j ∷ []) n = one j n
 one_not f none one more (j ∷ k ∷ ks) n = more j k ks n
@@ -165,5 +166,6 @@ fitting t Sum h f = cc
 fitting t Wrong h f = cc
 
 -- what fits a type and isn't the literal NULL is of the type
-pub kind_exact : (e : Expr) (p : Places) (t : Ty) → IsLinked e → is_null e ≡ false → fits t (expr_of typing.typing e p) ≡ true → expr_of typing.typing e p ≡ Of t
+pub kind_exact : (e : Expr) (p : Places) (t : Ty) → IsLinked e → is_null e ≡ false → fits t (expr_of typing.typing e p) ≡ true
+    → expr_of typing.typing e p ≡ Of t
 kind_exact e p t l n f = fitting t (expr_of typing.typing e p) (not_null e p l n) f

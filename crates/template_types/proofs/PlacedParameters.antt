@@ -111,7 +111,8 @@ module _ (ref : ℕ → Col) where
     item = λ x u z alias k. k;
     key = λ x u z descending k. k;
     select = λ l₁ l₂ l₃ f₁ f₂ f₃ w₁ w₂ w₃ o₁ o₂ o₃ m₁ m₂ m₃ lr fr wr kr mr d.
-        eq.of_select finding (map (λ z. z (suc d)) l₃) (map (λ z. z (suc d)) f₃) (option_map (λ z. z (suc d)) w₃) (map (λ z. z (suc d)) o₃) (option_map (λ z. z (suc d)) m₃)
+        eq.of_select finding (map (λ z. z (suc d)) l₃) (map (λ z. z (suc d)) f₃) (option_map (λ z. z (suc d)) w₃) (map (λ z. z (suc d)) o₃)
+        (option_map (λ z. z (suc d)) m₃)
         ∙ (λ i. in_select (record {
           list = lists (λ x u (z : Deep Item). (d : ℕ) → item_of finding (z d) ≡ x) (suc d) (λ y. item_of finding y) (λ x u z r. r (suc d)) l₁ l₂ l₃ lr i;
           from = lists (λ x u (z : Deep FromItem). (d : ℕ) → from_of finding (z d) ≡ x) (suc d) (λ y. from_of finding y) (λ x u z r. r (suc d)) f₁ f₂ f₃ fr i;
@@ -120,7 +121,8 @@ module _ (ref : ℕ → Col) where
           limit = option (suc d) m₁ m₂ m₃ mr i;
         }));
     recursive = λ name columns xs us zs x u z r k d.
-        eq.of_recursive finding name columns (map (λ z. z d) zs) (z d) ∙ (λ i. in_recursive (record { name = name; columns = columns; first = selects d xs us zs r i; second = k d i }));
+        eq.of_recursive finding name columns (map (λ z. z d) zs) (z d)
+        ∙ (λ i. in_recursive (record { name = name; columns = columns; first = selects d xs us zs r i; second = k d i }));
     query = λ x u z xs us zs k r d.
         eq.query_roll finding (option_map (λ z. z d) z) (map (λ z. z d) zs)
         ∙ (λ i. in_query (record {

@@ -86,7 +86,8 @@ sub_same d v x y h = record { uses = ap apart h.uses; names = λ l le. h.names (
 -- a select by its parts
 listing_same : (d : ℕ) (l k f g : List Term) (w v : Option Term) (o n : List Term) (m j : Option Term)
     → Zipped (SameTo d) l k → Zipped (SameTo d) f g → ZippedOption (SameTo d) w v → Zipped (SameTo d) o n → ZippedOption (SameTo d) m j
-    → SameTo d (uses.listing (record { list = l; from = f; filter = w; order = o; limit = m })) (uses.listing (record { list = k; from = g; filter = v; order = n; limit = j }))
+    → SameTo d (uses.listing (record { list = l; from = f; filter = w; order = o; limit = m }))
+    (uses.listing (record { list = k; from = g; filter = v; order = n; limit = j }))
 listing_same d l k f g w v o n m j lr fr wr or mr =
     let a = all_same d l k lr in
     let b = all_same d f g fr in
@@ -106,7 +107,8 @@ whole_same d r s xs ys h k =
     record { uses = λ i. apart (either (a.uses i) (b.uses i)); names = λ l le i. or_ (a.names l le i) (b.names l le i) }
 
 terms_same : (d : ℕ) (name : List ℕ) (columns : List (List ℕ)) (xs ys : List Term) (x y : Term) → Zipped (SameTo d) xs ys → SameTo d x y
-    → SameTo d (uses.terms (record { name = name; columns = columns; first = xs; second = x })) (uses.terms (record { name = name; columns = columns; first = ys; second = y }))
+    → SameTo d (uses.terms (record { name = name; columns = columns; first = xs; second = x }))
+    (uses.terms (record { name = name; columns = columns; first = ys; second = y }))
 terms_same d name columns xs ys x y h k =
     let a = all_same d xs ys h in
     record { uses = λ i. apart (either (a.uses i) (k.uses i)); names = λ l le i. or_ (a.names l le i) (k.names l le i) }
@@ -134,7 +136,8 @@ outer_uses : (k : ℕ) → of_column (suc k) ≡ of_slot
 unfolding of_column of_slot unused
 outer_uses k = λ i. record unused { own = not_here k i; foreign = further_out k i; free = not_here k i }
 
-slot_same : (d k level : ℕ) (item column : ℕ) → level ≡ suc k → d ≤ k → SameTo d (bare of_slot) (term (ex.Column (record { level = level; item = item; column = column })))
+slot_same : (d k level : ℕ) (item column : ℕ) → level ≡ suc k → d ≤ k → SameTo d (bare of_slot)
+    (term (ex.Column (record { level = level; item = item; column = column })))
 slot_same d k level item column e le =
     subst (λ (n : ℕ). SameTo d (bare of_slot) (term (ex.Column (record { level = n; item = item; column = column })))) (sym e)
     (record { uses = outer_uses k; names = λ l h. not_level k l (omega (arith, h, le)) })
@@ -190,13 +193,15 @@ module _ (ref : ℕ → Col) (outer : (i : ℕ) → 1 ≤ (ref i).level) where
   node : (d : ℕ) (x f g : Term) → f ≡ g → SameTo d x g → SameTo d x f
   node d x f g e h = subst (SameTo d x) (sym e) h
 
-  zip_of : {X U Z Y : Type 0} (R : X → U → Z → Type 0) (S : X → Y → Type 0) (at : Z → Y) → ((x : X) (u : U) (z : Z) → R x u z → S x (at z)) → (xs : List X) (us : List U) (zs : List Z)
+  zip_of : {X U Z Y : Type 0} (R : X → U → Z → Type 0) (S : X → Y → Type 0) (at : Z → Y) → ((x : X) (u : U) (z : Z) → R x u z → S x (at z))
+      → (xs : List X) (us : List U) (zs : List Z)
       → Alike R xs us zs → Zipped (λ x z. S x (at z)) xs zs
   zip_of R S at go [] [] [] r = tt
   zip_of R S at go (x ∷ xs) (u ∷ us) (z ∷ zs) r = (go x u z r.0, zip_of R S at go xs us zs r.1)
   zip_of R S at go _ _ _ r = absurd r
 
-  opt_of : {X U Z Y : Type 0} (R : X → U → Z → Type 0) (S : X → Y → Type 0) (at : Z → Y) → ((x : X) (u : U) (z : Z) → R x u z → S x (at z)) → (x : Option X) (u : Option U) (z : Option Z)
+  opt_of : {X U Z Y : Type 0} (R : X → U → Z → Type 0) (S : X → Y → Type 0) (at : Z → Y) → ((x : X) (u : U) (z : Z) → R x u z → S x (at z))
+      → (x : Option X) (u : Option U) (z : Option Z)
       → AlikeOption R x u z → ZippedOption (λ x z. S x (at z)) x z
   opt_of R S at go None None None r = tt
   opt_of R S at go (Some x) (Some u) (Some z) r = go x u z r
@@ -221,7 +226,8 @@ module _ (ref : ℕ → Col) (outer : (i : ℕ) → 1 ≤ (ref i).level) where
     exprs : (xs us : List Term) (zs : List (Deep Expr)) → Alike Exprs xs us zs → Zipped (SameTo d) xs (map (λ e. E e) (map (λ z. z d) zs))
     exprs = lists Exprs d (SameTo d) (λ e. E e) (λ x u z r. r d)
 
-    option : (x u : Option Term) (z : Option (Deep Expr)) → AlikeOption Exprs x u z → ZippedOption (SameTo d) x (option_map (λ e. E e) (option_map (λ z. z d) z))
+    option : (x u : Option Term) (z : Option (Deep Expr)) → AlikeOption Exprs x u z → ZippedOption (SameTo d) x
+        (option_map (λ e. E e) (option_map (λ z. z d) z))
     option = options Exprs d (SameTo d) (λ e. E e) (λ x u z r. r d)
 
     links : (xs us : List (ChainOp × Term)) (zs : List (ChainOp × Deep Expr)) → Alike (AlikeLink Exprs) xs us zs
@@ -234,7 +240,8 @@ module _ (ref : ℕ → Col) (outer : (i : ℕ) → 1 ≤ (ref i).level) where
         → Zipped (λ (x y : Term × Term). SameTo d x.0 y.0 × SameTo d x.1 y.1) xs (map (λ a. eq.arm_of using_ a) (map (λ a. arm_at d a) zs))
     arms xs us zs r =
         under (λ (x y : Term × Term). SameTo d x.0 y.0 × SameTo d x.1 y.1) (λ a. arm_at d a) (λ a. eq.arm_of using_ a) xs zs
-        (zip_of (AlikeArm Exprs) (λ (x y : Term × Term). SameTo d x.0 y.0 × SameTo d x.1 y.1) (λ a. eq.arm_of using_ (arm_at d a)) (λ x u z r. (r.0 d, r.1 d)) xs us zs r)
+        (zip_of (AlikeArm Exprs) (λ (x y : Term × Term). SameTo d x.0 y.0 × SameTo d x.1 y.1) (λ a. eq.arm_of using_ (arm_at d a)) (λ x u z r. (r.0 d, r.1 d))
+        xs us zs r)
 
   -- ---- all steps
 
@@ -271,7 +278,8 @@ module _ (ref : ℕ → Col) (outer : (i : ℕ) → 1 ≤ (ref i).level) where
     cast = λ x u z t k d. node d x _ _ (eq.of_cast using_ (z d) t) (k d);
     cases = λ xs us zs x u z r k d.
         node d (term (ex.Cases xs x)) _ _ (eq.of_cases using_ (map (λ a. arm_at d a) zs) (option_map (λ z. z d) z))
-        (with_same d (all (map (λ (a : Term × Term). with_ a.0 a.1) xs)) (maybe x) _ _ (all_same d _ _ (arms_same d xs _ (arms d xs us zs r))) (maybe_same d x _ (option d x u z k)));
+        (with_same d (all (map (λ (a : Term × Term). with_ a.0 a.1) xs)) (maybe x) _ _ (all_same d _ _ (arms_same d xs _ (arms d xs us zs r)))
+        (maybe_same d x _ (option d x u z k)));
     call = λ name xs us zs r d.
         node d (term (ex.Call name xs)) _ _ (eq.of_call using_ name (map (λ z. z d) zs)) (called_same d name xs _ (exprs d xs us zs r));
     count_rows = λ d. itself d (term ex.CountRows);
@@ -283,7 +291,8 @@ module _ (ref : ℕ → Col) (outer : (i : ℕ) → 1 ≤ (ref i).level) where
     item = λ x u z alias k. k;
     key = λ x u z descending k. k;
     select = λ l₁ l₂ l₃ f₁ f₂ f₃ w₁ w₂ w₃ o₁ o₂ o₃ m₁ m₂ m₃ lr fr wr kr mr d.
-        node (suc d) _ _ _ (eq.of_select using_ (map (λ z. z (suc d)) l₃) (map (λ z. z (suc d)) f₃) (option_map (λ z. z (suc d)) w₃) (map (λ z. z (suc d)) o₃) (option_map (λ z. z (suc d)) m₃))
+        node (suc d) _ _ _ (eq.of_select using_ (map (λ z. z (suc d)) l₃) (map (λ z. z (suc d)) f₃) (option_map (λ z. z (suc d)) w₃) (map (λ z. z (suc d)) o₃)
+        (option_map (λ z. z (suc d)) m₃))
         (listing_same (suc d) l₁ _ f₁ _ w₁ _ o₁ _ m₁ _
         (lists Items (suc d) (SameTo (suc d)) (λ i. item_of using_ i) (λ x u z r. r (suc d)) l₁ l₂ l₃ lr)
         (lists Froms (suc d) (SameTo (suc d)) (λ f. from_of using_ f) (λ x u z r. r (suc d)) f₁ f₂ f₃ fr) (option (suc d) w₁ w₂ w₃ wr)

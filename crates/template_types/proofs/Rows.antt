@@ -59,7 +59,8 @@ pub record Brings (p : Places) (frame : Frame) (f : FromItem) (ts : List Ty) : T
 abbrev pub parts : List FromItem → List typing.Part
 parts fs = map (λ f. from_of typing.typing f) fs
 
-framed_more : (p : Places) (fs : List FromItem) (f : FromItem) (start frame : Frame) (ts : List Ty) → framed p (parts fs) start ≡ Some frame → from_of typing.typing f p frame ≡ Some ts
+framed_more : (p : Places) (fs : List FromItem) (f : FromItem) (start frame : Frame) (ts : List Ty) → framed p (parts fs) start ≡ Some frame
+    → from_of typing.typing f p frame ≡ Some ts
     → framed p (parts (fs ++ f ∷ [])) start ≡ Some (frame ++ ts ∷ [])
 framed_more p [] f start frame ts h k =
     let same : start ≡ frame = some_is start frame h in
@@ -69,7 +70,8 @@ framed_more p [] f start frame ts h k =
     some_is x y h = cc
 framed_more p (g ∷ fs) f start frame ts h k = by (λ start h. framed_more p fs f start frame ts h k) (from_of typing.typing g p start) refl h
   where
-    by : ((start : Frame) → framed p (parts fs) start ≡ Some frame → framed p (parts (fs ++ f ∷ [])) start ≡ Some (frame ++ ts ∷ [])) → (o : Shape) → from_of typing.typing g p start ≡ o → option_and_then (λ us. framed p (parts fs) (start ++ us ∷ [])) o ≡ Some frame
+    by : ((start : Frame) → framed p (parts fs) start ≡ Some frame → framed p (parts (fs ++ f ∷ [])) start ≡ Some (frame ++ ts ∷ [])) → (o : Shape)
+        → from_of typing.typing g p start ≡ o → option_and_then (λ us. framed p (parts fs) (start ++ us ∷ [])) o ≡ Some frame
         → option_and_then (λ us. framed p (parts (fs ++ f ∷ [])) (start ++ us ∷ [])) (from_of typing.typing g p start) ≡ Some (frame ++ ts ∷ [])
     by rest None e h = absurd (cc)
     by rest (Some us) e h = ap (option_and_then (λ us. framed p (parts (fs ++ f ∷ [])) (start ++ us ∷ []))) e ∙ rest (start ++ us ∷ []) h
@@ -90,7 +92,8 @@ list_kinds p [] [] h = refl
 list_kinds p (e ∷ es) (t ∷ ts) h = λ i. h.0.kind i ∷ list_kinds p es ts h.1 i
 list_kinds p _ _ h = absurd h
 
-pub list_uses : (p : Places) (es : List Expr) (ts : List Ty) → Zipped (IsOfType p) es ts → Every Calm (map (λ (t : Term). t.uses) (map (λ x. item_of using_ x) (map item es)))
+pub list_uses : (p : Places) (es : List Expr) (ts : List Ty) → Zipped (IsOfType p) es ts → Every Calm
+    (map (λ (t : Term). t.uses) (map (λ x. item_of using_ x) (map item es)))
 list_uses p [] [] h = tt
 list_uses p (e ∷ es) (t ∷ ts) h = (h.0.calm, list_uses p es ts h.1)
 list_uses p _ _ h = absurd h
@@ -112,7 +115,8 @@ abbrev pub FilterFine : Places → Option Expr → Type 0
 FilterFine p None = Unit {0}
 FilterFine p (Some c) = Fine p c ty.Boolean
 
-filter_fits : (p : Places) (o : Option Expr) → FilterFine p o → maybe_fits ty.Boolean (option_map (λ (t : typing.Term). t p) (option_map (λ e. expr_of typing.typing e) o)) ≡ true
+filter_fits : (p : Places) (o : Option Expr) → FilterFine p o
+    → maybe_fits ty.Boolean (option_map (λ (t : typing.Term). t p) (option_map (λ e. expr_of typing.typing e) o)) ≡ true
 unfolding maybe_fits
 filter_fits p None h = refl
 filter_fits p (Some c) h = ap (fits ty.Boolean) h.kind ∙ type_fits ty.Boolean tt
@@ -129,12 +133,14 @@ chosen : (ks : List Kind) (w : Option Kind) → list_all is_right ks ≡ true �
 unfolding select_kinds maybe_fits
 chosen ks w h g = λ i. if g i && (h i && (true && true)) then Some ks else None
 
-pub select_calm_of : (es : List Expr) (fs : List FromItem) (c : Option Expr) → Every Calm (map (λ (t : Term). t.uses) (map (λ x. item_of using_ x) (map item es)))
+pub select_calm_of : (es : List Expr) (fs : List FromItem) (c : Option Expr)
+    → Every Calm (map (λ (t : Term). t.uses) (map (λ x. item_of using_ x) (map item es)))
     → Every IsCalmItem fs → Calm (maybe (option_map (λ e. expr_of using_ e) c)).uses → Calm (select_of using_ (select es fs c)).uses
 select_calm_of es fs c list from filter =
     calm_is _ _ (ap (λ (t : Term). t.uses) (eq.of_select using_ (map item es) fs c [] None))
     (select_calm _ _ (all_calm _ list)
-    (either_calm _ _ (all_calm _ (from_uses fs from)) (either_calm _ _ (outside_calm _ filter) (either_calm _ _ (outside_calm _ unused_calm) (outside_calm _ unused_calm)))))
+    (either_calm _ _ (all_calm _ (from_uses fs from)) (either_calm _ _ (outside_calm _ filter)
+    (either_calm _ _ (outside_calm _ unused_calm) (outside_calm _ unused_calm)))))
 
 module _ (p : Places) (frame : Frame) (es : List Expr) (fs : List FromItem) (c : Option Expr) (ts : List Ty) (from : framed p (parts fs) [] ≡ Some frame)
     (filter : FilterFine (inside frame p) c) (have : Every HasKind ts) where
@@ -144,7 +150,8 @@ module _ (p : Places) (frame : Frame) (es : List Expr) (fs : List FromItem) (c :
       let w : Option Kind = option_map (λ (t : typing.Term). t q) (option_map (λ e. expr_of typing.typing e) c) in
       ap (λ f. f p) (eq.of_select typing.typing (map item es) fs c [] None)
       ∙ (ap (option_and_then (λ frame.
-      select_kinds (kinds (inside frame p) (map (λ x. item_of typing.typing x) (map item es))) (option_map (λ (t : typing.Term). t (inside frame p)) (option_map (λ e. expr_of typing.typing e) c)) [] None)) from
+      select_kinds (kinds (inside frame p) (map (λ x. item_of typing.typing x) (map item es)))
+      (option_map (λ (t : typing.Term). t (inside frame p)) (option_map (λ e. expr_of typing.typing e) c)) [] None)) from
       ∙ (ap (λ ks. select_kinds ks w [] None) (list_kinds q es ts list) ∙ chosen (kinds_of ts) w (all_right ts have) (filter_fits q c filter)))
 
   pub good_select : Zipped (Fine (inside frame p)) es ts → Every IsCalmItem fs → Good p ts (select es fs c)
@@ -164,7 +171,8 @@ both_same done [] h = ap (λ ks. Some ks) (nil done)
     nil [] = refl
     nil (k ∷ ks) = ap (λ l. k ∷ l) (nil ks)
 both_same done (t ∷ ts) h =
-    ap (λ b. if b then both_from (done ++ meet (of_type t) (of_type t) ∷ []) (kinds_of ts) (kinds_of ts) else None) (ap is_right (type_met t h.0) ∙ type_right t h.0)
+    ap (λ b. if b then both_from (done ++ meet (of_type t) (of_type t) ∷ []) (kinds_of ts) (kinds_of ts) else None)
+    (ap is_right (type_met t h.0) ∙ type_right t h.0)
     ∙ (ap (λ k. both_from (done ++ k ∷ []) (kinds_of ts) (kinds_of ts)) (type_met t h.0)
     ∙ (both_same (done ++ of_type t ∷ []) ts h.1 ∙ ap (λ ks. Some ks) (append_assoc done (of_type t ∷ []) (kinds_of ts))))
 
@@ -178,13 +186,15 @@ module _ (p : Places) (ts : List Ty) (have : Every HasKind ts) where
   unfolding further
   united_from [] h = refl
   united_from (s ∷ ss) h =
-      ap (λ o. fold (λ ks (l : typing.Listing). further ks (l p)) (Some o) (map (λ s. select_of typing.typing s) ss)) (ap (both (Some (kinds_of ts))) h.0.kinds ∙ both_is ts have)
+      ap (λ o. fold (λ ks (l : typing.Listing). further ks (l p)) (Some o) (map (λ s. select_of typing.typing s) ss))
+      (ap (both (Some (kinds_of ts))) h.0.kinds ∙ both_is ts have)
       ∙ united_from ss h.1
 
   pub union_is : (s : Select) (ss : List Select) → Every (Good p ts) (s ∷ ss) → union (map (λ s. select_of typing.typing s) (s ∷ ss)) p ≡ Some (kinds_of ts)
   unfolding further or_none
   union_is s ss h =
-      ap (λ o. or_none (fold (λ ks (l : typing.Listing). further ks (l p)) (Some o) (map (λ s. select_of typing.typing s) ss))) h.0.kinds ∙ ap or_none (united_from ss h.1)
+      ap (λ o. or_none (fold (λ ks (l : typing.Listing). further ks (l p)) (Some o) (map (λ s. select_of typing.typing s) ss))) h.0.kinds
+      ∙ ap or_none (united_from ss h.1)
 
   types_back : (ts : List Ty) → Every HasKind ts → types_of (kinds_of ts) ≡ ts
   types_back [] h = refl
@@ -200,7 +210,8 @@ unfolding listed
 listed_is [] ts h = refl
 listed_is (n ∷ names) ts h = ap (λ b. if b then Some ts else None) (eq-eqb (length (n ∷ names)) (length ts) h)
 
-select_uses_of : (p : Places) (ts : List Ty) (ss : List Select) → Every (Good p ts) ss → Every Calm (map (λ (t : Term). t.uses) (map (λ s. select_of using_ s) ss))
+select_uses_of : (p : Places) (ts : List Ty) (ss : List Select) → Every (Good p ts) ss → Every Calm
+    (map (λ (t : Term). t.uses) (map (λ s. select_of using_ s) ss))
 select_uses_of p ts [] h = tt
 select_uses_of p ts (s ∷ ss) h = (h.0.calm, select_uses_of p ts ss h.1)
 
@@ -215,20 +226,24 @@ pub query_calm : (p : Places) (ts : List Ty) (ss : List Select) → Every (Good 
 query_calm p ts ss h =
     calm_is _ _ (ap (λ (t : Term). t.uses) (eq.of_query using_ ss)) (apart_calm _ (either_calm _ _ unused_calm (all_calm _ (select_uses_of p ts ss h))))
 
-pub lateral_brings : (p : Places) (frame : Frame) (alias : List ℕ) (names : List (List ℕ)) (s : Select) (ss : List Select) (ts : List Ty) → length names ≡ length ts → Every HasKind ts
+pub lateral_brings : (p : Places) (frame : Frame) (alias : List ℕ) (names : List (List ℕ)) (s : Select) (ss : List Select) (ts : List Ty)
+    → length names ≡ length ts → Every HasKind ts
     → Every (Good (inside frame p) ts) (s ∷ ss) → Brings p frame (lateral_as alias names (united (s ∷ ss))) ts
 lateral_brings p frame alias names s ss ts size have h = record {
   shape =
       ap (λ (f : typing.Origin). f names p frame) (eq.of_sub typing.typing (united (s ∷ ss)) true)
-      ∙ (ap (listed names) (ap (λ (w : typing.Whole). w (inside frame p)) (eq.of_query typing.typing (s ∷ ss)) ∙ shape_is (inside frame p) ts have s ss h) ∙ listed_is names ts size);
+      ∙ (ap (listed names) (ap (λ (w : typing.Whole). w (inside frame p)) (eq.of_query typing.typing (s ∷ ss)) ∙ shape_is (inside frame p) ts have s ss h)
+      ∙ listed_is names ts size);
   item = record {
     calm = calm_is _ _ (ap (λ (t : Term). t.uses) (eq.of_sub using_ (united (s ∷ ss)) true)) (apart_calm _ (query_calm (inside frame p) ts (s ∷ ss) h));
-    quiet = quiet_is _ _ (eq.of_sub finding (united (s ∷ ss)) true) (quiet_is _ _ (eq.of_query finding (s ∷ ss)) (λ q. quiet_all (map (λ s. select_of finding s) (s ∷ ss)) (selects_quiet (inside frame p) ts (s ∷ ss) h) q));
+    quiet = quiet_is _ _ (eq.of_sub finding (united (s ∷ ss)) true) (quiet_is _ _ (eq.of_query finding (s ∷ ss))
+        (λ q. quiet_all (map (λ s. select_of finding s) (s ∷ ss)) (selects_quiet (inside frame p) ts (s ∷ ss) h) q));
   };
 }
 
 -- an item of one column
-pub only_brings : (p : Places) (frame : Frame) (k : ℕ) (e : Expr) (c : Option Expr) (t : Ty) → HasKind t → Fine (inside [] (inside frame p)) e t → FilterFine (inside [] (inside frame p)) c
+pub only_brings : (p : Places) (frame : Frame) (k : ℕ) (e : Expr) (c : Option Expr) (t : Ty) → HasKind t → Fine (inside [] (inside frame p)) e t
+    → FilterFine (inside [] (inside frame p)) c
     → Brings p frame (only_as k (select (e ∷ []) [] c)) (t ∷ [])
 only_brings p frame k e c t have fine filter =
     lateral_brings p frame (alias_name k) (only_name ∷ []) (select (e ∷ []) [] c) [] (t ∷ []) refl (have, tt)

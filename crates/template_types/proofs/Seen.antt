@@ -22,12 +22,14 @@ item_more [] ts i j t h = absurd (cc)
 item_more (x ∷ frame) ts zero j t h = h
 item_more (x ∷ frame) ts (suc i) j t h = item_more frame ts i j t h
 
-level_more : (frame : Frame) (outer : List Frame) (ts : List Ty) (l i j : ℕ) (t : Ty) → at_type (frame ∷ outer) (record { level = l; item = i; column = j }) ≡ Some t
+level_more : (frame : Frame) (outer : List Frame) (ts : List Ty) (l i j : ℕ) (t : Ty) → at_type (frame ∷ outer) (record { level = l; item = i; column = j }) ≡
+    Some t
     → at_type ((frame ++ ts ∷ []) ∷ outer) (record { level = l; item = i; column = j }) ≡ Some t
 level_more frame outer ts zero i j t h = item_more frame ts i j t h
 level_more frame outer ts (suc l) i j t h = h
 
-pub more_seen : (frame : Frame) (outer : List Frame) (ts : List Ty) (c : Col) (t : Ty) → at_type (frame ∷ outer) c ≡ Some t → at_type ((frame ++ ts ∷ []) ∷ outer) c ≡ Some t
+pub more_seen : (frame : Frame) (outer : List Frame) (ts : List Ty) (c : Col) (t : Ty) → at_type (frame ∷ outer) c ≡ Some t
+    → at_type ((frame ++ ts ∷ []) ∷ outer) c ≡ Some t
 more_seen frame outer ts c t h = level_more frame outer ts c.level c.item c.column t h
 
 pub last_item : (frame : Frame) (ts : List Ty) → slice_get (frame ++ ts ∷ []) (length frame) ≡ Some ts
@@ -46,7 +48,8 @@ pub record Sees (frame : Frame) (outer : List Frame) (depth : ℕ) (types : ℕ 
   pub shallow : Shallow depth places
   pub typed : (n : ℕ) → Among names n → at_type (frame ∷ outer) (seen depth (places n)) ≡ Some (types n)
 
-pub sees_more : (frame : Frame) (outer : List Frame) (ts : List Ty) (depth : ℕ) (types : ℕ → Ty) (places : Scope Place) (names : List ℕ) → Sees frame outer depth types places names
+pub sees_more : (frame : Frame) (outer : List Frame) (ts : List Ty) (depth : ℕ) (types : ℕ → Ty) (places : Scope Place) (names : List ℕ)
+    → Sees frame outer depth types places names
     → Sees (frame ++ ts ∷ []) outer depth types places names
 sees_more frame outer ts depth types places names h = record {
   shallow = h.shallow;
@@ -56,12 +59,14 @@ sees_more frame outer ts depth types places names h = record {
 pub deeper_level : (depth : ℕ) (p : Place) → p.depth ≤ depth → suc depth - p.depth ≡ suc (depth - p.depth)
 deeper_level depth p h = omega (arith, h)
 
-pub seen_inside : (inner frame : Frame) (outer : List Frame) (depth : ℕ) (p : Place) (t : Ty) → p.depth ≤ depth → at_type (frame ∷ outer) (seen depth p) ≡ Some t
+pub seen_inside : (inner frame : Frame) (outer : List Frame) (depth : ℕ) (p : Place) (t : Ty) → p.depth ≤ depth
+    → at_type (frame ∷ outer) (seen depth p) ≡ Some t
     → at_type (inner ∷ frame ∷ outer) (seen (suc depth) p) ≡ Some t
 seen_inside inner frame outer depth p t le h =
     ap (λ l. at_type (inner ∷ frame ∷ outer) (record { level = l; item = p.item; column = p.column })) (deeper_level depth p le) ∙ h
 
-pub sees_inside : (inner frame : Frame) (outer : List Frame) (depth : ℕ) (types : ℕ → Ty) (places : Scope Place) (names : List ℕ) → Sees frame outer depth types places names
+pub sees_inside : (inner frame : Frame) (outer : List Frame) (depth : ℕ) (types : ℕ → Ty) (places : Scope Place) (names : List ℕ)
+    → Sees frame outer depth types places names
     → Sees inner (frame ∷ outer) (suc depth) types places names
 sees_inside inner frame outer depth types places names h = record {
   shallow = shallow_inside depth places h.shallow;
@@ -97,7 +102,8 @@ sees_new frame outer depth types places names n size same h = record {
     here : depth - depth ≡ 0
     here = omega arith
 
-    by : (m : ℕ) → Among (n ∷ names) m → (t : Bool) → nat_eq m n ≡ t → at_type ((frame ++ (types n ∷ []) ∷ []) ∷ outer) (seen depth (cond t (first_of depth size) (places m))) ≡ Some (types m)
+    by : (m : ℕ) → Among (n ∷ names) m → (t : Bool) → nat_eq m n ≡ t → at_type ((frame ++ (types n ∷ []) ∷ []) ∷ outer)
+        (seen depth (cond t (first_of depth size) (places m))) ≡ Some (types m)
     by m k true e =
         ap (λ l. at_type ((frame ++ (types n ∷ []) ∷ []) ∷ outer) (record { level = l; item = size; column = 0 })) here
         ∙ (new_seen frame outer (types n ∷ []) size 0 same (types n) refl ∙ ap (λ x. Some (types x)) (sym (eqb-true m n e)))
@@ -105,7 +111,8 @@ sees_new frame outer depth types places names n size same h = record {
 
 -- names that are passed
 passed : (frame : Frame) (outer : List Frame) (depth : ℕ) (types : ℕ → Ty) (places : Scope Place) (names : List ℕ) → Sees frame outer depth types places names
-    → (params args : List ℕ) → EachPair (λ i p n. types n ≡ types p) params args → Each (Among names) args → length args ≡ length params → (m : ℕ) → Among params m
+    → (params args : List ℕ) → EachPair (λ i p n. types n ≡ types p) params args → Each (Among names) args → length args ≡ length params → (m : ℕ)
+    → Among params m
     → at_type (frame ∷ outer) (seen depth (paired places nowhere params args m)) ≡ Some (types m)
 passed frame outer depth types places names h [] args typed known size m k = absurd (none_among m k)
 passed frame outer depth types places names h (p ∷ params) [] typed known size m k = absurd (omega (arith, size))
@@ -129,7 +136,8 @@ passed frame outer depth types places names h (p ∷ params) (a ∷ args) typed 
     by rest true e = h.typed a (known 0 a refl) ∙ (ap (λ t. Some t) (typed 0 p a refl refl) ∙ ap (λ x. Some (types x)) (eqb-true p m e))
     by rest false e = rest (among_rest p m params k (same_way e))
 
-pub sees_passed : (frame : Frame) (outer : List Frame) (depth : ℕ) (types : ℕ → Ty) (places : Scope Place) (names : List ℕ) → Sees frame outer depth types places names
+pub sees_passed : (frame : Frame) (outer : List Frame) (depth : ℕ) (types : ℕ → Ty) (places : Scope Place) (names : List ℕ)
+    → Sees frame outer depth types places names
     → (params args : List ℕ) → EachPair (λ i p n. types n ≡ types p) params args → Each (Among names) args → length args ≡ length params
     → Sees frame outer depth types (paired places nowhere params args) params
 sees_passed frame outer depth types places names h params args typed known size = record {

@@ -59,7 +59,8 @@ reads_slots wanted _ = true
 within : (wanted : ℕ → Bool) (rs : List Read) → ((i : ℕ) → is_in (filter_map slot_of rs) i ≡ true → wanted i ≡ true) → list_all (reads_slots wanted) rs ≡ true
 within wanted [] go = refl
 within wanted (Slot i ∷ rs) go =
-    both_true (wanted i) (list_all (reads_slots wanted) rs) (go i (ap (λ b. b || is_in (filter_map slot_of rs) i) (eq-eqb i i refl))) (within wanted rs (λ j m. go j (or_true (i == j) _ m)))
+    both_true (wanted i) (list_all (reads_slots wanted) rs) (go i (ap (λ b. b || is_in (filter_map slot_of rs) i) (eq-eqb i i refl)))
+    (within wanted rs (λ j m. go j (or_true (i == j) _ m)))
 within wanted (Param i ∷ rs) go = within wanted rs go
 within wanted (Table k ∷ rs) go = within wanted rs go
 within wanted (Outer c ∷ rs) go = within wanted rs go

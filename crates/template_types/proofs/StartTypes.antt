@@ -127,7 +127,8 @@ module _ (m : Making) (tables : List (List Ty)) (sound : IsSound m) (entry : ℕ
       (of_types p (truth true ∷ []) (ty.Boolean ∷ []) (truth_fine p true, tt)).0,
       (
         (of_types p (number (pos (suc place)) ∷ []) (ty.Bigint ∷ []) (number_fine p (pos (suc place)), tt)).0,
-        zipped_append (IsOfType p) (arguments_at m 0 keys params m.tail.columns) m.tail.columns (null_of m.result ∷ null_of ty.Text ∷ []) (m.result ∷ ty.Text ∷ [])
+        zipped_append (IsOfType p) (arguments_at m 0 keys params m.tail.columns) m.tail.columns (null_of m.result ∷ null_of ty.Text ∷ [])
+            (m.result ∷ ty.Text ∷ [])
             (arguments_typed p 0 m.tail.columns (from_zero m.tail.columns))
             (of_types p (null_of m.result ∷ null_of ty.Text ∷ []) (m.result ∷ ty.Text ∷ []) (null_fine p m.result, (null_fine p ty.Text, tt))),
       ),
@@ -155,8 +156,11 @@ module _ (m : Making) (tables : List (List Ty)) (sound : IsSound m) (entry : ℕ
         adds_none m.types (expr_of finding (truth true)) (truth_fine p true).quiet,
         (
           adds_none m.types (expr_of finding (number (pos (suc place)))) (number_fine p (pos (suc place))).quiet,
-          every_append (λ (e : Expr). AddsNames m.types (expr_of finding e)) (arguments_at m 0 keys params m.tail.columns) (null_of m.result ∷ null_of ty.Text ∷ []) (arguments_add 0 m.tail.columns)
-              (adds_none m.types (expr_of finding (null_of m.result)) (null_fine p m.result).quiet, (adds_none m.types (expr_of finding (null_of ty.Text)) (null_fine p ty.Text).quiet, tt)),
+          every_append (λ (e : Expr). AddsNames m.types (expr_of finding e)) (arguments_at m 0 keys params m.tail.columns)
+              (null_of m.result ∷ null_of ty.Text ∷ []) (arguments_add 0 m.tail.columns) (
+                adds_none m.types (expr_of finding (null_of m.result)) (null_fine p m.result).quiet,
+                (adds_none m.types (expr_of finding (null_of ty.Text)) (null_fine p ty.Text).quiet, tt),
+              ),
         ),
       )
 

@@ -69,7 +69,8 @@ module _ (columns : List Ty) (result : Ty) (types : ℕ → Ty) (gate : Frame) w
   abbrev row_frame : Frame
   row_frame = row_types columns result ∷ []
 
-  param_there : (params keys : List ℕ) → EachPair (λ i p c. slice_get columns c ≡ Some (types p)) params keys → length keys ≡ length params → (n : ℕ) → Among params n
+  param_there : (params keys : List ℕ) → EachPair (λ i p c. slice_get columns c ≡ Some (types p)) params keys → length keys ≡ length params → (n : ℕ)
+      → Among params n
       → at_type (gate ∷ row_frame ∷ []) (seen 1 (paired row_place nowhere params keys n)) ≡ Some (types n)
   param_there [] keys h size n k = absurd (none_among n k)
   param_there (p ∷ params) [] h size n k = absurd (omega (arith, size))
@@ -117,15 +118,18 @@ module _ (m : Making) (tables : List (List Ty)) (sound : IsSound m) where
   label_fine : (n : ℕ) → Fine (Here ([] ∷ [] ∷ row_outer)) (t.at_label m n) ty.Boolean
   label_fine n =
       let p : Places = Here ([] ∷ [] ∷ row_outer) in
-      compare_fine p cmp.Eq (col 2 0 1) (number (pos n)) ty.Bigint tt (column_fine p (record { level = 2; item = 0; column = 1 }) ty.Bigint refl) (number_fine p (pos n))
+      compare_fine p cmp.Eq (col 2 0 1) (number (pos n)) ty.Bigint tt (column_fine p (record { level = 2; item = 0; column = 1 }) ty.Bigint refl)
+      (number_fine p (pos n))
 
   branch_good : (i b : ℕ) → IsLabel i b → Good (Here row_outer) Rows (t.branch m i b)
   branch_good i b h =
       let params = params_of (slice_get m.anf.blocks b) in
       let w : Walked = walk m 1 (paired row_place nowhere params (keys_of m i)) (gate_as 1 (t.at_label m (suc i)) ∷ []) 2 (body_of m.anf m.tail b) in
       walk_good m tables sound row_outer w
-      (walks m tables sound 1 (paired row_place nowhere params (keys_of m i)) (gate_as 1 (t.at_label m (suc i)) ∷ []) 2 (body_of m.anf m.tail b) params ((ty.Boolean ∷ []) ∷ []) row_outer
-      (gate_behind m tables sound row_outer 1 (t.at_label m (suc i)) (label_fine (suc i))) (label_sees m.tail.columns m.result m.types ((ty.Boolean ∷ []) ∷ []) params (keys_of m i) h.places h.size) h.tree h.typed)
+      (walks m tables sound 1 (paired row_place nowhere params (keys_of m i)) (gate_as 1 (t.at_label m (suc i)) ∷ []) 2 (body_of m.anf m.tail b) params
+      ((ty.Boolean ∷ []) ∷ []) row_outer
+      (gate_behind m tables sound row_outer 1 (t.at_label m (suc i)) (label_fine (suc i)))
+      (label_sees m.tail.columns m.result m.types ((ty.Boolean ∷ []) ∷ []) params (keys_of m i) h.places h.size) h.tree h.typed)
 
   branches_good : (i : ℕ) (bs : List ℕ) → ((j b : ℕ) → slice_get bs j ≡ Some b → IsLabel (i + j) b) → Every (Good (Here row_outer) Rows) (t.branches m i bs)
   branches_good i [] h = tt
@@ -149,7 +153,8 @@ module _ (m : Making) (tables : List (List Ty)) (sound : IsSound m) where
             none h = cc
         by (b ∷ bs) e =
             subst (λ l. Brings (Here []) (Rows ∷ []) (lateral_as step_name (row_names (t.width m)) (united (t.branches m 0 l))) Rows) (sym e)
-            (lateral_brings (Here []) (Rows ∷ []) step_name (row_names (t.width m)) (t.branch m 0 b) (t.branches m 1 bs) Rows (row_names_size m.tail.columns m.result) (rows_have m tables sound)
+            (lateral_brings (Here []) (Rows ∷ []) step_name (row_names (t.width m)) (t.branch m 0 b) (t.branches m 1 bs) Rows
+            (row_names_size m.tail.columns m.result) (rows_have m tables sound)
             (branches_good 0 (b ∷ bs) (all_labels (b ∷ bs) e)))
 
     -- ---- the working table
@@ -177,7 +182,8 @@ module _ (m : Making) (tables : List (List Ty)) (sound : IsSound m) where
           let p : Places = Here ((Rows ∷ []) ∷ []) in
           let table = working (length tables) (t.width m) in
           let brings = working_brings [] in
-          good_select (Here []) (Rows ∷ []) (col 0 0 (suc (suc (t.width m))) ∷ col 0 0 (suc (suc (suc (t.width m)))) ∷ []) (table ∷ []) (Some (expr.Not (col 0 0 0))) (m.result ∷ ty.Text ∷ [])
+          good_select (Here []) (Rows ∷ []) (col 0 0 (suc (suc (t.width m))) ∷ col 0 0 (suc (suc (suc (t.width m)))) ∷ []) (table ∷ [])
+          (Some (expr.Not (col 0 0 0))) (m.result ∷ ty.Text ∷ [])
           (one_more (Here []) [] table [] Rows refl brings)
           (not_fine p (col 0 0 0) (column_fine p (record { level = 0; item = 0; column = 0 }) ty.Boolean refl)) (sound.result, (tt, tt)) (
             column_fine p (record { level = 0; item = 0; column = suc (suc (t.width m)) }) m.result (result_there m.tail.columns m.result),

@@ -66,7 +66,8 @@ found at (s ∷ slots) (n ∷ names) other size i h = by (λ h. found at slots n
           there = more.there;
         }
 
-outer_beside : (at : ℕ → Col) (other : Col) → ((n : ℕ) → 1 ≤ (at n).level) → 1 ≤ other.level → (slots names : List ℕ) (i : ℕ) → 1 ≤ (column_beside slots (map at names) other i).level
+outer_beside : (at : ℕ → Col) (other : Col) → ((n : ℕ) → 1 ≤ (at n).level) → 1 ≤ other.level → (slots names : List ℕ) (i : ℕ)
+    → 1 ≤ (column_beside slots (map at names) other i).level
 unfolding column_beside
 outer_beside at other h k [] names i = k
 outer_beside at other h k (s ∷ slots) [] i = k
@@ -90,16 +91,19 @@ calm_of u l o = record { aggregate = second u.misused u.aggregate o; misused = f
     second true b h = cc
     second false b h = h
 
-module _ (tables more : List (List Ty)) (types : ℕ → Ty) (at : ℕ → Col) (other : Col) (outer : (n : ℕ) → 1 ≤ (at n).level) (beyond : 1 ≤ other.level) (frames : List Frame) where
+module _ (tables more : List (List Ty)) (types : ℕ → Ty) (at : ℕ → Col) (other : Col) (outer : (n : ℕ) → 1 ≤ (at n).level) (beyond : 1 ≤ other.level)
+    (frames : List Frame) where
   abbrev here : Places
   here = record { slots = []; frames = frames; tables = tables ++ more }
 
   pub value_fine : (e : Expr) (names : List ℕ) (t : Ty) → HasKind t → HasTypeBy tables types names t e → length names ≡ length (slots_of e)
-      → ((n : ℕ) → Among names n → at_type frames (at n) ≡ Some (types n)) → IsEntry e → Fine here (placed_at t (column_beside (slots_of e) (map at names) other) e) t
+      → ((n : ℕ) → Among names n → at_type frames (at n) ≡ Some (types n)) → IsEntry e → Fine here
+      (placed_at t (column_beside (slots_of e) (map at names) other) e) t
   unfolding column kind_of uses_of
   value_fine e names t have typed size sees entry = record {
     kind = kind_at_place e ref typed.slots frames tables more t have slot_column entry.linked typed.kind;
-    calm = calm_is _ _ (uses_at_place e ref t (λ i. outer_beside at other outer beyond (slots_of e) names i)) (calm_of (expr_of using_ e).uses typed.limited typed.outside_list);
+    calm = calm_is _ _ (uses_at_place e ref t (λ i. outer_beside at other outer beyond (slots_of e) names i))
+        (calm_of (expr_of using_ e).uses typed.limited typed.outside_list);
     quiet = quiet_is _ _ (params_at_place e ref t) entry.quiet;
   }
     where

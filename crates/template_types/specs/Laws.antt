@@ -27,7 +27,8 @@ pub record HaveTypesOfSlots (frames : List Frame) (ref : ℕ → Col) (slots : L
 -- What fits a type over slots is of the type in a query, over columns of the slots' types and further tables.
 abbrev pub PlacingKeepsKinds : Type 0
 PlacingKeepsKinds =
-    (e : Expr) (t : Ty) (ref : ℕ → Col) (slots : List Ty) (frames : List Frame) (tables more : List (List Ty)) → HasKind t → IsLinked e → HaveTypesOfSlots frames ref slots e
+    (e : Expr) (t : Ty) (ref : ℕ → Col) (slots : List Ty) (frames : List Frame) (tables more : List (List Ty)) → HasKind t → IsLinked e
+    → HaveTypesOfSlots frames ref slots e
     → fits t (kind_of e (record { slots = slots; frames = []; tables = tables })) ≡ true
     → kind_of (placed_at t ref e) (record { slots = []; frames = frames; tables = tables ++ more }) ≡ Of t
 

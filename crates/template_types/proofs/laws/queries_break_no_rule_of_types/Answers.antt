@@ -24,8 +24,10 @@ use Rattle.template_types.proofs.FormsJudged.{AreTyped, clean}
 use Rattle.template_types.proofs.NoParameters.{checked_quiet}
 use Rattle.template_types.proofs.laws.queries_break_no_rule_of_types.Goals as goal
 
-typed : (schema : Schema) (written f : Function) (slots : List Slot) (g : Goto) (z : Ssa) (a : Anf) (r : Tail) (count params : ℕ) → IsChecked schema written f slots
-    → Lowered f slots g → Named count params g z → Called g z a → Merged g a r → Columned slots z a r → IsTypable schema f slots r → AreTyped schema f slots g z a r
+typed : (schema : Schema) (written f : Function) (slots : List Slot) (g : Goto) (z : Ssa) (a : Anf) (r : Tail) (count params : ℕ)
+    → IsChecked schema written f slots
+    → Lowered f slots g → Named count params g z → Called g z a → Merged g a r → Columned slots z a r → IsTypable schema f slots r
+    → AreTyped schema f slots g z a r
 unfolding with_expr
 typed schema written f slots g z a r count params checked low named called merged columned h = record {
   few = h.few;
