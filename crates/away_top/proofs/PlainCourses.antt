@@ -19,13 +19,14 @@ use Rattle.plsql_meaning.specs.Equivalent.{answers}
 use Rattle.plsql_run.specs.Settings.{not_nulls}
 use Rattle.away_top.specs.AnswerLines.{answer_end, value_line}
 use Rattle.away_top.specs.Arguments.{bound_of, values_for, values_of}
-use Rattle.away_top.specs.Commands.{about_end, choice, command_course, course, other_command, usage, without_more}
+use Rattle.away_top.specs.Commands.{NumberEnds, about_end, choice, command_course, course, either, other_command, usage, without_more}
 use Rattle.cert_json.specs.declared.cert.Cert.{Cert}
 use Rattle.stage_check.specs.declared.verdict.Verdict.TheVariants.{Accepted, Fails}
 use Rattle.away_top.specs.Certificates.{RefusesCert, cert_course}
 use Rattle.away_top.specs.CheckCourse.{IsJudgedSo, check_course, with_function, with_query, with_schema}
 use Rattle.away_top.specs.CompileCourse.{Compiles, compile_course}
 use Rattle.away_top.specs.Course.{Course, and_then, ends, gives, judges, reads, Exactly, RefusedBy}
+use Rattle.away_top.specs.DemoCourse.{ShowsWord}
 use Rattle.away_top.specs.Files.{Callable, callable_of, function_course, schema_course}
 use Rattle.away_top.specs.FnCourse.{call_at_bound, call_over_schema, called_course, fn_course, with_arguments}
 use Rattle.away_top.specs.SqlCourse.{Asked, Tells, answer_course, asked_course, at_bound, over_schema, query_course, spelled, sql_course}
@@ -208,6 +209,21 @@ plain_alone : (args : List (List ℕ)) (c : Course ⊥) → IsPlainCourse c → 
 plain_alone [] c p = p
 plain_alone (word ∷ words) c p = plain_end Usage (line (codes "usage")) tt
 
+-- ---- a case
+
+plain_shown : (o : Option ℕ) (text : List ℕ) → ArePlain (ShowsWord o text)
+plain_shown None text = plain_end Usage (line (codes "usage")) tt
+plain_shown (Some number) text status output (summary, is, e) = subst IsPlain (sym e.0) tt
+
+plain_one : (b : Bool) (E G : Status → List ℕ → Type 0) → ArePlain E → ArePlain G → ArePlain (either b E G)
+plain_one true E G p q = p
+plain_one false E G p q = q
+
+plain_number : (command number text : List ℕ) → ArePlain (NumberEnds command number text)
+unfolding NumberEnds
+plain_number command number text =
+    plain_one (bytes_eq command (codes "demo")) (ShowsWord (bound_of number) text) (Exactly Usage (line (codes "usage"))) (plain_shown (bound_of number) text) (plain_end Usage (line (codes "usage")) tt)
+
 -- ---- all words
 
 plain_either : (b : Bool) (left right : Course ⊥) → IsPlainCourse left → IsPlainCourse right → IsPlainCourse (choice b left right)
@@ -222,6 +238,7 @@ plain_other command schema func query cert more =
 
 pub plain_course : (words : List (List ℕ)) (text : List ℕ) → IsPlainCourse (course words text)
 plain_course (word ∷ []) text = plain_end (about_end word).0 (about_end word).1 (plain_about word)
+plain_course (command ∷ number ∷ []) text = plain_number command number text
 plain_course (command ∷ schema ∷ func ∷ []) text = plain_command command schema func text
 plain_course (command ∷ bound ∷ schema ∷ file ∷ dir ∷ args) text =
     plain_either (bytes_eq command (codes "sql")) (sql_course bound schema file dir args)

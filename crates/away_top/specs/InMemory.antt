@@ -1,4 +1,4 @@
--- What `compile`, `certify`, `sql` and `fn` answer over files and a sink in memory that are to meet no failure.
+-- What `compile`, `certify`, `demo`, `sql` and `fn` answer over files and a sink in memory that are to meet no failure.
 use Rattle.std.specs.Prelude.{◌≡◌, ◌⊎◌, ℕ, ◌≤◌, List, [], ◌∷◌, ◌++◌, length, codes, Ok, Some, IsSome}
 use Rattle.std.specs.List.{AllByRecursion}
 use Rattle.away_trees.specs.declared.schemas.TableSchema.{TableSchema}
@@ -12,6 +12,7 @@ use Rattle.sql_meaning.specs.Context.{Rows}
 use Rattle.away_top.specs.declared.compile.Wanted.{Wanted}
 use Rattle.away_top.specs.CompileCourse.{command_of}
 use Rattle.away_top.specs.Arguments.{bound_of, values_for, values_of}
+use Rattle.away_top.specs.DemoCourse.{IsShown}
 use Rattle.away_top.specs.FunctionAnswers.{IsCalled}
 use Rattle.away_top.specs.QueryAnswers.{Held, IsAnswer, IsAnswered}
 use Rattle.away_top.specs.Refusals.{IsFunction, IsQuery, IsSchema, RefusesFunction, RefusesQuery, RefusesSchema}
@@ -50,6 +51,15 @@ Translated wanted before after result tables function =
     (result ≡ NoMemory)
     ⊎ ((text : List ℕ) × IsTranslation wanted tables function text
     × (length text ≤ before.room → IsWritten before after result text))
+
+-- ---- demo
+
+-- Memory was wanting, or there is a summary of the case that the call writes, where the room holds it.
+abbrev pub Shown : RoomySink → RoomySink → Status → List ℕ → Type 0
+Shown before after result word =
+    (result ≡ NoMemory)
+    ⊎ ((output : List ℕ) × IsShown word output
+    × (length output ≤ before.room → IsWritten before after result output))
 
 -- ---- sql
 

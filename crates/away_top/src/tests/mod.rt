@@ -2,6 +2,7 @@
 
 mod checks;
 mod compiled;
+mod demos;
 mod functions;
 mod held;
 mod printed_queries;
