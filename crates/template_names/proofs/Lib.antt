@@ -1,0 +1,9 @@
+pub mod Differences
+pub mod OwnNames
+pub mod OwnColumns
+pub mod PassedNames
+pub mod ItemsSeen
+pub mod SmallParts
+pub mod Sighted
+pub mod WalksRise
+pub mod BodiesClear
