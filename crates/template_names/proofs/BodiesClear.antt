@@ -174,7 +174,7 @@ module _ (schema : Schema) (m : Making) (clears : TableClears schema m.table) (n
 
   -- ---- bodies
 
-  body_clear : (x : Body) (k depth : ℕ) (s : Scope) (fs : List FromItem) (names : List ℕ) (places : scopes.Scope Place) → SeesTables schema s → HasTree m.table names x
+  pub body_clear : (x : Body) (k depth : ℕ) (s : Scope) (fs : List FromItem) (names : List ℕ) (places : scopes.Scope Place) → SeesTables schema s → HasTree m.table names x
       → (walk m depth places fs k x).next ≤ 2 ^ 64 → Sighted k depth s fs names places → IsClear select s (selected (walk m depth places fs k x))
   body_clear (sets n u x) k depth s fs names places sees has fits h =
       let now : scopes.Scope Place = stands n (first_of depth (length fs)) places in

@@ -7,3 +7,6 @@ pub mod SmallParts
 pub mod Sighted
 pub mod WalksRise
 pub mod BodiesClear
+pub mod BranchesClear
+pub mod FilesClear
+pub mod TreesClear

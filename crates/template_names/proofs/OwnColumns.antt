@@ -22,7 +22,7 @@ nth_left [] ys k l = absurd (omega arith)
 nth_left (x ∷ xs) ys zero l = refl
 nth_left (x ∷ xs) ys (suc k) l = nth_left xs ys k (omega (arith, l))
 
-nth_seam : {X : Type 0} (xs : List X) (x : X) → slice_get (xs ++ (x ∷ [])) (length xs) ≡ Some x
+pub nth_seam : {X : Type 0} (xs : List X) (x : X) → slice_get (xs ++ (x ∷ [])) (length xs) ≡ Some x
 nth_seam [] x = refl
 nth_seam (y ∷ xs) x = nth_seam xs x
 
@@ -155,14 +155,14 @@ item_last a n d i (x ∷ l) o j same h p =
     ap (λ b. or_else (if b then option_map (hit_at d i false) (place_of n x.columns) else None) (in_item a n d (i + 1) (l ++ o ∷ []))) (apart_false x.alias a h.0)
     ∙ (item_last a n d (i + 1) l o j same h.1 p ∙ ap (λ i. Some (hit_at d i false j)) further)
 
-found_last : (l : Level) (ls : List Level) (o : Seen) (n : Name) (j : ℕ) → Every (λ x. Apart o.alias x.alias) l → place_of n o.columns ≡ Some j
+pub found_last : (l : Level) (ls : List Level) (o : Seen) (n : Name) (j : ℕ) → Every (λ x. Apart o.alias x.alias) l → place_of n o.columns ≡ Some j
     → column_dotted o.alias n ((l ++ o ∷ []) ∷ ls) ≡ Some (hit_at 0 (length l) false j)
 unfolding column_dotted
 found_last l ls o n j h p =
     let here : 0 + length l ≡ length l = omega arith in
     ap (λ r. or_else r (nearest (λ depth level. in_item o.alias n depth 0 level) (0 + 1) ls)) (item_last o.alias n 0 0 l o j refl h p) ∙ ap (λ i. Some (hit_at 0 i false j)) here
 
-pub own_last : (k : ℕ) (l : Level) (ls : List Level) (o : Seen) (n : Name) (j : ℕ) → is_kept o.alias ≡ true → is_kept n ≡ true → Older k o.alias → Every (λ x. Apart o.alias x.alias) l
+unfoldable pub own_last : (k : ℕ) (l : Level) (ls : List Level) (o : Seen) (n : Name) (j : ℕ) → is_kept o.alias ≡ true → is_kept n ≡ true → Older k o.alias → Every (λ x. Apart o.alias x.alias) l
     → slice_get o.columns j ≡ Some (Some n) → place_of n o.columns ≡ Some j → Own k ((l ++ o ∷ []) ∷ ls) (record { level = 0; item = length l; column = j })
 own_last k l ls o n j kept own_name older h there p = record {
   item = o;
