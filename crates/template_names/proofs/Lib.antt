@@ -10,3 +10,6 @@ pub mod BodiesClear
 pub mod BranchesClear
 pub mod FilesClear
 pub mod TreesClear
+pub mod Silence
+pub mod SilentExpressions
+pub mod SilentQueries
