@@ -1,6 +1,6 @@
 -- The whole query is clear.
 use Rattle.std.proofs.Common.{◌≡◌, refl, ap, sym, ◌∙◌, subst, ℕ, zero, suc, ◌+◌, ◌<◌, ◌≤◌, ◌^◌, Bool, true, false, if◌then◌else◌, List, [], ◌∷◌, ◌++◌, map, length, decimal, Option, Some, None, option_map, arith}
-use Rattle.std.specs.Prelude.{slice_get, bytes_eq}
+use Rattle.std.specs.Prelude.{bytes_eq}
 use Rattle.std.proofs.lemmas.Option.{slice_get-map}
 use Rattle.std.proofs.lemmas.Slice.Eq.{bytes_eq-Decides}
 use Rattle.away_trees.specs.declared.queries.Expr.{Expr}
@@ -29,7 +29,7 @@ use Rattle.sql_meaning.specs.Template.{count_from}
 use Rattle.sql_meaning.specs.Trees.{col, item}
 use Rattle.template_parts.specs.Names.{table_name, step_name, go_name, label_name, result_name, fault_name, value_names, row_names, alias_name}
 use Rattle.template_parts.specs.Trees.{working}
-use Rattle.template_names.specs.Given.{SeesTables}
+use Rattle.placed_names.specs.Own.{SeesTables}
 use Rattle.template_names.proofs.BranchesClear.{under, row_of, row_own}
 use Rattle.template_names.proofs.Differences.{AllApart, no_double, own_place}
 use Rattle.template_names.proofs.ItemsSeen.{seen_as, lateral_seen, working_seen}

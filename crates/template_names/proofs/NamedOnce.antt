@@ -1,20 +1,14 @@
 -- How often the terms of a checked function's query name the recursive table.
-use Rattle.std.proofs.Common.{◌≡◌, refl, ap, sym, ◌∙◌, subst, ℕ, suc, ◌<◌, ◌^◌, true, List, [], ◌∷◌, map, length, Option, Some, None, arith}
+use Rattle.std.proofs.Common.{◌≡◌, refl, ap, ◌∙◌, ℕ, ◌<◌, ◌^◌, List, [], ◌∷◌, map, length, Option, Some, None}
 use Rattle.away_trees.specs.declared.queries.FromItem.{FromItem}
-use Rattle.away_trees.specs.declared.queries.Query.{Query}
-use Rattle.away_trees.specs.declared.queries.Select.{Select}
 use Rattle.away_trees.specs.declared.schemas.Schema.{Schema}
-use Rattle.away_trees.specs.declared.statements.Function.{Function}
-use Rattle.away_types.specs.CheckedFunctions.{IsChecked}
-use Rattle.away_types.specs.declared.slots.Slot.{Slot}
 use Rattle.away_names.specs.declared.note.File.{File}
 use Rattle.away_names.specs.declared.note.Framed.{Framed}
 use Rattle.away_names.specs.declared.note.Named.{Named}
 use Rattle.away_names.specs.declared.note.Part.{Part}
 use Rattle.away_names.specs.declared.note.Times.TheVariants.{Never, Once}
 use Rattle.away_names.specs.declared.scope.Listed.{Listed}
-use Rattle.away_names.specs.Lookups.{Name, Level, Scope, inside}
-use Rattle.away_names.specs.Naming as n
+use Rattle.away_names.specs.Lookups.{Name, Scope, inside}
 use Rattle.away_names.specs.NamingLists.{named_from, named_selects}
 use Rattle.away_names.specs.Notes.{clean, joined, summed}
 use Rattle.away_names.specs.Trees.{named_part, named_select}
@@ -22,20 +16,18 @@ use Rattle.cte_template.specs.Making.{Making}
 use Rattle.cte_template.specs.Tree.{start, label_rows, step, last, tree}
 use Rattle.cte_template.specs.Walks.{all_columns}
 use Rattle.dotted_names.specs.Trees.{dotted_part, dotted_from, dotted_select, dotted_selects}
-use Rattle.dotted_names.specs.Unambiguous as c
 use Rattle.dotted_names.specs.Unambiguous.{IsClear, from_item, select}
-use Rattle.dotted_names.proofs.BackQueries.{BackPart, BackFrom, from_is, parts, all_items}
+use Rattle.dotted_names.proofs.BackQueries.{BackPart, BackFrom, from_is}
 use Rattle.dotted_names.proofs.ClearBack.{back}
 use Rattle.sql_meaning.specs.Trees.{col, item}
 use Rattle.template_parts.specs.Names.{table_name, row_names}
 use Rattle.template_parts.specs.Trees.{working}
-use Rattle.template_names.specs.Given.{PlacedAreClear}
 use Rattle.template_names.specs.Laws.{TableIsNamedOnce, NamesTableOnce, making_of}
 use Rattle.template_names.proofs.BodiesClear.{TableClears}
 use Rattle.template_names.proofs.BranchesClear.{under, row_of, rows_clear, start_clear}
 use Rattle.template_names.proofs.FilesClear.{Fields, beside_working, working_clear, step_from, step_list, step_filter}
 use Rattle.template_names.proofs.ItemsSeen.{working_seen}
-use Rattle.template_names.proofs.SilentQueries.{SilentPart, SilentSelect, SilentOver, select_refers, selects_silent}
+use Rattle.template_names.proofs.SilentQueries.{SilentPart, SilentOver, select_refers, selects_silent}
 use Rattle.template_names.proofs.SilentTrees.{none_named, widened}
 use Rattle.template_names.proofs.TableNamed.{plain_tables, sees_plain, extends_plain, working_refers, terms_of_file}
 use Rattle.template_names.proofs.TreesClear.{table_clears}
@@ -109,8 +101,8 @@ module _ (schema : Schema) (m : Making) (narrow : length m.tail.columns < 2 ^ 64
       }
 
 pub table_named_once : TableIsNamedOnce
-table_named_once placed schema written f slots g z a r q checked columned templated fits =
+table_named_once schema written f slots g z a r q checked columned templated fits =
     let m : Making = making_of f slots z a r in
-    let clears : TableClears schema m.table = table_clears placed schema written f slots checked in
+    let clears : TableClears schema m.table = table_clears schema written f slots checked in
     named_once schema m fits.columns g.entry (start_clear schema m clears fits.columns (plain_tables schema) (sees_plain schema) g.entry)
     (rows_clear schema m clears fits.columns (plain_tables schema) (sees_plain schema) slots z.names columned.as_many columned.each templated.trees fits)

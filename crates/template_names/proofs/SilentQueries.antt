@@ -1,5 +1,5 @@
 -- Lists, FROM, selects and queries with names again that don't name the recursive table, by their parts.
-use Rattle.std.proofs.Common.{◌≡◌, refl, ap, sym, subst, ◌∙◌, Bool, true, false, List, [], ◌∷◌, ◌++◌, map, fold, Option, Some, None, option_map}
+use Rattle.std.proofs.Common.{◌≡◌, refl, ap, sym, subst, ◌∙◌, Bool, false, List, [], ◌∷◌, ◌++◌, map, fold, Option, Some, None, option_map}
 use Rattle.std.specs.Prelude.{is_some}
 use Rattle.away_trees.specs.declared.queries.Expr.{Expr}
 use Rattle.away_trees.specs.declared.queries.Source.{Source}
@@ -25,7 +25,7 @@ use Rattle.away_names.specs.declared.scope.Listed.{Listed}
 use Rattle.away_names.specs.Lookups.{Name, Level, Scope, inside, has_double}
 use Rattle.away_names.specs.Naming as n
 use Rattle.away_names.specs.Notes.{clean, joined, summed, breaks, mapped, also, each, held}
-use Rattle.away_names.specs.Trees.{named_expr, named_item, named_key, named_part, named_select, named_query, last_of, alone_of}
+use Rattle.away_names.specs.Trees.{named_expr, named_item, named_key, named_part, named_select, named_query, alone_of}
 use Rattle.away_names.specs.NamingLists.{named_in, named_items, named_key_in, named_from, named_selects, named_over}
 use Rattle.away_names.proofs.NamingRules as r
 use Rattle.dotted_names.specs.Sight.{Sight}

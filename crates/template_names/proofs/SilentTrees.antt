@@ -1,5 +1,5 @@
 -- A tree that is clear over tables none of which is recursive is clear over more tables too, and names no recursive one there.
-use Rattle.std.proofs.Common.{◌≡◌, refl, false, List, Option, Some, None}
+use Rattle.std.proofs.Common.{◌≡◌, false, Option, Some}
 use Rattle.away_names.specs.declared.scope.Listed.{Listed}
 use Rattle.away_names.specs.Lookups.{Name, Scope}
 use Rattle.dotted_names.specs.Unambiguous as c

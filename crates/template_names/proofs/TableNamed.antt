@@ -1,5 +1,5 @@
 -- The query of a checked function names its recursive table never in its first term, and once in its second.
-use Rattle.std.proofs.Common.{◌≡◌, refl, ap, sym, ◌∙◌, subst, ℕ, suc, ◌+◌, ◌<◌, ◌≤◌, ◌^◌, Bool, true, false, if◌then◌else◌, List, [], ◌∷◌, ◌++◌, map, length, decimal, Option, Some, None, option_map, arith}
+use Rattle.std.proofs.Common.{◌≡◌, refl, ap, sym, ◌∙◌, ℕ, ◌+◌, Bool, true, false, if◌then◌else◌, List, [], ◌∷◌, length, decimal, Option, Some, None, option_map}
 use Rattle.std.specs.Prelude.{bytes_eq}
 use Rattle.std.proofs.lemmas.Option.{same_Some}
 use Rattle.away_trees.specs.declared.queries.Expr.{Expr}
@@ -21,21 +21,21 @@ use Rattle.away_names.specs.declared.note.Origin.{Origin}
 use Rattle.away_names.specs.declared.note.Part.{Part}
 use Rattle.away_names.specs.declared.note.Shown.{Shown}
 use Rattle.away_names.specs.declared.note.Times.{Times}
-use Rattle.away_names.specs.declared.note.Times.TheVariants.{Never, Once}
+use Rattle.away_names.specs.declared.note.Times.TheVariants.{Once}
 use Rattle.away_names.specs.declared.scope.Listed.{Listed}
 use Rattle.away_names.specs.Files.{file_of, file}
-use Rattle.away_names.specs.Lookups.{Name, Level, Scope, inside, table_before, has_double, is_kept}
+use Rattle.away_names.specs.Lookups.{Name, Level, Scope, table_before, has_double, is_kept}
 use Rattle.away_names.specs.Naming as n
 use Rattle.away_names.specs.NamingLists.{named_selects}
 use Rattle.away_names.specs.Notes.{joined, summed, breaks, mapped, also}
-use Rattle.away_names.specs.Tables.{listed, found_from, table_of, outermost}
+use Rattle.away_names.specs.Tables.{listed, found_from, table_of}
 use Rattle.away_names.specs.Trees.{named_part, named_select}
 use Rattle.away_names.proofs.NamingRules as r
-use Rattle.dotted_names.specs.Trees.{dotted, dotted_part, dotted_recursive, dotted_select, dotted_selects, dotted_from}
+use Rattle.dotted_names.specs.Trees.{dotted, dotted_part, dotted_recursive, dotted_select, dotted_selects}
 use Rattle.dotted_names.proofs.DottingRules as d
 use Rattle.template_parts.specs.Names.{table_name, row_names}
 use Rattle.template_parts.specs.Trees.{working}
-use Rattle.template_names.specs.Given.{SeesTables}
+use Rattle.placed_names.specs.Own.{SeesTables}
 use Rattle.template_names.proofs.BranchesClear.{under}
 use Rattle.template_names.proofs.FilesClear.{beside_working, sees_beside}
 use Rattle.template_names.proofs.Silence.{part_silent, written_silent}

@@ -1,0 +1,11 @@
+pub mod Refined
+pub mod Further
+pub mod Folded
+pub mod Standing
+pub mod PlacedParts
+pub mod PlacedSelects
+pub mod PlacedTrees
+pub mod OwnLeaves
+pub mod ReadSlots
+pub mod Sources
+pub mod Entries
