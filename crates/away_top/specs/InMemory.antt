@@ -1,4 +1,4 @@
--- What `compile`, `certify`, `demo`, `sql` and `fn` answer over files and a sink in memory that are to meet no failure.
+-- What `compile`, `certify`, `check`, `demo`, `sql` and `fn` answer over files and a sink in memory that are to meet no failure.
 use Rattle.std.specs.Prelude.{◌≡◌, ◌⊎◌, ℕ, ◌≤◌, List, [], ◌∷◌, ◌++◌, length, codes, Ok, Some, IsSome}
 use Rattle.std.specs.List.{AllByRecursion}
 use Rattle.away_trees.specs.declared.schemas.TableSchema.{TableSchema}
@@ -11,11 +11,16 @@ use Rattle.csv_tables.specs.Files.{rows_in}
 use Rattle.sql_meaning.specs.Context.{Rows}
 use Rattle.away_top.specs.declared.compile.Wanted.{Wanted}
 use Rattle.away_top.specs.CompileCourse.{command_of}
+use Rattle.stage_check.specs.declared.verdict.Verdict.{Verdict}
 use Rattle.away_top.specs.Arguments.{bound_of, values_for, values_of}
+use Rattle.away_top.specs.Certificates.{IsCert, RefusesCert}
+use Rattle.away_top.specs.CheckCourse.{IsVerdict, verdict_line, verdict_status}
 use Rattle.away_top.specs.DemoCourse.{IsShown}
+use Rattle.away_top.specs.Files.{callable_of}
 use Rattle.away_top.specs.FunctionAnswers.{IsCalled}
 use Rattle.away_top.specs.QueryAnswers.{Held, IsAnswer, IsAnswered}
 use Rattle.away_top.specs.Refusals.{IsFunction, IsQuery, IsSchema, RefusesFunction, RefusesQuery, RefusesSchema}
+use Rattle.away_top.specs.SqlCourse.{asked_of}
 use Rattle.away_top.specs.TableFiles.{table_file}
 use Rattle.away_top.specs.Translation.{IsTranslation}
 
@@ -129,3 +134,42 @@ Called files before after result bound schema func dir args =
     ⊎ ((status : Status) × (output : List ℕ) × IsAnswer status
     × IsCalled (held_at files.held) bound schema func dir args status output
     × (length output ≤ before.room → IsTold before after result status output))
+
+-- ---- check
+
+-- a query's file is within its limit, and over the schema of these bytes no rule refuses it
+pub record IsFitAsked (tables bytes : List ℕ) : Type 0 where
+  pub short : length bytes ≤ 67108864
+  pub unrefused : (s : IsSchema tables) (rule : List ℕ) → ¬ (RefusesQuery s.schema bytes rule)
+
+-- a certificate's file is within its limit, and no rule refuses it
+pub record IsFitCert (bytes : List ℕ) : Type 0 where
+  pub short : length bytes ≤ 67108864
+  pub unrefused : (rule : List ℕ) → ¬ (RefusesCert bytes rule)
+
+-- The four files behind `check` are held and fit, and no read is to fail.
+pub record MayCheck (files : HeldFiles) (schema func query cert tables function asked forms : List ℕ) : Type 0 where
+  pub holds_schema : held_at files.held schema ≡ Some tables
+  pub holds_function : held_at files.held func ≡ Some function
+  pub holds_query : held_at files.held query ≡ Some asked
+  pub holds_cert : held_at files.held cert ≡ Some forms
+  pub fit_schema : IsFitSchema tables
+  pub fit_function : IsFitFunction tables function
+  pub fit_query : IsFitAsked tables asked
+  pub fit_cert : IsFitCert forms
+  pub no_failure : files.fails ≡ []
+
+-- the verdict on what these bytes read as, and what it promises
+pub record HasVerdict (tables function asked forms : List ℕ) (v : Verdict) : Type 0 where
+  pub schema : IsSchema tables
+  pub called : IsFunction schema.schema function
+  pub query : IsQuery schema.schema asked
+  pub certificate : IsCert forms
+  pub verdict : IsVerdict schema.schema (callable_of schema.schema called.written) (asked_of schema.schema query.written) certificate.cert v
+
+-- Memory was wanting, or there is the verdict that the call tells, where the room holds its line.
+abbrev pub Judged : RoomySink → RoomySink → Status → List ℕ → List ℕ → List ℕ → List ℕ → Type 0
+Judged before after result tables function asked forms =
+    (result ≡ NoMemory)
+    ⊎ ((v : Verdict) × HasVerdict tables function asked forms v
+    × (length (verdict_line v) ≤ before.room → IsTold before after result (verdict_status v) (verdict_line v)))

@@ -3,15 +3,15 @@
 ghost use Rattle.std.specs.Prelude.{◌≡◌, ℕ, IsSome, List, [], ◌∷◌, codes, map, string_bytes};
 ghost use Rattle.away_top.specs.declared.compile.Wanted.{Wanted};
 ghost use Rattle.away_top.specs.Arguments.{bound_of};
-ghost use Rattle.away_top.specs.InMemory.{Answered, Called, MayAnswer, MayCall, MayCompile, Shown, Translated};
+ghost use Rattle.away_top.specs.InMemory.{Answered, Called, Judged, MayAnswer, MayCall, MayCheck, MayCompile, Shown, Translated};
 
 use crate::{MemoryFiles, MemorySink, Status, away};
 use std::alloc::Global;
 
 /// Runs `away` over files and a sink in memory. Where the words are those of `compile` or `certify`, the files that they name are
 /// held and fit, and no read or write is to fail, only want of memory or of room is in the way of a translation. Where they are
-/// those of `sql`, the same is so of the answer of its query, and where they are those of `fn`, of that of its function. Where they
-/// are `demo` and a number, it is so of a summary of that case.
+/// those of `check`, the same is so of the verdict on its files, where they are those of `sql`, of the answer of its query, and where
+/// they are those of `fn`, of that of its function. Where they are `demo` and a number, it is so of a summary of that case.
 pub fn away_in_memory(
     alloc: Global,
     words: &[String],
@@ -21,6 +21,10 @@ pub fn away_in_memory(
     ensures compile { (wanted : Wanted) (tables function : List ℕ)
         → MayCompile files.old wanted (map string_bytes words.now) tables function
         → out.old.fails ≡ [] → Translated wanted out.old out.new result tables function }
+    ensures check { (schema func query cert tables function asked forms : List ℕ)
+        → map string_bytes words.now ≡ codes "check" ∷ schema ∷ func ∷ query ∷ cert ∷ []
+        → MayCheck files.old schema func query cert tables function asked forms → out.old.fails ≡ []
+        → Judged out.old out.new result tables function asked forms }
     ensures demo { (word : List ℕ) → map string_bytes words.now ≡ codes "demo" ∷ word ∷ [] → IsSome (bound_of word)
         → out.old.fails ≡ [] → Shown out.old out.new result word }
     ensures query { (bound schema query dir : List ℕ) (args : List (List ℕ))

@@ -1,5 +1,6 @@
 use Rattle.std.proofs.Common.{map, string_bytes}
 use Rattle.away_top.proofs.CallsInMemory as calls
+use Rattle.away_top.proofs.ChecksInMemory as checks
 use Rattle.away_top.proofs.DemosInMemory as demos
 use Rattle.away_top.proofs.InMemory.{all_safe, translated}
 use Rattle.away_top.proofs.QueriesInMemory as queries
@@ -10,6 +11,13 @@ returns-clause-compile c = λ wanted tables function may none.
     let a = c.away.ensures.answer in
     translated c.args.files.now wanted c.args.out.now c.away.new.out (map string_bytes c.args.words.now) a.text tables function c.away.result _ (λ status output whole. (whole.status_is, whole.written)) may none
     (a.complete (all_safe c.args.files.now wanted (map string_bytes c.args.words.now) a.text tables function may))
+
+pub returns-clause-check : goal.returns-clause-check
+returns-clause-check c = λ schema func query cert tables function asked forms is may none.
+    let a = c.away.ensures.answer in
+    checks.judged c.args.files.now schema func query cert tables function asked forms may c.args.out.now c.away.new.out (map string_bytes c.args.words.now) a.text c.away.result _
+    (λ status output whole. (whole.status_is, whole.written)) is none
+    (a.complete (checks.all_safe c.args.files.now schema func query cert tables function asked forms may (map string_bytes c.args.words.now) a.text is))
 
 pub returns-clause-demo : goal.returns-clause-demo
 returns-clause-demo c = λ word is spells none.
