@@ -3,12 +3,11 @@ use Rattle.std.proofs.Common.{◌≤◌, ◌≡◌, ◌⊎◌, ℕ, zero, suc, �
 use Rattle.std.proofs.lemmas.Option.{slice_get_within}
 use Rattle.std.specs.List.{filter}
 use Rattle.ssa_build.specs.declared.full.FullForm.{FullForm}
-use Rattle.ssa_build.specs.declared.joins.Join.{Join}
 use Rattle.ssa_build.specs.declared.layout.Layout.{Layout}
 use Rattle.ssa_build.specs.Forms.{Block, Phi, Ssa, SsaBlock}
 use Rattle.ssa_build.specs.FullForms.{IsFullForm, after, live_in, phi_name, set_name}
 use Rattle.ssa_build.specs.FullJoins.{block_joins, joins_below, slot_join}
-use Rattle.ssa_build.specs.Joins.{Merged, WellFormed}
+use Rattle.ssa_build.specs.Joins.{Join, Merged, WellFormed}
 use Rattle.block_forms.specs.Places.{In}
 use Rattle.ssa_build.specs.Lists.{count_from}
 use Rattle.ssa_build.specs.Maximal.{full_block, full_phi, full_phis, numbered}

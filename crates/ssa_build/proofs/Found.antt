@@ -1,7 +1,6 @@
 -- What the operands so far tell.
 use Rattle.std.proofs.Common.{◌≡◌, ◌≢◌, ◌⊎◌, ℕ, ◌+◌, ◌<◌, List, length, get_or, Option, Some, None, sym, ap, ◌∙◌, subst, inl, inr, arith}
-use Rattle.ssa_build.specs.declared.joins.Join.{Join}
-use Rattle.ssa_build.specs.Joins.{IsRoot, JoinsAtMost, walk}
+use Rattle.ssa_build.specs.Joins.{IsRoot, Join, JoinsAtMost, walk}
 use Rattle.ssa_build.proofs.Lists.{compared}
 
 abbrev pub at_most : List ℕ → ℕ → Join → ℕ → ℕ → Type 0

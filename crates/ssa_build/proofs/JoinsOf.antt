@@ -1,6 +1,6 @@
 -- The joins of a form: its φs without their blocks.
 use Rattle.std.specs.Prelude.{◌≡◌, ℕ, List, map, slice_get, Some}
-use Rattle.ssa_build.specs.declared.joins.Join.{Join}
+use Rattle.ssa_build.specs.Joins.{Join}
 use Rattle.ssa_build.specs.Forms.{Phi, Ssa, SsaBlock}
 use Rattle.block_forms.specs.Places.{In}
 use Rattle.ssa_build.proofs.Naming.{Sets}

@@ -12,6 +12,7 @@ mod Walks
 mod Found
 mod Merge
 mod Settle
+mod Visited
 mod Sweep
 mod Counting
 mod Edges
@@ -25,6 +26,7 @@ mod Closing
 mod Ordered
 mod NamesApart
 mod LoopLists
+mod JoinPlaces
 mod Built
 mod Placing
 mod Same

@@ -2,9 +2,8 @@
 use Rattle.std.proofs.Common.{◌≡◌, ◌≢◌, ◌⊎◌, ℕ, ◌<◌, ◌≤◌, List, length, get_or, slice_get, Some, sym, ap, ◌∙◌, subst, inl, inr, arith}
 use Rattle.std.proofs.lemmas.Option.{slice_get-get_or, slice_get_within, get_or_from_slice_get}
 use Rattle.std.proofs.lemmas.List.{get_or_past, get_or_default}
-use Rattle.ssa_build.specs.declared.joins.Join.{Join}
 use Rattle.ssa_build.specs.Forms.{Block, Phi, Ssa, SsaBlock}
-use Rattle.ssa_build.specs.Joins.{IsRoot, Merged, WellFormed}
+use Rattle.ssa_build.specs.Joins.{IsRoot, Join, Merged, WellFormed}
 use Rattle.block_forms.specs.Places.{In}
 use Rattle.ssa_build.specs.Merging.{is_end, replacing}
 use Rattle.block_forms.specs.Trivial.{HasNoTrivial}

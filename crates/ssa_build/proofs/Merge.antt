@@ -1,8 +1,7 @@
 -- One more merge of joins.
 use Rattle.std.proofs.Common.{◌≡◌, ◌≢◌, ◌⊎◌, ℕ, suc, ◌<◌, if◌then◌else◌, List, length, get_or, set, slice_get, Some, nat_eq, refl, sym, ap, ◌∙◌, subst, inl, inr, get_or-set_same, get_or-set_other}
 use Rattle.std.proofs.lemmas.List.{length-set}
-use Rattle.ssa_build.specs.declared.joins.Join.{Join}
-use Rattle.ssa_build.specs.Joins.{IsReduced, IsRoot, IsWithin, JoinsAtMost, Merged, Merging, WellFormed, walk}
+use Rattle.ssa_build.specs.Joins.{IsReduced, IsRoot, IsWithin, Join, JoinsAtMost, Merged, Merging, WellFormed, walk}
 use Rattle.ssa_build.proofs.Lists.{compared, some_same, tests_other, tests_same}
 use Rattle.ssa_build.proofs.Walks.{walk_merged, walk_root, walk_within}
 

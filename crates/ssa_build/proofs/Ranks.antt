@@ -28,6 +28,7 @@ pub record Numbered (slots into numbers names : List ℕ) (i : ℕ) : Type 0 whe
   pub first : (n : ℕ) → n < i → ((k : ℕ) → k < n → IsRoot into k) → get_or numbers n 0 ≡ n
   pub all : ((k : ℕ) → k < i → IsRoot into k) → length names ≡ i
   pub source : (k : ℕ) → k < length names → (n : ℕ) × (n < i) × (get_or names k 0 ≡ get_or slots n 0)
+  pub used : (k : ℕ) → k < length names → (n : ℕ) × (n < i) × IsRoot into n × (get_or numbers n 0 ≡ k)
 
 pub numbered_none : (slots into : List ℕ) → Numbered slots into [] [] 0
 numbered_none slots into = record {
@@ -38,6 +39,7 @@ numbered_none slots into = record {
   first = λ n h. absurd (let no : ⊥ = omega (arith, h) in no);
   all = λ h. refl;
   source = λ k h. absurd (let no : ⊥ = omega (arith, h) in no);
+  used = λ k h. absurd (let no : ⊥ = omega (arith, h) in no);
 }
 
 module _ (slots into numbers names : List ℕ) (i : ℕ) (so : Numbered slots into numbers names i) where
@@ -85,6 +87,7 @@ module _ (slots into numbers names : List ℕ) (i : ℕ) (so : Numbered slots in
     first = firsts;
     all = λ all. absurd (no_root (all i (omega arith)));
     source = λ k h. let q = so.source k h in (q.0, (let lt = q.1 in omega (arith, lt)), q.2);
+    used = λ k h. let q = so.used k h in (q.0, (let lt = q.1 in omega (arith, lt)), q.2, old q.0 q.1 ∙ q.3);
   }
 
   abbrev more : List ℕ
@@ -99,6 +102,7 @@ module _ (slots into numbers names : List ℕ) (i : ℕ) (so : Numbered slots in
     first = firsts;
     all = λ all. one_longer names (get_or slots i 0) ∙ (let q = so.all (λ k lt. all k (omega (arith, lt))) in let e : suc (length names) ≡ i + 1 = omega (arith, q) in e);
     source = λ k h. source_of k h (compared k (length names));
+    used = λ k h. used_of k h (compared k (length names));
   }
     where
       long : length more ≡ suc (length names)
@@ -118,6 +122,10 @@ module _ (slots into numbers names : List ℕ) (i : ℕ) (so : Numbered slots in
       source_of k h (inl e) = (i, omega arith, at_new names (get_or slots i 0) k e)
       source_of k h (inr differ) = let lt : k < length names = omega (arith, h, long, differ) in let q = so.source k lt in (q.0, (let l = q.1 in omega (arith, l)), at_old names (get_or slots i 0) k lt ∙ q.2)
 
+      used_of : (k : ℕ) → k < length more → (k ≡ length names) ⊎ (k ≡ length names → ⊥) → (n : ℕ) × (n < i + 1) × IsRoot into n × (get_or now n 0 ≡ k)
+      used_of k h (inl e) = (i, omega arith, root, new ∙ sym e)
+      used_of k h (inr differ) = let lt : k < length names = omega (arith, h, long, differ) in let q = so.used k lt in (q.0, (let l = q.1 in omega (arith, l)), q.2, old q.0 q.1 ∙ q.3)
+
 pub numbers_all : (slots into numbers names : List ℕ) (i : ℕ) → i ≡ length into → Numbered slots into numbers names i → Numbers slots into numbers names
 numbers_all slots into numbers names i e so = record {
   sized = so.sized ∙ e;
@@ -125,4 +133,5 @@ numbers_all slots into numbers names i e so = record {
   rising = λ n m h g. so.rising n m h (subst (λ v. m < v) (sym e) g);
   first = λ n h. so.first n (subst (λ v. n < v) (sym e) h);
   source = λ k h. let q = so.source k h in (q.0, subst (λ v. q.0 < v) e q.1, q.2);
+  used = λ k h. let q = so.used k h in (q.0, subst (λ v. q.0 < v) e q.1, q.2, q.3);
 }

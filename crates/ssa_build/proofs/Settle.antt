@@ -1,19 +1,11 @@
 -- What a try at a join gives.
 use Rattle.std.proofs.Common.{◌≡◌, ◌≢◌, ℕ, suc, ◌+◌, ◌<◌, true, List, length, get_or, set, slice_get, Some, sym, ap, ◌∙◌, subst, inl, inr, arith}
-use Rattle.std.proofs.lemmas.Option.{slice_get-get_or}
-use Rattle.ssa_build.specs.declared.joins.Join.{Join}
-use Rattle.ssa_build.specs.Joins.{Merging, Settled, Tells, WellFormed, roots, walk}
+use Rattle.ssa_build.specs.Joins.{Join, Merging, Settled, Tells, WellFormed, roots, walk}
 use Rattle.ssa_build.proofs.Merge.{merge_more}
 use Rattle.ssa_build.proofs.Walks.{roots_set}
 use Rattle.ssa_build.specs.declared.joins.Found.TheVariants.{One, Itself}
 
-pub at_index : (joins : List Join) (i : ℕ) (j : Join) → i < length joins → j ≡ get_or joins i j → slice_get joins i ≡ Some j
-at_index joins i j lt e = slice_get-get_or joins i j lt ∙ ap Some (sym e)
-
-module _ (slots : List ℕ) (joins : List Join) (into : List ℕ) (merges : ℕ) (formed : WellFormed slots joins) (merging : Merging slots joins into merges) (i : ℕ) (j : Join) (lt : i < length joins) (is : j ≡ get_or joins i j) (root : get_or into j.name 0 ≡ j.name) where
-  at : slice_get joins i ≡ Some j
-  at = at_index joins i j lt is
-
+module _ (slots : List ℕ) (joins : List Join) (into : List ℕ) (merges : ℕ) (formed : WellFormed slots joins) (merging : Merging slots joins into merges) (i : ℕ) (j : Join) (at : slice_get joins i ≡ Some j) (root : get_or into j.name 0 ≡ j.name) where
   name_in : j.name < length into
   name_in = subst (λ v. j.name < v) (sym merging.sized) (formed.name i j at)
 

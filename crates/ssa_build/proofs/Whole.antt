@@ -4,13 +4,12 @@ use Rattle.block_forms.specs.Lowered.{BlockBelow, NoWayTo, end_leads}
 use Rattle.block_forms.specs.Named.{Named, leads}
 use Rattle.block_forms.specs.Places.{Each}
 use Rattle.ssa_build.specs.declared.full.FullForm.{FullForm}
-use Rattle.ssa_build.specs.declared.joins.Join.{Join}
 use Rattle.ssa_build.specs.declared.layout.Layout.{Layout}
 use Rattle.block_forms.specs.Leading.{LeadsWithin}
 use Rattle.ssa_build.specs.Forms.{Block, Goto, Ssa, SsaBlock}
 use Rattle.ssa_build.specs.FullForms.{IsFullForm, live_in}
 use Rattle.ssa_build.specs.FullJoins.{joins_below}
-use Rattle.ssa_build.specs.Joins.{Merged, WellFormed}
+use Rattle.ssa_build.specs.Joins.{Join, Merged, WellFormed}
 use Rattle.block_forms.specs.Live.{Live, OnlyParametersLive}
 use Rattle.ssa_build.specs.Numbers.{Numbers}
 use Rattle.block_forms.specs.Trivial.{HasNoTrivial}

@@ -1,8 +1,13 @@
 -- Names that are merged, each entry leading to the next: joins of names are φs without their blocks.
 use Rattle.std.specs.Prelude.{◌≡◌, ◌≢◌, ◌⊎◌, ℕ, zero, suc, ◌+◌, ◌<◌, ◌≤◌, Bool, true, false, List, [], ◌∷◌, length, get_or, slice_get, Some, nat_eq}
-use Rattle.ssa_build.specs.declared.joins.Join.{Join}
 use Rattle.ssa_build.specs.declared.joins.Found.{Found}
 use Rattle.ssa_build.specs.declared.joins.Found.TheVariants.{Several, One, Itself}
+
+-- a name that joins others; the spare name stands for it where it joins itself alone
+pub record Join : Type 0 where
+  pub name : ℕ
+  pub spare : ℕ
+  pub operands : List ℕ
 
 -- from a name along its entries
 abbrev pub walk : List ℕ → ℕ → ℕ → ℕ

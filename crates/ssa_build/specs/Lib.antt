@@ -8,8 +8,9 @@ pub mod Names
 pub mod Sources
 pub mod Maximal
 pub mod FullForms
-pub mod FullJoins
 pub mod Joins
+pub mod FullJoins
+pub mod JoinPlaces
 pub mod Merging
 pub mod Numbers
 pub mod Output

@@ -13,7 +13,8 @@ use crate::full::full_form;
 use crate::joins::merge_joins;
 use crate::layout::Layout;
 use crate::numbers::number_roots;
-use crate::phis::full_joins;
+use crate::phis::full_places;
+use crate::places::Joins;
 use crate::renames::Renaming;
 use crate::writing::new_blocks;
 use away_types::CheckedFunction;
@@ -40,8 +41,13 @@ pub(crate) fn build_form(alloc: Global, layout: Layout, g: &Goto) -> Result<Ssa,
 {
     let goto_blocks = g.blocks.as_slice();
     let full = full_form(alloc, layout, goto_blocks)?;
-    let joins = full_joins(alloc, &full, goto_blocks)?;
-    let into = merge_joins(alloc, &full.names.slots, &joins)?;
+    let places = full_places(alloc, &full)?;
+    let joins = Joins {
+        full: &full,
+        blocks: goto_blocks,
+        places: &places,
+    };
+    let into = merge_joins(alloc, &joins)?;
     let numbering = number_roots(alloc, &full.names.slots, &into)?;
     let renaming = Renaming {
         full: &full,

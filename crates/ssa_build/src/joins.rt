@@ -1,18 +1,13 @@
 //! Joins that join one name only are merged into it.
 
 ghost use Rattle.std.specs.Prelude.{◌≡◌, ℕ, ◌+◌, ◌^◌, ◌<◌, ◌≤◌, length, get_or, IfOk};
-ghost use Rattle.ssa_build.specs.Joins.{IsRoot, IsWithin, Merged, Merging, Settled, Swept, Tells, WellFormed, roots, walk};
+ghost use Rattle.ssa_build.specs.FullJoins.{join_at};
+ghost use Rattle.ssa_build.specs.JoinPlaces.{AreJoins, IsPlace, joins_of, names_of};
+ghost use Rattle.ssa_build.specs.Joins.{IsRoot, IsWithin, Merged, Merging, Settled, Swept, Tells, roots, walk};
 
-use sqlite_items::Items;
+use crate::full::{name_after, phi_name};
+use crate::places::{Joins, Place};
 use std::alloc::{AllocError, Global};
-
-/// A name that joins others; the spare name stands for it where it joins itself alone.
-#[derive(Drop)]
-pub(crate) struct Join {
-    pub(crate) name: u32,
-    pub(crate) spare: u32,
-    pub(crate) operands: Items<u32>,
-}
 
 /// What a join joins besides itself.
 #[derive(Clone, Copy)]
@@ -39,17 +34,22 @@ pub(crate) fn root(into: &[u32], merges: usize, name: u32) -> u32
     at
 }
 
-/// What a join joins besides itself, as far as names are merged.
-pub(crate) fn joined_names(into: &[u32], merges: usize, join: &Join) -> Found
+/// What the join at a place joins besides itself, as far as names are merged.
+pub(crate) fn joined_names(joins: &Joins<'_>, place: Place, into: &[u32], merges: usize) -> Found
+    requires are { AreJoins joins.now }
+    requires place_in { IsPlace joins.now.full.now.layout place }
     requires within { IsWithin into.now }
     requires rooted { (n : ℕ) → n < length into.now → IsRoot into.now (walk into.now merges n) }
-    requires operands { (k : ℕ) → k < length join.now.operands → get_or join.now.operands k 0 < length into.now }
-    ensures { Tells into.now merges join.now result }
+    requires operands { (k : ℕ) → k < length (join_at joins.now.full.now joins.now.blocks.now place).operands → get_or (join_at joins.now.full.now joins.now.blocks.now place).operands k 0 < length into.now }
+    ensures { Tells into.now merges (join_at joins.now.full.now joins.now.blocks.now place) result }
 {
+    let block = place.block as usize;
+    let joined = phi_name(joins.full, block, place.slot as usize);
     let mut only: Option<u32> = None;
-    for operand in join.operands.as_slice() {
-        let name = root(into, merges, *operand);
-        if name != join.name {
+    for source in joins.full.sources[block].as_slice() {
+        let operand = name_after(joins.full, joins.blocks, *source as usize, place.slot);
+        let name = root(into, merges, operand);
+        if name != joined {
             match only {
                 None => only = Some(name),
                 Some(m) => {
@@ -67,65 +67,80 @@ pub(crate) fn joined_names(into: &[u32], merges: usize, join: &Join) -> Found
 }
 
 /// Merges a join that joins one name only into that name, and says whether it did.
-pub(crate) fn settle(
-    slots: &[u32],
-    joins: &[Join],
-    at: usize,
-    into: &mut [u32],
-    merges: usize,
-) -> bool
-    requires formed { WellFormed slots.now joins.now }
-    requires merging { Merging slots.now joins.now into.old merges }
-    requires here { at < length joins.now }
-    ensures { Settled slots.now joins.now at into.old into.new merges result }
+pub(crate) fn settle(joins: &Joins<'_>, at: usize, into: &mut [u32], merges: usize) -> bool
+    requires are { AreJoins joins.now }
+    requires merging { Merging (names_of joins.now) (joins_of joins.now) into.old merges }
+    requires here { at < length joins.now.places.now }
+    ensures { Settled (names_of joins.now) (joins_of joins.now) at into.old into.new merges result }
 {
-    let join = &joins[at];
-    if into[join.name as usize] != join.name {
+    let place = joins.places[at];
+    let name = phi_name(joins.full, place.block as usize, place.slot as usize);
+    if into[name as usize] != name {
         return false;
     }
-    match joined_names(into, merges, join) {
+    match joined_names(joins, place, into, merges) {
         Found::Several => false,
         Found::One(m) => {
-            into[join.name as usize] = m;
+            into[name as usize] = m;
             true
         }
         Found::Itself => {
-            into[join.name as usize] = join.spare;
+            into[name as usize] = place.slot;
             true
         }
     }
 }
 
-/// Tries each join once; the answer is the number of merges then.
-pub(crate) fn sweep(slots: &[u32], joins: &[Join], into: &mut [u32], merges: usize) -> usize
-    requires formed { WellFormed slots.now joins.now }
-    requires merging { Merging slots.now joins.now into.old merges }
+/// Tries each join once, from the first to the last; the answer is the number of merges then.
+pub(crate) fn sweep(joins: &Joins<'_>, into: &mut [u32], merges: usize) -> usize
+    requires are { AreJoins joins.now }
+    requires merging { Merging (names_of joins.now) (joins_of joins.now) into.old merges }
     requires room { roots into.old 0 + merges ≤ length into.old }
-    ensures { Swept slots.now joins.now into.old into.new merges result }
+    ensures { Swept (names_of joins.now) (joins_of joins.now) into.old into.new merges result }
 {
     let mut count = merges;
-    for at in 0..joins.len() {
-        if settle(slots, joins, at, into, count) {
+    for at in 0..joins.places.len() {
+        if settle(joins, at, into, count) {
             count += 1;
         }
     }
     count
 }
 
-/// Merges joins until none that is left joins one name only.
-pub(crate) fn merge_all(slots: &[u32], joins: &[Join], into: &mut [u32]) -> usize
-    requires formed { WellFormed slots.now joins.now }
-    requires merging { Merging slots.now joins.now into.old 0 }
+/// Tries each join once, from the last to the first; the answer is the number of merges then.
+pub(crate) fn sweep_back(joins: &Joins<'_>, into: &mut [u32], merges: usize) -> usize
+    requires are { AreJoins joins.now }
+    requires merging { Merging (names_of joins.now) (joins_of joins.now) into.old merges }
+    requires room { roots into.old 0 + merges ≤ length into.old }
+    ensures { Swept (names_of joins.now) (joins_of joins.now) into.old into.new merges result }
+{
+    let many = joins.places.len();
+    let mut count = merges;
+    for done in 0..many {
+        if settle(joins, many - 1 - done, into, count) {
+            count += 1;
+        }
+    }
+    count
+}
+
+/// Merges joins, to and fro, until none that is left joins one name only.
+pub(crate) fn merge_all(joins: &Joins<'_>, into: &mut [u32]) -> usize
+    requires are { AreJoins joins.now }
+    requires merging { Merging (names_of joins.now) (joins_of joins.now) into.old 0 }
     requires room { roots into.old 0 ≤ length into.old }
-    ensures { Swept slots.now joins.now into.new into.new result result }
+    ensures { Swept (names_of joins.now) (joins_of joins.now) into.new into.new result result }
 {
     let mut merges = 0;
     loop {
-        let after = sweep(slots, joins, into, merges);
+        let after = sweep(joins, into, merges);
         if after == merges {
             return merges;
         }
-        merges = after;
+        merges = sweep_back(joins, into, after);
+        if merges == after {
+            return merges;
+        }
     }
 }
 
@@ -142,19 +157,16 @@ pub(crate) fn separate(alloc: Global, count: usize) -> Result<Vec<u32>, AllocErr
 }
 
 /// Each name leads to the one that it is merged into, and no join that is left joins one name only.
-pub(crate) fn merge_joins(
-    alloc: Global,
-    slots: &[u32],
-    joins: &[Join],
-) -> Result<Vec<u32>, AllocError>
-    requires formed { WellFormed slots.now joins.now }
-    requires short { length slots.now < 2 ^ 32 }
-    ensures { IfOk result (λ v. Merged slots.now joins.now v.items) }
+pub(crate) fn merge_joins(alloc: Global, joins: &Joins<'_>) -> Result<Vec<u32>, AllocError>
+    requires are { AreJoins joins.now }
+    requires short { length (names_of joins.now) < 2 ^ 32 }
+    ensures { IfOk result (λ v. Merged (names_of joins.now) (joins_of joins.now) v.items) }
 {
-    let mut into = separate(alloc, slots.len())?;
-    let merges = merge_all(slots, joins, &mut into);
+    let count = joins.full.names.slots.len();
+    let mut into = separate(alloc, count)?;
+    let merges = merge_all(joins, &mut into);
     let mut whole = Vec::new(alloc);
-    for name in 0..slots.len() {
+    for name in 0..count {
         whole.push(root(&into, merges, name as u32))?;
     }
     Ok(whole)

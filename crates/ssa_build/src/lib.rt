@@ -10,6 +10,7 @@ mod names;
 mod numbers;
 mod output;
 mod phis;
+mod places;
 mod renames;
 mod sources;
 mod tables;

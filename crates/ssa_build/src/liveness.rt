@@ -53,7 +53,7 @@ pub(crate) fn lives_at(block: &Block, table: &[bool], slot: u32) -> bool
     }
 }
 
-/// Marks the blocks at which the slot is live by what is marked; the answer is their number.
+/// Marks the blocks at which the slot is live by what is marked, from the last to the first; the answer is their number.
 pub(crate) fn widen(blocks: &[Block], table: &mut [bool], slot: u32) -> usize
     requires sized { length table.old ≡ length blocks.now }
     requires only { OnlyLive blocks.now slot table.old }
@@ -63,6 +63,22 @@ pub(crate) fn widen(blocks: &[Block], table: &mut [bool], slot: u32) -> usize
     let count = blocks.len();
     for done in 0..count {
         let at = count - 1 - done;
+        if !table[at] && lives_at(&blocks[at], table, slot) {
+            table[at] = true;
+            added += 1;
+        }
+    }
+    added
+}
+
+/// Marks the blocks at which the slot is live by what is marked, from the first to the last; the answer is their number.
+pub(crate) fn widen_forward(blocks: &[Block], table: &mut [bool], slot: u32) -> usize
+    requires sized { length table.old ≡ length blocks.now }
+    requires only { OnlyLive blocks.now slot table.old }
+    ensures { Widened blocks.now slot table.old table.new result }
+{
+    let mut added = 0;
+    for at in 0..blocks.len() {
         if !table[at] && lives_at(&blocks[at], table, slot) {
             table[at] = true;
             added += 1;
@@ -82,7 +98,7 @@ pub(crate) fn unmarked_table(alloc: Global, count: usize) -> Result<Vec<bool>, A
     Ok(table)
 }
 
-/// Marks blocks until all are marked at which the slot is live.
+/// Marks blocks, to and fro, until all are marked at which the slot is live.
 pub(crate) fn widen_all(blocks: &[Block], table: &mut [bool], slot: u32)
     requires sized { length table.old ≡ length blocks.now }
     requires only { OnlyLive blocks.now slot table.old }
@@ -90,6 +106,9 @@ pub(crate) fn widen_all(blocks: &[Block], table: &mut [bool], slot: u32)
 {
     loop {
         if widen(blocks, table, slot) == 0 {
+            return;
+        }
+        if widen_forward(blocks, table, slot) == 0 {
             return;
         }
     }

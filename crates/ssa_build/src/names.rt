@@ -59,7 +59,7 @@ fn push_phis(
     ensures names { IfOk result (λ _. names.new.items ≡ names.old.items ++ names_of.phi_slots layout (live_by live.now) block layout.slots) }
     ensures row { IfOk result (λ row. row ≡ names_of.next_row layout (live_by live.now) block (length names.old.items)) }
 {
-    let mut row = Items::new(alloc);
+    let mut row = Items::from_vec(Vec::with_capacity(alloc, layout.slots)?);
     for slot in 0..layout.slots {
         row.push(names.len() as u32)?;
         if has_phi(layout, live, block, slot) {

@@ -1,9 +1,0 @@
-use Rattle.std.proofs.Common.{◌≡◌, ◌++◌, map}
-use Rattle.std.specs.List.{filter}
-use Rattle.ssa_build.specs.FullForms.{live_in}
-use Rattle.ssa_build.specs.FullJoins.{slot_join}
-use Rattle.ssa_build.specs.Lists.{count_from}
-use Rattle.ssa_build.proofs.phis.push_block_joins.Given as goal
-
-abbrev pub invariant-loop-slot : goal.invariant-loop-slot
-invariant-loop-slot l = l.joins.items ≡ l.initial.joins.items ++ map (slot_join l.full l.blocks l.block) (filter (live_in l.full l.block) (count_from 0 l.slot))
