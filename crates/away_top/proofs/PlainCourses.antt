@@ -213,7 +213,7 @@ plain_alone (word ∷ words) c p = plain_end Usage (line (codes "usage")) tt
 
 plain_shown : (o : Option ℕ) (text : List ℕ) → ArePlain (ShowsWord o text)
 plain_shown None text = plain_end Usage (line (codes "usage")) tt
-plain_shown (Some number) text status output (summary, is, e) = subst IsPlain (sym e.0) tt
+plain_shown (Some number) text = λ status output shown. subst IsPlain (sym shown.2.0) tt
 
 plain_one : (b : Bool) (E G : Status → List ℕ → Type 0) → ArePlain E → ArePlain G → ArePlain (either b E G)
 plain_one true E G p q = p
