@@ -1,6 +1,0 @@
-pub mod Labels
-pub mod Differences
-pub mod OwnNames
-pub mod OwnColumns
-pub mod ItemsSeen
-pub mod SmallParts
