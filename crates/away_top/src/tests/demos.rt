@@ -24,7 +24,7 @@ fn show_agreement(rt: &impl Abort, run: &Run) {
     let function = behind(output, b"function ").unwrap_or(b"");
     assert!(rt; function.starts_with(b"value "));
     assert_eq!(rt; behind(output, b"query ").unwrap_or(b""), function);
-    assert_ne!(rt; behind(output, b"iterations ").unwrap_or(b"more"), b"more");
+    assert_ne!(rt; behind(output, b"iterations ").unwrap_or(b"more"), b"more".as_slice());
 }
 
 #[test]
@@ -49,7 +49,7 @@ fn a_number_is_digits_of_64_bits(rt: HostRuntime) -> Result<(), Fail> {
     for word in ["18446744073709551616", "-1", "+1", "", "seven", " 7"] {
         let run = demo(alloc, word)?;
         assert_eq!(&rt; code(&run.status), 2);
-        assert_eq!(&rt; run.sink.written(), b"usage\n");
+        assert_eq!(&rt; run.sink.written(), b"usage\n".as_slice());
     }
     for words in [&["demo"][..], &["demo", "7", "7"], &["Demo", "7"]] {
         assert_eq!(&rt; code(&execute(alloc, words, &[], &[], &[])?.status), 2);
