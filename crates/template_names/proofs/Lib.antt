@@ -1,0 +1,15 @@
+pub mod Differences
+pub mod OwnNames
+pub mod OwnColumns
+pub mod PassedNames
+pub mod ItemsSeen
+pub mod SmallParts
+pub mod Sighted
+pub mod WalksRise
+pub mod BodiesClear
+pub mod BranchesClear
+pub mod FilesClear
+pub mod TreesClear
+pub mod Silence
+pub mod SilentExpressions
+pub mod SilentQueries

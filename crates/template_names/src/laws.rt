@@ -1,0 +1,13 @@
+//! What holds of the names of a function's query.
+
+ghost use Rattle.template_names.specs.Laws.{TableIsNamedOnce, TreeIsClear};
+
+/// In the query of a function names are unambiguous, where they are in the function's expressions.
+pub fn names_of_trees_are_clear()
+    ensures { TreeIsClear }
+{}
+
+/// With names again, the query names its recursive table never in its first term and once in its second.
+pub fn the_table_is_named_once()
+    ensures { TableIsNamedOnce }
+{}
