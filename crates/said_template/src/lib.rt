@@ -1,0 +1,2 @@
+//! That the query of a function can be written.
+#![tactic(auto)]
