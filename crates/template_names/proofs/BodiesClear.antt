@@ -1,6 +1,5 @@
 -- The select of a body is clear.
-use Rattle.std.proofs.Common.{◌≡◌, refl, ap, sym, ◌∙◌, subst, ℕ, zero, suc, ◌+◌, ◌-◌, ◌<◌, ◌≤◌, ◌^◌, true, false, pos, List, [], ◌∷◌, ◌++◌, map, length, get_or, Option, Some, None, length-append, append_assoc, arith}
-use Rattle.std.specs.Prelude.{slice_get}
+use Rattle.std.proofs.Common.{◌≡◌, refl, ap, sym, subst, ℕ, zero, suc, ◌+◌, ◌-◌, ◌<◌, ◌≤◌, ◌^◌, true, false, pos, List, [], ◌∷◌, ◌++◌, map, length, get_or, Some, None, length-append, append_assoc, arith}
 use Rattle.away_trees.specs.declared.queries.Col.{Col}
 use Rattle.away_trees.specs.declared.queries.Expr.{Expr}
 use Rattle.away_trees.specs.declared.queries.Expr.TheVariants as expr
@@ -12,7 +11,7 @@ use Rattle.away_trees.specs.declared.schemas.Schema.{Schema}
 use Rattle.away_values.specs.declared.operators.IsTest.TheVariants as test
 use Rattle.away_values.specs.declared.types.Ty.{Ty}
 use Rattle.away_values.specs.declared.types.Ty.TheVariants as ty
-use Rattle.away_names.specs.Lookups.{Name, Level, Scope, inside}
+use Rattle.away_names.specs.Lookups.{Level, Scope, inside}
 use Rattle.block_forms.specs.declared.forms.Term.{Term}
 use Rattle.block_forms.specs.Places.{Each}
 use Rattle.call_forms.specs.Bodies.{Body, sets, enters, picks, returns, fails, calls, endless}
@@ -20,28 +19,28 @@ use Rattle.call_forms.specs.Called.{Among}
 use Rattle.call_forms.specs.Scopes as scopes
 use Rattle.call_forms.specs.Scopes.{paired}
 use Rattle.call_forms.specs.Template.{is_not_true, deeper}
-use Rattle.call_forms.specs.Templated.{HasTree, HasReferences, PassesKnown}
+use Rattle.call_forms.specs.Templated.{HasTree, HasReferences}
 use Rattle.dotted_names.specs.Unambiguous as c
 use Rattle.dotted_names.specs.Unambiguous.{IsClear, value, select, query}
 use Rattle.sql_meaning.specs.Placed.{placed_at}
 use Rattle.sql_meaning.specs.Reads.{slots_of}
-use Rattle.sql_meaning.specs.Template.{below, count_from}
+use Rattle.sql_meaning.specs.Template.{count_from}
 use Rattle.sql_meaning.specs.Trees.{col, null_of, truth, number, one}
 use Rattle.sql_meaning.specs.Trees as tree
 use Rattle.template_parts.specs.Columns.{column_beside}
-use Rattle.template_parts.specs.Names.{only_name, go_name, label_name, result_name, fault_name, value_names, row_names, alias_name}
-use Rattle.template_parts.specs.Trees.{gate_as, let_as, either_as}
+use Rattle.template_parts.specs.Names.{only_name, go_name, label_name, result_name, fault_name, value_names}
+use Rattle.template_parts.specs.Trees.{gate_as, either_as}
 use Rattle.cte_template.specs.Making.{Making}
 use Rattle.cte_template.specs.Places.{nowhere, first_of, seen, stands, beside}
 use Rattle.cte_template.specs.Walks.{Walked, walk, selected, ended, let_at, value_at, column_at, cell, cells_at, all_columns, end_row, call_row, class_text}
 use Rattle.cte_template.specs.declared.places.Place.{Place}
-use Rattle.cte_template.proofs.PlacesSeen.{Shallow, deeper_is, shallow_stands, shallow_paired}
-use Rattle.template_names.specs.Given.{SeesTables, IsOwn}
-use Rattle.template_names.proofs.Differences.{AllApart, every_both}
+use Rattle.cte_template.proofs.PlacesSeen.{deeper_is, shallow_stands, shallow_paired}
+use Rattle.placed_names.specs.Own.{SeesTables, IsOwn}
+use Rattle.template_names.proofs.Differences.{every_both}
 use Rattle.template_names.proofs.OwnNames.{only_kept, only_apart, row_apart, column_there}
 use Rattle.template_names.proofs.OwnColumns.{Own, is_own, column_clear, own_deeper}
 use Rattle.template_names.proofs.PassedNames.{paired_holds, slot_holds, stands_holds, beside_holds}
-use Rattle.template_names.proofs.Sighted.{Sighted, list_over, renamed, begun, added, more_level, column_of}
+use Rattle.template_names.proofs.Sighted.{Sighted, list_over, renamed, begun, added, column_of}
 use Rattle.template_names.proofs.SmallParts.{Clears, truth_clear, number_clear, null_clear, nulls_clear, let_clear, gate_clear}
 use Rattle.template_names.proofs.WalksRise.{rises}
 
@@ -102,10 +101,10 @@ module _ (schema : Schema) (m : Making) (clears : TableClears schema m.table) (n
         let slots : List ℕ = slots_of (get_or m.table u.expr expr.Null) in
         clears u.expr t here (column_beside slots (map (column_at (suc depth) places) u.names) (seen (suc depth) nowhere)) (sees_inside schema (inside h.level s) [] (sees_inside schema s h.level sees))
         (λ place slot there.
-          slot_holds (IsOwn here.levels) (column_at (suc depth) places) (seen (suc depth) nowhere) slots u.names slot refers.as_many
-          (λ n among. subst (IsOwn here.levels) (sym (deeper_is depth (places n) (h.shallow n)))
-            (is_own k here.levels (deeper (seen depth (places n))) (own_deeper k (h.level ∷ s.levels) (seen depth (places n)) (h.own n (refers.known among.place n among.there)))))
-          (record { place = place; there = there }))
+        slot_holds (IsOwn here.levels) (column_at (suc depth) places) (seen (suc depth) nowhere) slots u.names slot refers.as_many
+        (λ n among. subst (IsOwn here.levels) (sym (deeper_is depth (places n) (h.shallow n)))
+        (is_own k here.levels (deeper (seen depth (places n))) (own_deeper k (h.level ∷ s.levels) (seen depth (places n)) (h.own n (refers.known among.place n among.there)))))
+        (record { place = place; there = there }))
 
     -- behind a term's item its value is in sight of the list
     module _ (fits : k < 2 ^ 64) (sees : SeesTables schema s) (t : Ty) (u : Term) (refers : HasReferences m.table names u) where

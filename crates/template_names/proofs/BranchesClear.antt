@@ -1,9 +1,8 @@
 -- The branches of labels are clear, and so are the rows of the labels, beside the working table.
-use Rattle.std.proofs.Common.{◌≡◌, refl, ap, sym, ◌∙◌, subst, ℕ, zero, suc, ◌+◌, ◌-◌, ◌<◌, ◌≤◌, ◌^◌, true, false, pos, List, [], ◌∷◌, ◌++◌, map, length, get_or, Option, Some, None, option_map, arith}
+use Rattle.std.proofs.Common.{◌≡◌, refl, ap, sym, ◌∙◌, subst, ℕ, suc, ◌+◌, ◌<◌, ◌≤◌, ◌^◌, true, pos, List, [], ◌∷◌, ◌++◌, length, Option, Some, None, option_map, arith}
 use Rattle.std.specs.Prelude.{slice_get}
 use Rattle.std.proofs.lemmas.Option.{slice_get_within, slice_get-map}
 use Rattle.away_trees.specs.declared.queries.Expr.{Expr}
-use Rattle.away_trees.specs.declared.queries.Select.{Select}
 use Rattle.away_trees.specs.declared.schemas.Schema.{Schema}
 use Rattle.away_types.specs.declared.slots.Slot.{Slot}
 use Rattle.away_values.specs.declared.operators.CmpOp.TheVariants as cmp
@@ -11,12 +10,12 @@ use Rattle.away_values.specs.declared.types.Ty.{Ty}
 use Rattle.away_values.specs.declared.types.Ty.TheVariants as ty
 use Rattle.away_names.specs.declared.scope.Listed.{Listed}
 use Rattle.away_names.specs.declared.scope.Seen.{Seen}
-use Rattle.away_names.specs.Lookups.{Name, Level, Scope, inside}
+use Rattle.away_names.specs.Lookups.{Name, Scope, inside}
 use Rattle.away_names.specs.Tables.{outermost}
 use Rattle.block_forms.specs.Places.{Each, EachPair}
 use Rattle.call_forms.specs.Bodies.{body_of}
 use Rattle.call_forms.specs.Called.{Among}
-use Rattle.call_forms.specs.Columned.{HasType, PlacesAt, Columned, type_of_name}
+use Rattle.call_forms.specs.Columned.{HasType, PlacesAt, type_of_name}
 use Rattle.call_forms.specs.declared.forms.AnfBlock.{AnfBlock}
 use Rattle.call_forms.specs.Forms.{params_of}
 use Rattle.call_forms.specs.Scopes as scopes
@@ -27,7 +26,7 @@ use Rattle.call_law.proofs.Labels.{element_there}
 use Rattle.cte_template.specs.Making.{Making}
 use Rattle.cte_template.specs.Places.{nowhere, row_place, seen, beside}
 use Rattle.cte_template.specs.Tree.{at_label, branch, branches, start, label_rows}
-use Rattle.cte_template.specs.Walks.{walk, keys_of, argument, arguments_at}
+use Rattle.cte_template.specs.Walks.{keys_of, argument, arguments_at}
 use Rattle.cte_template.specs.declared.places.Place.{Place}
 use Rattle.cte_template.proofs.PlaceRules.{found_or}
 use Rattle.cte_template.proofs.PlacesSeen.{row_shallow}
@@ -37,7 +36,7 @@ use Rattle.sql_meaning.specs.Trees.{truth, number, null_of, one}
 use Rattle.sql_meaning.specs.Trees as tree
 use Rattle.template_parts.specs.Names.{table_name, step_name, only_name, row_names, alias_name}
 use Rattle.template_parts.specs.Trees.{gate_as}
-use Rattle.template_names.specs.Given.{SeesTables}
+use Rattle.placed_names.specs.Own.{SeesTables}
 use Rattle.template_names.specs.Laws.{walk_of, NumbersFit}
 use Rattle.template_names.proofs.BodiesClear.{TableClears, sees_inside, body_clear}
 use Rattle.template_names.proofs.Differences.{every_both, no_double, own_place}
@@ -181,6 +180,11 @@ module _ (schema : Schema) (m : Making) (clears : TableClears schema m.table) (n
       let place : ℕ = entry_place m.table m.types m.result m.anf m.tail entry in
       let arguments : List Expr = arguments_at m 0 (keys_of m place) (params_of (slice_get m.anf.blocks entry)) m.tail.columns in
       let first : Scope = inside [] outside in
-      alone_clear outside (truth true ∷ number (pos (suc place)) ∷ arguments ++ (null_of m.result ∷ null_of ty.Text ∷ []))
-      (truth_clear first true, (number_clear first (pos (suc place)), every_both (λ e. IsClear value first e) arguments (null_of m.result ∷ null_of ty.Text ∷ [])
-        (arguments_clear first 0 (keys_of m place) (params_of (slice_get m.anf.blocks entry)) m.tail.columns) (null_clear first m.result, (null_clear first ty.Text, tt))))
+      alone_clear outside (truth true ∷ number (pos (suc place)) ∷ arguments ++ (null_of m.result ∷ null_of ty.Text ∷ [])) (
+        truth_clear first true,
+        (
+          number_clear first (pos (suc place)),
+          every_both (λ e. IsClear value first e) arguments (null_of m.result ∷ null_of ty.Text ∷ [])
+              (arguments_clear first 0 (keys_of m place) (params_of (slice_get m.anf.blocks entry)) m.tail.columns) (null_clear first m.result, (null_clear first ty.Text, tt)),
+        ),
+      )

@@ -1,7 +1,7 @@
 -- Names that differ: a list of them has no double, and each stands at its own place.
-use Rattle.std.proofs.Common.{◌≡◌, refl, ap, sym, ◌∙◌, subst, ℕ, zero, suc, ◌+◌, ◌||◌, Bool, true, false, cond, List, [], ◌∷◌, ◌++◌, map, Option, Some, None, arith}
+use Rattle.std.proofs.Common.{◌≡◌, refl, ap, sym, ◌∙◌, subst, ℕ, zero, suc, ◌+◌, ◌||◌, Bool, true, false, cond, List, [], ◌∷◌, ◌++◌, map, Some, arith}
 use Rattle.std.specs.Prelude.{slice_get, bytes_eq}
-use Rattle.std.specs.List.{list_any, position_from}
+use Rattle.std.specs.List.{position_from}
 use Rattle.std.proofs.lemmas.Option.{same_Some}
 use Rattle.std.proofs.lemmas.Slice.Eq.{bytes_eq-Decides}
 use Rattle.away_names.specs.Lookups.{Name, is_named, is_among, doubled, has_double, place_of}

@@ -1,6 +1,6 @@
 -- The whole query is clear.
 use Rattle.std.proofs.Common.{◌≡◌, refl, ap, sym, ◌∙◌, subst, ℕ, zero, suc, ◌+◌, ◌<◌, ◌≤◌, ◌^◌, Bool, true, false, if◌then◌else◌, List, [], ◌∷◌, ◌++◌, map, length, decimal, Option, Some, None, option_map, arith}
-use Rattle.std.specs.Prelude.{slice_get, bytes_eq}
+use Rattle.std.specs.Prelude.{bytes_eq}
 use Rattle.std.proofs.lemmas.Option.{slice_get-map}
 use Rattle.std.proofs.lemmas.Slice.Eq.{bytes_eq-Decides}
 use Rattle.away_trees.specs.declared.queries.Expr.{Expr}
@@ -29,7 +29,7 @@ use Rattle.sql_meaning.specs.Template.{count_from}
 use Rattle.sql_meaning.specs.Trees.{col, item}
 use Rattle.template_parts.specs.Names.{table_name, step_name, go_name, label_name, result_name, fault_name, value_names, row_names, alias_name}
 use Rattle.template_parts.specs.Trees.{working}
-use Rattle.template_names.specs.Given.{SeesTables}
+use Rattle.placed_names.specs.Own.{SeesTables}
 use Rattle.template_names.proofs.BranchesClear.{under, row_of, row_own}
 use Rattle.template_names.proofs.Differences.{AllApart, no_double, own_place}
 use Rattle.template_names.proofs.ItemsSeen.{seen_as, lateral_seen, working_seen}
@@ -40,7 +40,7 @@ use Rattle.template_names.proofs.SmallParts.{Clears, list_clear}
 abbrev QueryFields : Type 0
 QueryFields = Query-F Expr Source FromItem Item Key Query Recursive Select
 
-abbrev Fields : Type 0
+abbrev pub Fields : Type 0
 Fields = Recursive-F Expr Source FromItem Item Key Query Recursive Select
 
 -- what the names of tables stand for beside the recursive one
@@ -74,7 +74,7 @@ module _ (schema : Schema) (m : Making) (narrow : length m.tail.columns < 2 ^ 64
 
   -- ---- items
 
-  working_clear : (level : Level) → IsClear (from_item level) outside (working tables width)
+  pub working_clear : (level : Level) → IsClear (from_item level) outside (working tables width)
   working_clear level = c.table table_name table_name (decimal tables ∷ row_names width) true refl
 
   abbrev rows_seen : Seen
@@ -90,18 +90,6 @@ module _ (schema : Schema) (m : Making) (narrow : length m.tail.columns < 2 ^ 64
       own_last 1 (row_of width ∷ []) [] rows_seen there.name i step_kept there.kept (step_older 1) (letter_apart step_name table_name refl, tt)
       (slice_get-map (λ n. Some n) (row_names width) i ∙ ap (λ o. option_map (λ n. Some n) o) there.there) (own_place (row_names width) i there.name (row_apart width narrow) there.there)
 
-  columns_from : (i n : ℕ) → i + n ≤ suc (suc (suc (suc width))) → Clears (inside both outside) (map (col 0 1) (count_from i n))
-  columns_from i zero le = tt
-  columns_from i (suc n) le = (column_clear 1 (inside both outside) (record { level = 0; item = 1; column = i }) (rows_own i (omega (arith, le))), columns_from (suc i) n (omega (arith, le)))
-
-  -- ---- the step
-
-  go_clear : IsClear value (inside both outside) (col 0 0 0)
-  unfolding row_own own_last
-  go_clear =
-      column_clear 1 (inside both outside) (record { level = 0; item = 0; column = 0 })
-      (own_beside 1 (row_of width ∷ []) [] rows_seen (record { level = 0; item = 0; column = 0 }) (row_own 1 width 0 narrow (omega arith)) (letter_apart table_name step_name refl))
-
   abbrev rest : List Name
   rest = label_name ∷ value_names width ++ (result_name ∷ fault_name ∷ [])
 
@@ -111,16 +99,41 @@ module _ (schema : Schema) (m : Making) (narrow : length m.tail.columns < 2 ^ 64
       λ i. working_seen tables width [] [] i
       ∷ (lateral_seen step_name go_name rest (roll-Query (record { recursive = None; selects = branches m 0 m.tail.labels })) [] (first ∷ []) i ∷ [])
 
-  behind_both : (P : Scope → Type 0) → P (inside both outside) → P (inside (dotted_from [] (working tables width ∷ label_rows m ∷ [])).seen outside)
-  behind_both P h = subst (λ l. P (inside l outside)) (sym seen_both) h
+  -- ---- the step
 
-  pub step_clear : IsClear (from_item (row_of width ∷ [])) outside (label_rows m) → IsClear select outside (step m tables)
+  -- what stands over its items is clear whatever tables may be named
+  module _ (any : Name → Option Listed) where
+    abbrev above : Scope
+    above = inside both (under schema any)
+
+    columns_from : (i n : ℕ) → i + n ≤ suc (suc (suc (suc width))) → Clears above (map (col 0 1) (count_from i n))
+    columns_from i zero le = tt
+    columns_from i (suc n) le = (column_clear 1 above (record { level = 0; item = 1; column = i }) (rows_own i (omega (arith, le))), columns_from (suc i) n (omega (arith, le)))
+
+    go_clear : IsClear value above (col 0 0 0)
+    unfolding row_own own_last
+    go_clear =
+        column_clear 1 above (record { level = 0; item = 0; column = 0 })
+        (own_beside 1 (row_of width ∷ []) [] rows_seen (record { level = 0; item = 0; column = 0 }) (row_own 1 width 0 narrow (omega arith)) (letter_apart table_name step_name refl))
+
+    behind_both : (P : Scope → Type 0) → P above → P (inside (dotted_from [] (working tables width ∷ label_rows m ∷ [])).seen (under schema any))
+    behind_both P h = subst (λ l. P (inside l (under schema any))) (sym seen_both) h
+
+    pub step_list : IsClear items (inside (dotted_from [] (working tables width ∷ label_rows m ∷ [])).seen (under schema any)) (map item (all_columns m 1))
+    step_list = behind_both (λ s. IsClear items s (map item (all_columns m 1))) (list_clear above (all_columns m 1) (columns_from 0 (suc (suc (suc (suc width)))) (omega arith)))
+
+    pub step_filter : IsClear maybe (inside (dotted_from [] (working tables width ∷ label_rows m ∷ [])).seen (under schema any)) (Some (col 0 0 0))
+    step_filter = behind_both (λ s. IsClear maybe s (Some (col 0 0 0))) (c.something go_clear)
+
+  pub step_from : IsClear (from_item (row_of width ∷ [])) outside (label_rows m) → IsClear (from_items []) outside (working tables width ∷ label_rows m ∷ [])
+  step_from rows =
+      c.one_from (working_clear []) (subst (λ o. IsClear (from_items (o ∷ [])) outside (label_rows m ∷ [])) (sym (working_seen tables width [] [])) (c.one_from rows c.no_from))
+
+  step_clear : IsClear (from_item (row_of width ∷ [])) outside (label_rows m) → IsClear select outside (step m tables)
   step_clear rows =
       let differ : AllApart (table_name ∷ step_name ∷ []) = ((letter_apart table_name step_name refl, tt), (tt, tt)) in
-      c.whole (no_double (table_name ∷ step_name ∷ []) differ)
-      (c.one_from (working_clear []) (subst (λ o. IsClear (from_items (o ∷ [])) outside (label_rows m ∷ [])) (sym (working_seen tables width [] [])) (c.one_from rows c.no_from)))
-      (behind_both (λ s. IsClear items s (map item (all_columns m 1))) (list_clear (inside both outside) (all_columns m 1) (columns_from 0 (suc (suc (suc (suc width)))) (omega arith))))
-      (behind_both (λ s. IsClear maybe s (Some (col 0 0 0))) (c.something go_clear)) c.no_key c.nothing
+      let any : Name → Option Listed = beside_working schema (row_names width) in
+      c.whole (no_double (table_name ∷ step_name ∷ []) differ) (step_from rows) (step_list any) (step_filter any) c.no_key c.nothing
 
   -- ---- the finished row
 

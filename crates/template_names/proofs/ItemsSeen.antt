@@ -1,5 +1,5 @@
 -- The items of the query as names see them.
-use Rattle.std.proofs.Common.{◌≡◌, refl, ap, ◌∙◌, ℕ, true, List, [], ◌∷◌, ◌++◌, fold}
+use Rattle.std.proofs.Common.{◌≡◌, ap, ◌∙◌, ℕ, true, List, [], ◌∷◌, ◌++◌}
 use Rattle.std.proofs.lemmas.List.Sums.{fold-append}
 use Rattle.away_trees.specs.declared.queries.FromItem.{FromItem}
 use Rattle.away_trees.specs.declared.queries.Query.{Query}

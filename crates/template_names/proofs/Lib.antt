@@ -13,3 +13,6 @@ pub mod TreesClear
 pub mod Silence
 pub mod SilentExpressions
 pub mod SilentQueries
+pub mod SilentTrees
+pub mod TableNamed
+pub mod NamedOnce

@@ -1,5 +1,5 @@
 -- Columns of the query's own: each is found by the alias of its item and its name, while more items and selects come into sight.
-use Rattle.std.proofs.Common.{◌≡◌, refl, ap, sym, ◌∙◌, subst, ℕ, zero, suc, ◌+◌, ◌<◌, ◌≤◌, ◌^◌, Bool, true, false, if◌then◌else◌, List, [], ◌∷◌, ◌++◌, length, Option, Some, None, option_map, arith}
+use Rattle.std.proofs.Common.{◌≡◌, refl, ap, ◌∙◌, ℕ, zero, suc, ◌+◌, ◌<◌, ◌≤◌, ◌^◌, Bool, true, false, if◌then◌else◌, List, [], ◌∷◌, ◌++◌, length, Option, Some, None, option_map, arith}
 use Rattle.std.specs.Prelude.{slice_get, bytes_eq}
 use Rattle.std.specs.Option.{option_and_then}
 use Rattle.std.proofs.lemmas.Option.{slice_get_within}
@@ -14,7 +14,7 @@ use Rattle.dotted_names.specs.Unambiguous as c
 use Rattle.dotted_names.specs.Unambiguous.{IsClear, value}
 use Rattle.dotted_names.proofs.Gives.{Every}
 use Rattle.template_parts.specs.Names.{alias_name}
-use Rattle.template_names.specs.Given.{IsOwn}
+use Rattle.placed_names.specs.Own.{IsOwn}
 use Rattle.template_names.proofs.Differences.{Apart, apart_false, same_true}
 
 nth_left : {X : Type 0} (xs ys : List X) (k : ℕ) → k < length xs → slice_get (xs ++ ys) k ≡ slice_get xs k

@@ -1,5 +1,5 @@
 -- The items of a select while it is written: each is clear behind those before it, their aliases differ, and each name in use stands at a column in sight.
-use Rattle.std.proofs.Common.{◌≡◌, refl, ap, sym, ◌∙◌, subst, ℕ, suc, ◌+◌, ◌<◌, ◌≤◌, ◌^◌, true, false, List, [], ◌∷◌, ◌++◌, map, length, Some, option_map, length-append, append_assoc, append-nil, arith}
+use Rattle.std.proofs.Common.{◌≡◌, refl, ap, sym, ◌∙◌, subst, ℕ, suc, ◌+◌, ◌<◌, ◌≤◌, ◌^◌, true, List, [], ◌∷◌, ◌++◌, map, length, Some, option_map, length-append, append_assoc, append-nil, arith}
 use Rattle.std.specs.Prelude.{slice_get}
 use Rattle.std.proofs.lemmas.List.{map-append}
 use Rattle.std.proofs.lemmas.Option.{slice_get-map}
@@ -9,10 +9,9 @@ use Rattle.away_trees.specs.declared.queries.FromItem.{FromItem}
 use Rattle.away_trees.specs.declared.queries.Query.{Query}
 use Rattle.away_names.specs.declared.scope.Seen.{Seen}
 use Rattle.away_names.specs.Lookups.{Name, Level, Scope, inside, has_double, is_kept}
-use Rattle.away_names.specs.Naming.{plain_names}
 use Rattle.call_forms.specs.Called.{Among}
 use Rattle.call_forms.specs.Scopes as scopes
-use Rattle.dotted_names.specs.Trees.{dotted_part, dotted_from}
+use Rattle.dotted_names.specs.Trees.{dotted_from}
 use Rattle.dotted_names.specs.Unambiguous as c
 use Rattle.dotted_names.specs.Unambiguous.{IsClear, items, from_items, select, query}
 use Rattle.dotted_names.proofs.Gives.{Every}

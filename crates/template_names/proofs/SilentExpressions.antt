@@ -1,6 +1,5 @@
 -- Expressions with names again that don't name the recursive table, by their parts.
-use Rattle.std.proofs.Common.{◌≡◌, refl, ap, sym, ◌∙◌, ℕ, ℤ, Bool, false, List, [], ◌∷◌, map, Option, Some, None, option_map}
-use Rattle.std.specs.Prelude.{is_some, not}
+use Rattle.std.proofs.Common.{◌≡◌, ap, ◌∙◌, ℕ, ℤ, Bool, false, List, [], ◌∷◌, map, Option, Some, option_map}
 use Rattle.away_values.specs.declared.types.Ty.{Ty}
 use Rattle.away_values.specs.declared.operators.ChainOp.{ChainOp}
 use Rattle.away_values.specs.declared.operators.CmpOp.{CmpOp}
@@ -11,11 +10,10 @@ use Rattle.away_trees.specs.declared.queries.Expr.TheVariants as expr
 use Rattle.away_trees.specs.declared.queries.Query.{Query}
 use Rattle.away_names.specs.declared.note.Named.{Named}
 use Rattle.away_names.specs.declared.note.Note.{Note}
-use Rattle.away_names.specs.declared.note.Times.TheVariants.{Never}
 use Rattle.away_names.specs.declared.scope.Hit.{Hit}
 use Rattle.away_names.specs.Lookups.{Name, Scope, column_dotted}
 use Rattle.away_names.specs.Naming as n
-use Rattle.away_names.specs.Notes.{clean, joined, breaks, mapped, also, each, held}
+use Rattle.away_names.specs.Notes.{clean, joined, also, each, held}
 use Rattle.away_names.specs.Trees.{named_expr, named_query}
 use Rattle.away_names.specs.NamingLists.{named_in, named_link, named_arm}
 use Rattle.away_names.proofs.NamingRules as r

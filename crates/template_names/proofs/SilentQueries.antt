@@ -1,5 +1,5 @@
 -- Lists, FROM, selects and queries with names again that don't name the recursive table, by their parts.
-use Rattle.std.proofs.Common.{◌≡◌, refl, ap, sym, subst, ◌∙◌, Bool, true, false, List, [], ◌∷◌, ◌++◌, map, fold, Option, Some, None, option_map}
+use Rattle.std.proofs.Common.{◌≡◌, refl, ap, sym, subst, ◌∙◌, Bool, false, List, [], ◌∷◌, ◌++◌, map, fold, Option, Some, None, option_map}
 use Rattle.std.specs.Prelude.{is_some}
 use Rattle.away_trees.specs.declared.queries.Expr.{Expr}
 use Rattle.away_trees.specs.declared.queries.Source.{Source}
@@ -25,7 +25,7 @@ use Rattle.away_names.specs.declared.scope.Listed.{Listed}
 use Rattle.away_names.specs.Lookups.{Name, Level, Scope, inside, has_double}
 use Rattle.away_names.specs.Naming as n
 use Rattle.away_names.specs.Notes.{clean, joined, summed, breaks, mapped, also, each, held}
-use Rattle.away_names.specs.Trees.{named_expr, named_item, named_key, named_part, named_select, named_query, last_of, alone_of}
+use Rattle.away_names.specs.Trees.{named_expr, named_item, named_key, named_part, named_select, named_query, alone_of}
 use Rattle.away_names.specs.NamingLists.{named_in, named_items, named_key_in, named_from, named_selects, named_over}
 use Rattle.away_names.proofs.NamingRules as r
 use Rattle.dotted_names.specs.Sight.{Sight}
@@ -81,17 +81,19 @@ keys_silent s aliases ks e = each_silent (named_key_in aliases s) (λ k. dotted_
 abbrev pub SilentPart : Scope → Level → FromItem → Type 0
 SilentPart s level f = IsSilent (named_part (dotted_part f s.levels level).item s level).note
 
-pub table_part_silent : (s : Scope) (level : Level) (name alias : Name) (columns : List Name) → s.table name ≡ Some (record { written = columns; recursive = false })
+pub table_part_silent : (s : Scope) (level : Level) (name alias : Name) (columns : List Name) (recursive : Bool) → s.table name ≡ Some (record { written = columns; recursive = recursive }) → recursive ≡ false
     → SilentPart s level (roll-FromItem (record { source = source.Table name; alias = alias; columns = columns }))
 unfolding n.of_table
-table_part_silent s level name alias columns found =
+table_part_silent s level name alias columns recursive found plain =
     let f : FromItem = roll-FromItem (record { source = source.Table name; alias = alias; columns = columns }) in
     let w : FromItem = roll-FromItem (record { source = source.Table name; alias = alias; columns = [] }) in
     ap (λ (p : Part). (named_part p.item s level).note.refers) (d.part_rule f s.levels level ∙ ap (n.shaped alias) (d.table_is name columns s.levels level))
     ∙ (ap (λ (z : Named Part). z.note.refers)
     (r.part_rule w s level
     ∙ ap (λ (o : Named Origin). also (n.part_note s alias []) (mapped (n.shaped alias) o))
-    (r.table_is name [] s level ∙ ap (λ (o : Option Listed). also (n.written s name) (n.of_table name o)) found))
+    (r.table_is name [] s level
+    ∙ (ap (λ (o : Option Listed). also (n.written s name) (n.of_table name o)) found
+    ∙ ap (λ v. also (n.written s name) (n.of_table name (Some (record { written = columns; recursive = v })))) plain)))
     ∙ both_silent (n.part_note s alias []) (joined (n.written s name) (n.once_where false)) (part_silent s alias [])
     (both_silent (n.written s name) (n.once_where false) (written_silent s name) table_silent))
 

@@ -5,24 +5,22 @@ use Rattle.away_trees.specs.declared.statements.Function.{Function}
 use Rattle.away_types.specs.CheckedFunctions.{IsChecked}
 use Rattle.away_types.specs.declared.slots.Slot.{Slot}
 use Rattle.block_forms.specs.Expressions.{expressions}
-use Rattle.dotted_names.specs.Unambiguous.{IsClearFile}
 use Rattle.cte_template.specs.Making.{Making}
-use Rattle.cte_template.specs.Tree.{tree}
 use Rattle.template_parts.specs.Names.{row_names}
-use Rattle.template_names.specs.Given.{PlacedAreClear}
+use Rattle.placed_names.proofs.Entries.{placed_are_clear}
 use Rattle.template_names.specs.Laws.{TreeIsClear, making_of}
 use Rattle.template_names.proofs.BodiesClear.{TableClears}
 use Rattle.template_names.proofs.BranchesClear.{rows_clear, start_clear}
 use Rattle.template_names.proofs.FilesClear.{beside_working, sees_beside, tree_clear}
 
 -- each expression of the function
-pub table_clears : PlacedAreClear → (schema : Schema) (written f : Function) (slots : List Slot) → IsChecked schema written f slots → TableClears schema (expressions f)
-table_clears placed schema written f slots checked i t s ref sees own = placed schema written f slots checked i t s ref sees own
+pub table_clears : (schema : Schema) (written f : Function) (slots : List Slot) → IsChecked schema written f slots → TableClears schema (expressions f)
+table_clears schema written f slots checked i t s ref sees own = placed_are_clear schema written f slots checked i t s ref sees own
 
 pub trees_clear : TreeIsClear
-trees_clear placed schema written f slots g z a r q checked columned templated fits =
+trees_clear schema written f slots g z a r q checked columned templated fits =
     let m : Making = making_of f slots z a r in
-    let clears : TableClears schema m.table = table_clears placed schema written f slots checked in
+    let clears : TableClears schema m.table = table_clears schema written f slots checked in
     let tables = beside_working schema (row_names (length r.columns)) in
     let sees = sees_beside schema (row_names (length r.columns)) in
     tree_clear schema m fits.columns g.entry (start_clear schema m clears fits.columns tables sees g.entry)

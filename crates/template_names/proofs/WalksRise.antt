@@ -2,7 +2,6 @@
 use Rattle.std.proofs.Common.{ℕ, suc, ◌≤◌, List, [], ◌∷◌, ◌++◌, length, arith}
 use Rattle.away_trees.specs.declared.queries.Expr.{Expr}
 use Rattle.away_trees.specs.declared.queries.FromItem.{FromItem}
-use Rattle.away_values.specs.declared.types.Ty.TheVariants as ty
 use Rattle.call_forms.specs.Bodies.{Body, sets, enters, picks, returns, fails, calls, endless}
 use Rattle.call_forms.specs.Scopes.{Scope, paired}
 use Rattle.call_forms.specs.Template.{is_not_true}

@@ -25,7 +25,6 @@ use Rattle.cte_template.specs.Tree.{tree, at_label}
 use Rattle.cte_template.specs.Walks.{Walked, walk, keys_of}
 use Rattle.dotted_names.specs.Trees.{dotted}
 use Rattle.dotted_names.specs.Unambiguous.{IsClearFile}
-use Rattle.template_names.specs.Given.{PlacedAreClear}
 
 -- what the query of a function is made of
 abbrev pub making_of : Function → List Slot → Ssa → Anf → Tail → Making
@@ -41,10 +40,10 @@ pub record NumbersFit (m : Making) : Type 0 where
   pub columns : length m.tail.columns < 2 ^ 64
   pub aliases : EachAt (λ i b. (walk_of m i b).next ≤ 2 ^ 64) m.tail.labels
 
--- where a checked function's expressions are clear wherever they are placed, its query is
+-- names are unambiguous in the query of a checked function
 abbrev pub TreeIsClear : Type 0
 TreeIsClear =
-    PlacedAreClear → (schema : Schema) (written f : Function) (slots : List Slot) (g : Goto) (z : Ssa) (a : Anf) (r : Tail) (q : Query)
+    (schema : Schema) (written f : Function) (slots : List Slot) (g : Goto) (z : Ssa) (a : Anf) (r : Tail) (q : Query)
     → IsChecked schema written f slots → Columned slots z a r → Templated f slots (length schema.tables) g z a r q → NumbersFit (making_of f slots z a r)
     → IsClearFile schema (tree (making_of f slots z a r) g.entry (length schema.tables))
 
@@ -55,6 +54,6 @@ pub record NamesTableOnce (schema : Schema) (q : Query) : Type 0 where
 
 abbrev pub TableIsNamedOnce : Type 0
 TableIsNamedOnce =
-    PlacedAreClear → (schema : Schema) (written f : Function) (slots : List Slot) (g : Goto) (z : Ssa) (a : Anf) (r : Tail) (q : Query)
+    (schema : Schema) (written f : Function) (slots : List Slot) (g : Goto) (z : Ssa) (a : Anf) (r : Tail) (q : Query)
     → IsChecked schema written f slots → Columned slots z a r → Templated f slots (length schema.tables) g z a r q → NumbersFit (making_of f slots z a r)
     → NamesTableOnce schema (tree (making_of f slots z a r) g.entry (length schema.tables))

@@ -2,7 +2,7 @@
 
 ghost use Rattle.template_names.specs.Laws.{TableIsNamedOnce, TreeIsClear};
 
-/// In the query of a function names are unambiguous, where they are in the function's expressions.
+/// In the query of a checked function names are unambiguous.
 pub fn names_of_trees_are_clear()
     ensures { TreeIsClear }
 {}
