@@ -40,7 +40,7 @@ use Rattle.cte_template.specs.Walks.{Walked, walk, selected, ended, let_at, valu
 use Rattle.cte_template.specs.declared.places.Place.{Place}
 use Rattle.cte_template.proofs.PlacesSeen.{deeper_is, shallow_stands, shallow_paired}
 use Rattle.typed_forms.specs.Typed.{HasKind}
-use Rattle.template_names.specs.Given.{SeesTables, IsOwn}
+use Rattle.placed_names.specs.Own.{SeesTables, IsOwn}
 use Rattle.template_names.proofs.BodiesClear as clear
 use Rattle.template_names.proofs.BodiesClear.{TableClears, sees_inside}
 use Rattle.template_names.proofs.Differences.{every_both}

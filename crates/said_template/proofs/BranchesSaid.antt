@@ -32,7 +32,7 @@ use Rattle.sql_meaning.specs.Trees.{col, truth, number, null_of}
 use Rattle.template_parts.specs.Names.{table_name, step_name, go_name, label_name, result_name, fault_name, value_names, row_names}
 use Rattle.template_parts.specs.Trees.{gate_as, lateral_as}
 use Rattle.typed_forms.specs.Typed.{HasKind}
-use Rattle.template_names.specs.Given.{SeesTables}
+use Rattle.placed_names.specs.Own.{SeesTables}
 use Rattle.template_names.specs.Laws.{walk_of, NumbersFit}
 use Rattle.template_names.proofs.BodiesClear.{TableClears, sees_inside}
 use Rattle.template_names.proofs.BranchesClear as clear

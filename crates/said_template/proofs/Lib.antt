@@ -7,3 +7,5 @@ pub mod SmallSaid
 pub mod BodiesSaid
 pub mod BranchesSaid
 pub mod FilesSaid
+pub mod BodiesFit
+mod TreesSaid

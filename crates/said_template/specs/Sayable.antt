@@ -14,7 +14,7 @@ use Rattle.call_forms.specs.Bodies.{Body, sets, enters, picks, returns, fails, c
 use Rattle.dotted_names.specs.Trees.{dotted_expr}
 use Rattle.sql_meaning.specs.Placed.{placed_at}
 use Rattle.sql_meaning.specs.Reads.{slots_of}
-use Rattle.template_names.specs.Given.{SeesTables, IsOwn}
+use Rattle.placed_names.specs.Own.{SeesTables, IsOwn}
 use Rattle.typed_forms.specs.Typed.{HasKind}
 use Rattle.said_trees.specs.CanSay.{CanSay}
 use Rattle.said_template.specs.InSight.{SightIsSaid}
