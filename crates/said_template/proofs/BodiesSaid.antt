@@ -49,8 +49,9 @@ use Rattle.template_names.proofs.PassedNames.{paired_holds, slot_holds, beside_h
 use Rattle.template_names.proofs.Sighted.{Sighted, renamed}
 use Rattle.template_names.proofs.WalksRise.{rises}
 use Rattle.said_trees.specs.CanSay.{CanSay}
+use Rattle.said_trees.specs.Like.{IsCastable}
 use Rattle.said_template.specs.InSight.{LevelIsSaid, SightIsSaid}
-use Rattle.said_template.specs.Sayable.{TableIsSaid, BodyFits, further_in}
+use Rattle.said_template.specs.Sayable.{TableIsSaid, HasExpression, BodyFits, further_in}
 use Rattle.said_template.proofs.DottedParts.{Says, IsSome, SelectSays, select_over, union_says, let_says}
 use Rattle.said_template.proofs.OwnSaid.{FromSays, more_items, column_alone, column_says, columns_say, gated}
 use Rattle.said_template.proofs.SmallSaid.{truth_says, number_says, null_says, nulls_say, class_says, not_true_says}
@@ -59,6 +60,12 @@ use Rattle.said_template.proofs.SpokenNames.{alias_said, only_said, row_said}
 further_is : (d n : ℕ) → d ≤ further_in d n
 further_is d zero = omega arith
 further_is d (suc n) = omega (arith, further_is d n)
+
+castable : (t : Ty) → HasKind t → IsCastable t
+castable ty.Bigint h = tt
+castable ty.Boolean h = tt
+castable ty.Text h = tt
+castable ty.Integer h = absurd h
 
 -- the types of what a query is made of are written
 pub record TypesAreSaid (m : Making) : Type 0 where
@@ -113,49 +120,49 @@ module _ (schema : Schema) (m : Making) (clears : TableClears schema m.table) (n
           (cells_say 0 e keys args m.tail.columns typed.columns known) (null_says e ls m.result typed.result, (null_says e ls ty.Text tt, tt))))
 
     -- a term's expression, whose item sees the items before it
-    value_says : (t : Ty) (u : Term) (e : ℕ) → d ≤ e → HasKind t → SeesTables schema s → HasReferences m.table names u
-        → Says (suc e) ([] ∷ h.level ∷ s.levels) (value_at m depth places t u)
-    value_says t u e le kind sees refers =
+    value_says : (t : Ty) (u : Term) (e : ℕ) → d ≤ e → HasKind t → HasExpression m.table u → SeesTables schema s
+        → HasReferences m.table names u → Says (suc e) ([] ∷ h.level ∷ s.levels) (value_at m depth places t u)
+    value_says t u e le kind some sees refers =
         let here : Scope = inside [] (inside h.level s) in
         let slots : List ℕ = slots_of (get_or m.table u.expr expr.Null) in
-        says e le u.expr t here (column_beside slots (map (column_at (suc depth) places) u.names) (seen (suc depth) nowhere))
-        (sees_inside schema (inside h.level s) [] (sees_inside schema s h.level sees))
+        says e le u.expr t here (column_beside slots (map (column_at (suc depth) places) u.names) (seen (suc depth) nowhere)) (castable t kind) some
+        (sees_inside schema (inside h.level s) [] (sees_inside schema s h.level sees)) (tt, both_said)
         (λ place slot there.
           slot_holds (IsOwn here.levels) (column_at (suc depth) places) (seen (suc depth) nowhere) slots u.names slot refers.as_many
           (λ n among. subst (IsOwn here.levels) (sym (deeper_is depth (places n) (h.shallow n)))
-            (is_own k here.levels (deeper (seen depth (places n))) (own_deeper k (h.level ∷ s.levels) (seen depth (places n)) (h.own n (refers.known among.place n among.there)))))
+            (is_own k here.levels (deeper (seen depth (places n)))
+              (own_deeper k (h.level ∷ s.levels) (seen depth (places n)) (h.own n (refers.known among.place n among.there)))))
           (record { place = place; there = there }))
-        (tt, both_said) kind
 
   -- behind a term's item
   with_let : (k depth : ℕ) (s : Scope) (fs : List FromItem) (names : List ℕ) (places : scopes.Scope Place) → (h : Sighted k depth s fs names places) → SightIsSaid s.levels
-      → (e : ℕ) → d ≤ e → FromSays (suc (suc e)) s.levels fs → k < 2 ^ 64 → SeesTables schema s → (t : Ty) → HasKind t → (u : Term) → HasReferences m.table names u
+      → (e : ℕ) → d ≤ e → FromSays (suc (suc e)) s.levels fs → k < 2 ^ 64 → SeesTables schema s → (t : Ty) → HasKind t → (u : Term) → HasExpression m.table u → HasReferences m.table names u
       → FromSays (suc (suc e)) s.levels (fs ++ let_at m depth places k t u ∷ [])
-  with_let k depth s fs names places h sight e le from fits sees t kind u refers =
+  with_let k depth s fs names places h sight e le from fits sees t kind u some refers =
       let v : Expr = value_at m depth places t u in
       more_items (suc e) s.levels fs (alias_name k) only_name [] (one (tree.select (v ∷ []) [] None)) (alias_said k fits) (only_said, tt)
       (let_says (suc e) ((dotted_from s.levels fs).seen ∷ s.levels) v
-      (subst (λ l. Says (suc e) ([] ∷ l ∷ s.levels) v) (sym h.seen_is) (value_says k depth s fs names places h sight (suc e) from t u e le kind sees refers))) from
+      (subst (λ l. Says (suc e) ([] ∷ l ∷ s.levels) v) (sym h.seen_is) (value_says k depth s fs names places h sight (suc e) from t u e le kind some sees refers))) from
 
   -- ---- bodies
 
   pub body_says : (x : Body) (k depth : ℕ) (s : Scope) (fs : List FromItem) (names : List ℕ) (places : scopes.Scope Place) → SeesTables schema s → HasTree m.table names x
-      → (walk m depth places fs k x).next ≤ 2 ^ 64 → Sighted k depth s fs names places → SightIsSaid s.levels → (n : ℕ) → BodyFits x n
+      → (walk m depth places fs k x).next ≤ 2 ^ 64 → Sighted k depth s fs names places → SightIsSaid s.levels → (n : ℕ) → BodyFits m.table x n
       → FromSays (suc (suc (further_in d n))) s.levels fs → SelectSays (suc (suc (further_in d n))) s.levels (selected (walk m depth places fs k x))
   body_says (sets name u x) k depth s fs names places sees has fits h sight n fit from =
       let now : scopes.Scope Place = stands name (first_of depth (length fs)) places in
       let item : FromItem = let_at m depth places k (m.types name) u in
       let low : k < 2 ^ 64 = omega (arith, rises m x depth now (fs ++ (item ∷ [])) (suc k), fits) in
       body_says x (suc k) depth s (fs ++ (item ∷ [])) (name ∷ names) now sees has.1 fits
-      (clear.assigned schema m clears narrow k depth s fs names places h low sees (m.types name) u has.0 name) sight n fit
-      (with_let k depth s fs names places h sight (further_in d n) (further_is d n) from low sees (m.types name) (typed.types name) u has.0)
+      (clear.assigned schema m clears narrow k depth s fs names places h low sees (m.types name) u has.0 name) sight n fit.1
+      (with_let k depth s fs names places h sight (further_in d n) (further_is d n) from low sees (m.types name) (typed.types name) u fit.0 has.0)
   body_says (enters params args x) k depth s fs names places sees has fits h sight n fit from =
       let now : scopes.Scope Place = paired places nowhere params args in
       body_says x k depth s fs params now sees has.1 fits
       (renamed k depth s fs names places h params now (shallow_paired depth places params args h.shallow)
       (λ i among. paired_holds (λ p. Own k (h.level ∷ s.levels) (seen depth p)) places nowhere params args i has.0.as_many (λ a known. h.own a (has.0.known known.place a known.there)) among))
       sight n fit from
-  body_says (picks u x y) k depth s fs names places sees has fits h sight zero fit from = absurd fit
+  body_says (picks u x y) k depth s fs names places sees has fits h sight zero fit from = absurd fit.1
   body_says (picks u x y) k depth s fs names places sees has fits h sight (suc n) fit from =
       let d' : ℕ = further_in d n in
       let e : Expr = col 2 (length fs) 0 in
@@ -176,7 +183,7 @@ module _ (schema : Schema) (m : Making) (clears : TableClears schema m.table) (n
       let column : Col = record { level = 0; item = length fs; column = 0 } in
       let own : Own (suc k) (with.level ∷ s.levels) column = clear.let_own schema m clears narrow k depth s fs names places h low sees ty.Boolean u has.0 in
       let further : d ≤ suc d' = omega (arith, further_is d n) in
-      let from_one : FromSays (suc (suc (suc d'))) s.levels gs = with_let k depth s fs names places h sight (suc d') further from low sees ty.Boolean tt u has.0 in
+      let from_one : FromSays (suc (suc (suc d'))) s.levels gs = with_let k depth s fs names places h sight (suc d') further from low sees ty.Boolean tt u fit.0 has.0 in
       let here : Scope = inside with.level s in
       let here_said : SightIsSaid here.levels = both_said (suc k) depth s gs names places with sight (suc (suc d')) from_one in
       let seen_there : SeesTables schema here = sees_inside schema s with.level sees in
@@ -189,10 +196,10 @@ module _ (schema : Schema) (m : Making) (clears : TableClears schema m.table) (n
       let behind_no : Sighted (suc first.next) (suc depth) here (gate_as first.next no ∷ []) names places =
       clear.behind_gate schema m clears narrow (suc k) first.next depth s gs names places with le_no low_no column own no (c.is test.True true is_e) in
       let yes : SelectSays (suc (suc d')) here.levels (selected first) =
-      body_says x (suc (suc (suc k))) (suc depth) here (gate ∷ []) names places seen_there has.1 low_first behind here_said n fit.0
+      body_says x (suc (suc (suc k))) (suc depth) here (gate ∷ []) names places seen_there has.1 low_first behind here_said n fit.1.0
       (gated d' (suc (suc k)) here.levels e low_gate (column_says (suc k) ([] ∷ [] ∷ here.levels) (deeper (deeper column)) deep (tt, (tt, here_said)) (suc d'))) in
       let other : SelectSays (suc (suc d')) here.levels (selected second) =
-      body_says y (suc first.next) (suc depth) here (gate_as first.next no ∷ []) names places seen_there has.2 fits behind_no here_said n fit.1
+      body_says y (suc first.next) (suc depth) here (gate_as first.next no ∷ []) names places seen_there has.2 fits behind_no here_said n fit.1.1
       (gated d' first.next here.levels no low_no
       (not_true_says (suc d') ([] ∷ [] ∷ here.levels) e (column_alone (suc k) ([] ∷ [] ∷ here.levels) (deeper (deeper column)) deep (tt, (tt, here_said)) (suc d')))) in
       let clear_yes : IsClear select here (selected first) =
@@ -222,7 +229,7 @@ module _ (schema : Schema) (m : Making) (clears : TableClears schema m.table) (n
       let gs : List FromItem = fs ++ (let_at m depth places k m.result u ∷ []) in
       let with : Sighted (suc k) depth s gs names places = clear.with_let schema m clears narrow k depth s fs names places h low sees m.result u has in
       let own = clear.let_own schema m clears narrow k depth s fs names places h low sees m.result u has in
-      let from_one : FromSays (suc (suc d')) s.levels gs = with_let k depth s fs names places h sight d' (further_is d n) from low sees m.result typed.result u has in
+      let from_one : FromSays (suc (suc d')) s.levels gs = with_let k depth s fs names places h sight d' (further_is d n) from low sees m.result typed.result u fit has in
       let here : SightIsSaid (with.level ∷ s.levels) = both_said (suc k) depth s gs names places with sight (suc d') from_one in
       list_over (suc k) depth s gs names places with sight (suc d') from_one (end_row m (col 0 (length fs) 0) (null_of ty.Text)) (suc k) tt
       (end_says (suc d') (with.level ∷ s.levels) (col 0 (length fs) 0) (null_of ty.Text)

@@ -82,7 +82,7 @@ module _ (schema : Schema) (m : Making) (clears : TableClears schema m.table) (n
       is_number_says n ls (col 2 0 1) i low (column_alone 1 ls (record { level = 2; item = 0; column = 1 }) own (tt, (tt, here_said)) (suc n))
 
   branch_says : (i b : ℕ) → suc i < 2 ^ 63 → KeysFit width (params_of (slice_get m.anf.blocks b)) (keys_of m i)
-      → HasTree m.table (params_of (slice_get m.anf.blocks b)) (body_of m.anf m.tail b) → BodyFits (body_of m.anf m.tail b) tests → (walk_of m i b).next ≤ 2 ^ 64
+      → HasTree m.table (params_of (slice_get m.anf.blocks b)) (body_of m.anf m.tail b) → BodyFits m.table (body_of m.anf m.tail b) tests → (walk_of m i b).next ≤ 2 ^ 64
       → SelectSays depth here.levels (branch m i b)
   branch_says i b small fit has fits low =
       let params : List ℕ = params_of (slice_get m.anf.blocks b) in
@@ -111,7 +111,7 @@ module _ (schema : Schema) (m : Making) (clears : TableClears schema m.table) (n
   module _ (slots : List Slot) (names : List ℕ) (as_many : length m.tail.places ≡ length m.tail.labels)
       (placed : EachPair (λ i b places. PlacesAt slots names m.tail.columns (slice_get m.anf.blocks b) places) m.tail.labels m.tail.places)
       (trees : Each (λ b. HasTree m.table (params_of (slice_get m.anf.blocks b)) (body_of m.anf m.tail b)) m.tail.labels)
-      (bodies : Each (λ b. BodyFits (body_of m.anf m.tail b) tests) m.tail.labels) (fits : NumbersFit m) (some : 0 < length m.tail.labels) where
+      (bodies : Each (λ b. BodyFits m.table (body_of m.anf m.tail b) tests) m.tail.labels) (fits : NumbersFit m) (some : 0 < length m.tail.labels) where
     each_branch : (i b : ℕ) → slice_get m.tail.labels i ≡ Some b → SelectSays depth here.levels (branch m i b)
     each_branch i b there =
         let lt : i < length m.tail.labels = slice_get_within m.tail.labels i b there in

@@ -8,6 +8,7 @@ use Rattle.away_trees.specs.declared.statements.Function.{Function}
 use Rattle.away_types.specs.declared.slots.Slot.{Slot}
 use Rattle.away_types.specs.CheckedFunctions.{IsChecked}
 use Rattle.away_values.specs.declared.types.Ty.{Ty}
+use Rattle.away_typing.specs.Wholes.{column_types}
 use Rattle.block_forms.specs.declared.forms.Goto.{Goto}
 use Rattle.block_forms.specs.declared.forms.Ssa.{Ssa}
 use Rattle.block_forms.specs.declared.forms.SsaBlock.{SsaBlock}
@@ -22,7 +23,7 @@ use Rattle.call_forms.specs.Called.{Among, EntryParameters}
 use Rattle.call_forms.specs.Columned.{type_of_slot, type_at}
 use Rattle.call_forms.specs.Forms.{params_of, label_of}
 use Rattle.call_forms.specs.TailRuns.{label_or}
-use Rattle.call_forms.specs.Templated.{HasTree, type_or_bigint}
+use Rattle.call_forms.specs.Templated.{HasTree, type_or_bigint, types_of}
 use Rattle.call_law.proofs.Labels.{place_found, placed}
 use Rattle.cte_template.specs.Making.{Making}
 use Rattle.cte_template.specs.Tree.{label_rows}
@@ -39,6 +40,8 @@ use Rattle.template_names.proofs.FilesClear.{beside_working, sees_beside}
 use Rattle.template_names.proofs.TreesClear.{table_clears}
 use Rattle.template_parts.specs.Names.{row_names}
 use Rattle.typed_forms.specs.Typed.{HasKind}
+use Rattle.typed_forms.proofs.CheckedFacts.{facts}
+use Rattle.typed_forms.proofs.FormTypes.{terms_typed}
 use Rattle.said_template.specs.Laws.{TreeIsSaid}
 use Rattle.said_template.specs.Sayable.{TableIsSaid}
 use Rattle.said_template.proofs.BodiesFit.{labels_fit}
@@ -84,10 +87,12 @@ trees_said schema written f slots g z a r count params checked lowered named cal
     let typed : TypesAreSaid m =
     record { types = λ n. name_type slots writable.types.slots_are (slice_get z.names n); result = writable.types.result_is; columns = every_of r.columns writable.columns } in
     let deeper : (e : ℕ) → 196 ≤ e → TableIsSaid (suc e) schema m.table =
-    λ e le i t s ref seen own sight kind. deepened 195 (suc e) (omega (arith, le)) (said i t s ref seen own sight kind) in
+    λ e le i t s ref castable some seen sight own. deepened 195 (suc e) (omega (arith, le)) (said i t s ref castable some seen sight own) in
     let trees : Each (λ b. HasTree m.table (params_of (slice_get a.blocks b)) (body_of a r b)) r.labels =
     labels_have_trees slots g z a r (expressions f) called columned (terms_fit f slots g lowered count params z named a called) merged in
-    let bodies = labels_fit a r writable.labels tight.depths (fails_fit f slots g lowered count params z named a called) in
+    let bodies =
+    labels_fit (column_types schema) (expressions f) (types_of slots z) f.result a r writable.labels tight.depths (fails_fit f slots g lowered count params z named a called)
+    (terms_typed schema f slots (facts schema written f slots checked) writable.types g lowered count params z named a called) in
     let some : 0 < length r.labels = omega (arith, slice_get_within r.labels merged.entry.place g.entry merged.entry.there) in
     let rows : CanSay 215 from_item (dotted_part (label_rows m) [] (row_of (length r.columns) ∷ [])).item =
     rows_say schema m clears fits.columns typed 196 16 deeper tables sees writable.labels slots z.names columned.as_many columned.each trees bodies fits some in
