@@ -1,5 +1,5 @@
 -- A class of faults can be written as a string.
-use Rattle.std.proofs.Common.{◌≡◌, refl, ap, sym, ◌∙◌, subst, ℕ, ◌<◌, ◌≤◌, Bool, true, false, not, ◌&&◌, ◌==◌, List, [], ◌∷◌, ◌++◌, length, eqb, encode_utf8_all, arith}
+use Rattle.std.proofs.Common.{◌≡◌, refl, sym, subst, ℕ, ◌<◌, ◌≤◌, Bool, true, false, not, ◌&&◌, ◌==◌, List, [], ◌∷◌, ◌++◌, length, eqb, encode_utf8_all, arith}
 use Rattle.std.proofs.lemmas.Bool.Decides.{nat_tests}
 use Rattle.std.proofs.lemmas.Str.{encode_ascii}
 use Rattle.std.specs.List.{list_all}
@@ -24,7 +24,8 @@ not_zero c h = grind (arith, nat_tests)
 all_low : (t : List ℕ) → list_all is_class_char t ≡ true → encode_utf8_all t ≡ t
 all_low [] h = refl
 all_low (c ∷ t) h =
-    (λ i. encode_ascii c (low c (first_true (is_class_char c) (list_all is_class_char t) h)) i ++ all_low t (second_true (is_class_char c) (list_all is_class_char t) h) i)
+    (λ i. encode_ascii c (low c (first_true (is_class_char c) (list_all is_class_char t) h)) i ++ all_low t
+    (second_true (is_class_char c) (list_all is_class_char t) h) i)
 
 no_zeros : (t : List ℕ) → list_all is_class_char t ≡ true → HasNoZero t
 no_zeros [] h = refl
@@ -43,5 +44,10 @@ five n h = grind (arith, nat_tests)
 
 pub class_is_text : (t : List ℕ) → is_class t ≡ true → (all_scalars t ≡ true) × IsWord (encode_utf8_all t)
 class_is_text t h =
-    let chars : list_all is_class_char t ≡ true = first_true (list_all is_class_char t) _ (second_true (length t == 5) _ h) in
-    (scalars_low t chars, subst IsWord (sym (all_low t chars)) (record { short = five (length t) (first_true (length t == 5) _ h); no_zero = no_zeros t chars }))
+    let chars : list_all is_class_char t ≡ true = first_true (list_all is_class_char t) _ (second_true (length t == 5) _ h) in (
+      scalars_low t chars,
+      subst IsWord (sym (all_low t chars)) (record {
+        short = five (length t) (first_true (length t == 5) _ h);
+        no_zero = no_zeros t chars;
+      }),
+    )

@@ -1,7 +1,7 @@
 -- The whole query can be said.
-use Rattle.std.proofs.Common.{◌≡◌, refl, ap, sym, ◌∙◌, subst, ℕ, zero, suc, ◌+◌, ◌<◌, ◌≤◌, ◌^◌, true, pos, List, [], ◌∷◌, ◌++◌, map, length, Option, Some, None, option_map, arith}
+use Rattle.std.proofs.Common.{◌≡◌, refl, ap, sym, ◌∙◌, subst, ℕ, suc, ◌<◌, ◌^◌, true, pos, List, [], ◌∷◌, ◌++◌, length, Some, None, option_map, arith}
 use Rattle.std.specs.Prelude.{slice_get}
-use Rattle.away_grammar.specs.Grammar.{from_item, select, recursive, file}
+use Rattle.away_grammar.specs.Grammar.{from_item, recursive, file}
 use Rattle.away_trees.specs.declared.queries.Expr.{Expr}
 use Rattle.away_trees.specs.declared.queries.Expr.TheVariants as expr
 use Rattle.away_trees.specs.declared.queries.Source.{Source}
@@ -26,8 +26,7 @@ use Rattle.cte_template.specs.Places.{beside}
 use Rattle.cte_template.specs.Tree.{start, label_rows, step, last, working_table, tree}
 use Rattle.cte_template.specs.Walks.{keys_of, argument, arguments_at, all_columns}
 use Rattle.dotted_names.specs.Dotting as dot
-use Rattle.dotted_names.specs.Sight.{Sight}
-use Rattle.dotted_names.specs.Trees.{dotted, dotted_from, dotted_part, dotted_recursive, dotted_select, dotted_selects, dotted_shown}
+use Rattle.dotted_names.specs.Trees.{dotted, dotted_part, dotted_recursive, dotted_select, dotted_selects}
 use Rattle.dotted_names.proofs.DottingRules as d
 use Rattle.dotted_names.proofs.Gives.{Every}
 use Rattle.sql_meaning.specs.Trees.{col, truth, number, null_of}
@@ -67,12 +66,14 @@ module _ (schema : Schema) (m : Making) (narrow : length m.tail.columns < 2 ^ 64
   -- ---- the first row
 
   module _ (entry : ℕ) (few : (p : ℕ) → Among (params_of (slice_get m.anf.blocks entry)) p → p < 64) where
-    argument_says : (t : Ty) (keys : List ℕ) (i : ℕ) → HasKind t → Says (suc n) ([] ∷ []) (argument m t (beside keys (params_of (slice_get m.anf.blocks entry)) i))
+    argument_says : (t : Ty) (keys : List ℕ) (i : ℕ) → HasKind t → Says (suc n) ([] ∷ [])
+        (argument m t (beside keys (params_of (slice_get m.anf.blocks entry)) i))
     argument_says t keys i kind =
         beside_holds (λ o. Says (suc n) ([] ∷ []) (argument m t o)) keys (params_of (slice_get m.anf.blocks entry)) i (null_says n ([] ∷ []) t kind)
         (λ p among. parameter_says n ([] ∷ []) (suc p) (m.types p) (typed.types p) (omega arith) (omega (arith, few p among)))
 
-    arguments_say : (i : ℕ) (keys : List ℕ) (ts : List Ty) → Every HasKind ts → Every (Says (suc n) ([] ∷ [])) (arguments_at m i keys (params_of (slice_get m.anf.blocks entry)) ts)
+    arguments_say : (i : ℕ) (keys : List ℕ) (ts : List Ty) → Every HasKind ts → Every (Says (suc n) ([] ∷ []))
+        (arguments_at m i keys (params_of (slice_get m.anf.blocks entry)) ts)
     arguments_say i keys [] kinds = tt
     arguments_say i keys (t ∷ ts) kinds = (argument_says t keys i kinds.0, arguments_say (suc i) keys ts kinds.1)
 
@@ -81,9 +82,15 @@ module _ (schema : Schema) (m : Making) (narrow : length m.tail.columns < 2 ^ 64
         let place : ℕ = entry_place m.table m.types m.result m.anf m.tail entry in
         let arguments : List Expr = arguments_at m 0 (keys_of m place) (params_of (slice_get m.anf.blocks entry)) m.tail.columns in
         let ends : List Expr = null_of m.result ∷ null_of ty.Text ∷ [] in
-        select_over (suc n) [] (truth true ∷ number (pos (suc place)) ∷ arguments ++ ends) [] None tt tt
-        (truth_says n ([] ∷ []) true, (number_says n ([] ∷ []) (suc place) low, every_both (Says (suc n) ([] ∷ [])) arguments ends
-          (arguments_say 0 (keys_of m place) m.tail.columns typed.columns) (null_says n ([] ∷ []) m.result typed.result, (null_says n ([] ∷ []) ty.Text tt, tt)))) tt
+        select_over (suc n) [] (truth true ∷ number (pos (suc place)) ∷ arguments ++ ends) [] None tt tt (
+          truth_says n ([] ∷ []) true,
+          (
+            number_says n ([] ∷ []) (suc place) low,
+            every_both (Says (suc n) ([] ∷ [])) arguments ends
+                (arguments_say 0 (keys_of m place) m.tail.columns typed.columns)
+                (null_says n ([] ∷ []) m.result typed.result, (null_says n ([] ∷ []) ty.Text tt, tt)),
+          ),
+        ) tt
 
   -- ---- the step
 
@@ -95,19 +102,22 @@ module _ (schema : Schema) (m : Making) (narrow : length m.tail.columns < 2 ^ 64
 
   go_own : Own 1 (both ∷ []) (record { level = 0; item = 0; column = 0 })
   unfolding row_own own_last
-  go_own = own_beside 1 (row_of width ∷ []) [] (clear.rows_seen schema m narrow) (record { level = 0; item = 0; column = 0 }) (row_own 1 width 0 narrow (omega arith)) (letter_apart table_name step_name refl)
+  go_own = own_beside 1 (row_of width ∷ []) [] (clear.rows_seen schema m narrow) (record { level = 0; item = 0; column = 0 })
+      (row_own 1 width 0 narrow (omega arith)) (letter_apart table_name step_name refl)
 
   step_says : CanSay (suc n) from_item (dotted_part (label_rows m) [] (row_of width ∷ [])).item → SelectSays (suc n) [] (step m tables)
   step_says rows =
       let fs : List FromItem = working tables width ∷ label_rows m ∷ [] in
       let all : List Expr = all_columns m 1 in
       let first : Level = (dotted_part (working tables width) [] []).seen ∷ [] in
-      select_over (suc n) [] all fs (Some (col 0 0 0)) tt
-      (working_says (suc n) tables width [] [],
-        (subst (λ o. CanSay (suc n) from_item (dotted_part (label_rows m) [] (o ∷ [])).item) (sym (working_seen tables width [] [])) rows, tt))
+      select_over (suc n) [] all fs (Some (col 0 0 0)) tt (
+        working_says (suc n) tables width [] [],
+        (subst (λ o. CanSay (suc n) from_item (dotted_part (label_rows m) [] (o ∷ [])).item) (sym (working_seen tables width [] [])) rows, tt),
+      )
       (subst (λ l. Every (Says (suc n) (l ∷ [])) all) (sym (clear.seen_both schema m narrow))
-        (columns_say width (suc n) 1 1 (both ∷ []) both_said (clear.rows_own schema m narrow) 0 (suc (suc (suc (suc width)))) (omega arith)))
-      (subst (λ l. Says (suc n) (l ∷ []) (col 0 0 0)) (sym (clear.seen_both schema m narrow)) (column_says 1 (both ∷ []) (record { level = 0; item = 0; column = 0 }) go_own both_said (suc n)))
+      (columns_say width (suc n) 1 1 (both ∷ []) both_said (clear.rows_own schema m narrow) 0 (suc (suc (suc (suc width)))) (omega arith)))
+      (subst (λ l. Says (suc n) (l ∷ []) (col 0 0 0)) (sym (clear.seen_both schema m narrow))
+      (column_says 1 (both ∷ []) (record { level = 0; item = 0; column = 0 }) go_own both_said (suc n)))
 
   -- ---- the finished row
 
@@ -125,25 +135,40 @@ module _ (schema : Schema) (m : Making) (narrow : length m.tail.columns < 2 ^ 64
       let list : List Expr = col 0 0 (suc (suc width)) ∷ col 0 0 (suc (suc (suc width))) ∷ [] in
       let seen = working_seen tables width [] [] in
       select_over (suc (suc n)) [] list (working tables width ∷ []) (Some (expr.Not (col 0 0 0))) tt (working_says (suc (suc n)) tables width [] [], tt)
-      (subst (λ o. Every (Says (suc (suc n)) ((o ∷ []) ∷ [])) list) (sym seen) (row_says (suc (suc width)) (omega arith), (row_says (suc (suc (suc width))) (omega arith), tt)))
+      (subst (λ o. Every (Says (suc (suc n)) ((o ∷ []) ∷ [])) list) (sym seen)
+      (row_says (suc (suc width)) (omega arith), (row_says (suc (suc (suc width))) (omega arith), tt)))
       (subst (λ o. Says (suc (suc n)) ((o ∷ []) ∷ []) (expr.Not (col 0 0 0))) (sym seen)
-        (negated_says (suc (suc n)) (alone ∷ []) (col 0 0 0) (column_alone 1 (alone ∷ []) (record { level = 0; item = 0; column = 0 }) (row_own 1 width 0 narrow (omega arith)) alone_said (suc (suc n)))))
+      (negated_says (suc (suc n)) (alone ∷ []) (col 0 0 0) (column_alone 1 (alone ∷ []) (record { level = 0; item = 0; column = 0 })
+      (row_own 1 width 0 narrow (omega arith)) alone_said (suc (suc n)))))
 
   -- ---- the whole
 
   table_is : (entry : ℕ) → dotted_recursive (working_table m entry tables) []
-      ≡ roll-Recursive (record { name = table_name; columns = row_names width; first = (dotted_select (start m entry) []).it ∷ []; second = (dotted_select (step m tables) []).it })
+      ≡ roll-Recursive (record {
+        name = table_name;
+        columns = row_names width;
+        first = (dotted_select (start m entry) []).it ∷ [];
+        second =
+            (dotted_select (step m tables) []).it;
+      })
   table_is entry =
       let o : Fields = record { name = table_name; columns = row_names width; first = start m entry ∷ []; second = step m tables } in
       d.recursive_rule (roll-Recursive o) []
-      ∙ ap (λ (o : Fields). roll-Recursive (record { name = o.name; columns = o.columns; first = (dotted_selects [] o.first).it; second = (dotted_select o.second []).it })) (out-roll-Recursive o)
+      ∙ ap (λ (o : Fields). roll-Recursive (record {
+        name = o.name;
+        columns = o.columns;
+        first = (dotted_selects [] o.first).it;
+        second =
+            (dotted_select o.second []).it;
+      })) (out-roll-Recursive o)
 
   file_is : (entry : ℕ) → dotted (tree m entry tables)
       ≡ roll-Query (record { recursive = Some (dotted_recursive (working_table m entry tables) []); selects = (dotted_select (last m tables) []).it ∷ [] })
   file_is entry =
       let x : QueryFields = record { recursive = Some (working_table m entry tables); selects = last m tables ∷ [] } in
       ap (λ (z : Shown Query). z.it)
-      (d.query_rule (roll-Query x) [] ∙ ap (λ (x : QueryFields). dot.query_of (option_map (λ r. dotted_recursive r []) x.recursive) (dotted_selects [] x.selects)) (out-roll-Query x))
+      (d.query_rule (roll-Query x) [] ∙ ap (λ (x : QueryFields). dot.query_of (option_map (λ r. dotted_recursive r []) x.recursive)
+      (dotted_selects [] x.selects)) (out-roll-Query x))
 
   pub tree_says : (entry : ℕ) → SelectSays (suc n) [] (start m entry) → CanSay (suc n) from_item (dotted_part (label_rows m) [] (row_of width ∷ [])).item
       → CanSay (suc (suc n)) file (dotted (tree m entry tables))
@@ -151,6 +176,7 @@ module _ (schema : Schema) (m : Making) (narrow : length m.tail.columns < 2 ^ 64
       subst (CanSay (suc (suc n)) file) (sym (file_is entry))
       (file_said (suc (suc n)) (dotted_recursive (working_table m entry tables) []) (dotted_select (last m tables) []).it
       (subst (CanSay (suc (suc n)) recursive) (sym (table_is entry))
-      (recursive_said (suc n) table_name go_name (label_name ∷ value_names width ++ (result_name ∷ fault_name ∷ [])) (dotted_select (start m entry) []).it (dotted_select (step m tables) []).it
+      (recursive_said (suc n) table_name go_name (label_name ∷ value_names width ++ (result_name ∷ fault_name ∷ [])) (dotted_select (start m entry) []).it
+      (dotted_select (step m tables) []).it
       table_said (row_said width narrow) first.says (step_says rows).says))
       last_says.says)

@@ -1,9 +1,8 @@
 -- Where the names in sight can be said, columns of the query's own can, and items that are added say their names in turn.
-use Rattle.std.proofs.Common.{◌≡◌, refl, ap, sym, ◌∙◌, subst, ℕ, zero, suc, ◌+◌, ◌<◌, ◌≤◌, ◌^◌, true, List, [], ◌∷◌, ◌++◌, map, Option, Some, None, arith}
+use Rattle.std.proofs.Common.{◌≡◌, ap, sym, ◌∙◌, subst, ℕ, zero, suc, ◌+◌, ◌<◌, ◌≤◌, ◌^◌, true, List, [], ◌∷◌, ◌++◌, map, Option, Some, arith}
 use Rattle.std.specs.Prelude.{slice_get}
 use Rattle.std.specs.Option.{option_and_then}
 use Rattle.std.proofs.lemmas.List.Sums.{fold-append}
-use Rattle.std.proofs.lemmas.Option.{same_Some}
 use Rattle.away_grammar.specs.declared.grammar.Level.TheVariants as l
 use Rattle.away_grammar.specs.Grammar.{at, from_item, query}
 use Rattle.away_names.specs.declared.note.Framed.{Framed}
@@ -15,7 +14,7 @@ use Rattle.away_trees.specs.declared.queries.Expr.TheVariants as expr
 use Rattle.away_trees.specs.declared.queries.FromItem.{FromItem}
 use Rattle.away_trees.specs.declared.queries.Query.{Query}
 use Rattle.dotted_names.specs.Dotting.{with_part, no_part}
-use Rattle.dotted_names.specs.Sight.{Sight, holder, name_at}
+use Rattle.dotted_names.specs.Sight.{Sight}
 use Rattle.dotted_names.specs.Trees.{dotted_expr, dotted_from, dotted_part, dotted_shown}
 use Rattle.dotted_names.proofs.DottingRules.{column_is}
 use Rattle.dotted_names.proofs.Gives.{Every}
@@ -36,12 +35,14 @@ use Rattle.said_template.proofs.SpokenNames.{NameIsSaid, alias_said, only_said}
 
 -- ---- columns
 
-held_said : (ls : List Level) (level item : ℕ) (o : Seen) → SightIsSaid ls → option_and_then (λ (l : Level). slice_get l item) (slice_get ls level) ≡ Some o → ItemIsSaid o
+held_said : (ls : List Level) (level item : ℕ) (o : Seen) → SightIsSaid ls → option_and_then (λ (l : Level). slice_get l item) (slice_get ls level) ≡ Some o
+    → ItemIsSaid o
 held_said [] level item o h e = absurd (cc)
 held_said (l ∷ ls) zero item o h e = every_at ItemIsSaid l item o h.0 e
 held_said (l ∷ ls) (suc level) item o h e = held_said ls level item o h.1 e
 
-named_said : (ns : List (Option Name)) (i : ℕ) (n : Name) → Every ColumnIsSaid ns → option_and_then (λ (o : Option Name). o) (slice_get ns i) ≡ Some n → NameIsSaid n
+named_said : (ns : List (Option Name)) (i : ℕ) (n : Name) → Every ColumnIsSaid ns → option_and_then (λ (o : Option Name). o) (slice_get ns i) ≡ Some n
+    → NameIsSaid n
 named_said [] i n h e = absurd (cc)
 named_said (x ∷ ns) zero n h e = subst ColumnIsSaid e h.0
 named_said (x ∷ ns) (suc i) n h e = named_said ns i n h.1 e
@@ -73,7 +74,8 @@ pub record FromSays (n : ℕ) (s : Sight) (fs : List FromItem) : Type 0 where
 pub no_items : (n : ℕ) (s : Sight) → FromSays n s []
 no_items n s = record { items = tt; level = tt }
 
-items_more : (s : Sight) (fs : List FromItem) (f : FromItem) → (dotted_from s (fs ++ f ∷ [])).items ≡ (dotted_from s fs).items ++ (dotted_part f s (dotted_from s fs).seen).item ∷ []
+items_more : (s : Sight) (fs : List FromItem) (f : FromItem) → (dotted_from s (fs ++ f ∷ [])).items ≡ (dotted_from s fs).items ++
+    (dotted_part f s (dotted_from s fs).seen).item ∷ []
 items_more s fs f = ap (λ (a : Framed). a.items) (fold-append (λ a f. with_part a (dotted_part f s a.seen)) no_part fs (f ∷ []))
 
 -- one more subquery
@@ -84,7 +86,8 @@ more_items n s fs alias x xs q k h c f =
     let level : Level = (dotted_from s fs).seen in
     record {
       items = subst (Every (CanSay (suc n) from_item)) (sym (items_more s fs new))
-          (every_both (CanSay (suc n) from_item) (dotted_from s fs).items ((dotted_part new s level).item ∷ []) f.items (lateral_says n alias x xs q s level k h c, tt));
+          (every_both (CanSay (suc n) from_item) (dotted_from s fs).items ((dotted_part new s level).item ∷ []) f.items
+          (lateral_says n alias x xs q s level k h c, tt));
       level = subst LevelIsSaid (sym (seen_more s fs new))
           (every_both ItemIsSaid level ((dotted_part new s level).seen ∷ []) f.level
           (subst ItemIsSaid (sym (lateral_seen alias x xs q s level)) (seen_said alias (x ∷ xs) k h), tt));
@@ -97,7 +100,8 @@ gated n j ls c fits test =
     (gate_says (suc n) ([] ∷ ls) (truth true) c (truth_says n ([] ∷ [] ∷ ls) true) test) (no_items (suc (suc n)) ls)
 
 -- the columns of an item of rows, from the i-th on
-pub columns_say : (w n k item : ℕ) (ls : List Level) → SightIsSaid ls → ((i : ℕ) → i < suc (suc (suc (suc w))) → Own k ls (record { level = 0; item = item; column = i }))
+pub columns_say : (w n k item : ℕ) (ls : List Level) → SightIsSaid ls →
+    ((i : ℕ) → i < suc (suc (suc (suc w))) → Own k ls (record { level = 0; item = item; column = i }))
     → (i more : ℕ) → i + more ≤ suc (suc (suc (suc w))) → Every (Says n ls) (map (col 0 item) (count_from i more))
 columns_say w n k item ls sight own i zero le = tt
 columns_say w n k item ls sight own i (suc more) le = (

@@ -1,5 +1,5 @@
 -- How trees are said by their parts.
-use Rattle.std.proofs.Common.{◌≡◌, refl, ap, sym, ◌∙◌, subst, ℕ, suc, ◌+◌, ◌<◌, ◌≤◌, ◌^◌, pos, Bool, true, false, List, [], ◌∷◌, ◌++◌, Option, Some, None, arith, codes, encode_utf8_all}
+use Rattle.std.proofs.Common.{◌≡◌, refl, ℕ, suc, ◌<◌, ◌≤◌, ◌^◌, pos, Bool, true, false, List, [], ◌∷◌, Option, Some, None, arith, encode_utf8_all}
 use Rattle.std.specs.Str.{all_scalars}
 use Rattle.away_values.specs.Words.{IsWord}
 use Rattle.away_values.specs.declared.types.Ty.{Ty}
@@ -8,7 +8,8 @@ use Rattle.away_values.specs.declared.operators.CmpOp.TheVariants as cmp
 use Rattle.away_values.specs.declared.operators.IsTest.TheVariants as test
 use Rattle.away_grammar.specs.declared.grammar.Mark.TheVariants as m
 use Rattle.away_grammar.specs.declared.grammar.Level.TheVariants as l
-use Rattle.away_grammar.specs.Grammar.{Sort, at, item, items, from_item, from_items, from_clause, where_clause, select, selects, query, names, recursive, file, may_join, type_named}
+use Rattle.away_grammar.specs.Grammar.{at, item, items, from_item, from_items, from_clause, where_clause, select, selects, query, names, recursive, file}
+use Rattle.away_grammar.specs.Grammar.{may_join, type_named}
 use Rattle.away_grammar.specs.Printing.{type_name}
 use Rattle.away_grammar.specs.Reserved.{is_reserved}
 use Rattle.away_grammar.specs.Signs.{Sign, mark, name, integer, string, parameter}
@@ -23,9 +24,8 @@ use Rattle.away_trees.specs.declared.queries.Recursive.{Recursive}
 use Rattle.away_trees.specs.declared.queries.Select.{Select}
 use Rattle.away_trees.specs.declared.queries.Expr.TheViews.{roll-FromItem, roll-Item, roll-Query, roll-Recursive, roll-Select}
 use Rattle.dotted_names.proofs.Gives.{Every}
-use Rattle.sql_printer.specs.Spoken.{AllSpoken}
 use Rattle.typed_forms.specs.Typed.{HasKind}
-use Rattle.said_trees.specs.CanSay.{CanSay, Said}
+use Rattle.said_trees.specs.CanSay.{CanSay}
 use Rattle.said_trees.specs.SaysIn.{SaysIn}
 use Rattle.said_trees.specs.SaysIn as s
 use Rattle.said_template.proofs.SpokenNames.{NameIsSaid}
@@ -72,7 +72,12 @@ module _ (d : ℕ) where
   equal_said x y h k rest =
       let q = k rest in
       let p = h (mark m.Equal ∷ q.signs) in
-      record { signs = p.signs; spoken = λ r. p.spoken (tt, q.spoken r); says = joined (s.affirmed (s.untested (s.compared m.Equal refl (ranged p.says) (ranged q.says)))) }
+      record {
+        signs = p.signs;
+        spoken = λ r. p.spoken (tt, q.spoken r);
+        says = joined
+            (s.affirmed (s.untested (s.compared m.Equal refl (ranged p.says) (ranged q.says))));
+      }
 
   -- ---- literals
 
@@ -108,7 +113,12 @@ type_said ty.Integer h = absurd h
 pub cast_alone : (d : ℕ) (t : Ty) (x : Expr) → HasKind t → CanSay d (at l.Or) x → CanSay (suc d) (at l.Primary) (expr.Cast x t)
 cast_alone d t x k h rest =
     let p = h (mark m.As ∷ name (type_name t) ∷ mark m.Close ∷ rest) in
-    record { signs = mark m.Cast ∷ mark m.Open ∷ p.signs; spoken = λ r. (tt, (tt, p.spoken (tt, (type_said t k, (tt, r))))); says = s.cast (type_name t) (type_is t k) p.says }
+    record {
+      signs = mark m.Cast ∷ mark m.Open ∷ p.signs;
+      spoken = λ r. (tt, (tt, p.spoken (tt, (type_said t k, (tt, r)))));
+      says = s.cast (type_name t)
+          (type_is t k) p.says;
+    }
 
 pub cast_said : (d : ℕ) (t : Ty) (x : Expr) → HasKind t → CanSay d (at l.Or) x → CanSay (suc d) (at l.Or) (expr.Cast x t)
 cast_said d t x k h = stands_alone (suc d) (expr.Cast x t) (cast_alone d t x k h)
@@ -149,7 +159,11 @@ module _ (d : ℕ) where
 
   from_said : (xs : List FromItem) → Every (CanSay d from_item) xs → CanSay d from_clause xs
   from_said [] h rest = record { signs = rest; spoken = λ r. r; says = s.no_from }
-  from_said (x ∷ xs) h rest = let p = from_items_said x xs h rest in record { signs = mark m.From ∷ p.signs; spoken = λ r. (tt, p.spoken r); says = s.from p.says }
+  from_said (x ∷ xs) h rest = let p = from_items_said x xs h rest in record {
+    signs = mark m.From ∷ p.signs;
+    spoken = λ r. (tt, p.spoken r);
+    says = s.from p.says;
+  }
 
   abbrev pub MaybeSaid : Option Expr → Type 0
   MaybeSaid None = Unit {0}
@@ -161,13 +175,18 @@ module _ (d : ℕ) where
 
   -- ---- selects
 
-  pub select_said : (x : Item) (xs : List Item) (fs : List FromItem) (o : Option Expr) → Every (CanSay d item) (x ∷ xs) → Every (CanSay d from_item) fs → MaybeSaid o
+  pub select_said : (x : Item) (xs : List Item) (fs : List FromItem) (o : Option Expr) → Every (CanSay d item) (x ∷ xs) → Every (CanSay d from_item) fs
+      → MaybeSaid o
       → CanSay d select (roll-Select (record { list = x ∷ xs; from = fs; filter = o; order = []; limit = None }))
   select_said x xs fs o h f w rest =
       let c = where_said o w rest in
       let b = from_said fs f c.signs in
       let a = items_said x xs h b.signs in
-      record { signs = mark m.Select ∷ a.signs; spoken = λ r. (tt, a.spoken (b.spoken (c.spoken r))); says = s.select_of a.says b.says c.says s.no_order s.no_limit }
+      record {
+        signs = mark m.Select ∷ a.signs;
+        spoken = λ r. (tt, a.spoken (b.spoken (c.spoken r)));
+        says = s.select_of a.says b.says c.says s.no_order s.no_limit;
+      }
 
   pub selects_said : (x : Select) (xs : List Select) → Every (CanSay d select) (x ∷ xs) → CanSay d selects (x ∷ xs)
   selects_said x [] h rest = let p = h.0 rest in record { signs = p.signs; spoken = p.spoken; says = s.last_select p.says }
@@ -196,7 +215,8 @@ lateral_said d q alias n ns k h c rest =
       says = s.sub_columns true a.says b.says;
     }
 
-pub recursive_said : (d : ℕ) (n c : Name) (cs : List Name) (first second : Select) → NameIsSaid n → Every NameIsSaid (c ∷ cs) → CanSay d select first → CanSay d select second
+pub recursive_said : (d : ℕ) (n c : Name) (cs : List Name) (first second : Select) → NameIsSaid n → Every NameIsSaid (c ∷ cs) → CanSay d select first
+    → CanSay d select second
     → CanSay (suc d) recursive (roll-Recursive (record { name = n; columns = c ∷ cs; first = first ∷ []; second = second }))
 recursive_said d n c cs first second k h f g rest =
     let b = selects_said d first (second ∷ []) (f, (g, tt)) (mark m.Close ∷ rest) in

@@ -1,5 +1,5 @@
 -- Small parts of the query that can be said wherever they stand.
-use Rattle.std.proofs.Common.{◌≡◌, refl, ap, sym, ◌∙◌, subst, ℕ, suc, ◌<◌, ◌≤◌, ◌^◌, pos, Bool, true, false, List, [], ◌∷◌, ◌++◌, map, encode_utf8_all}
+use Rattle.std.proofs.Common.{◌≡◌, ap, sym, ◌∙◌, subst, ℕ, suc, ◌<◌, ◌≤◌, ◌^◌, pos, Bool, true, List, [], ◌∷◌, map}
 use Rattle.away_values.specs.Classes.{is_class}
 use Rattle.away_values.specs.declared.operators.CmpOp.TheVariants as cmp
 use Rattle.away_values.specs.declared.operators.IsTest.TheVariants as test
@@ -53,9 +53,11 @@ module _ (n : ℕ) (s : Sight) where
   pub negated_says : (e : Expr) → CanSay n (at l.Primary) (dotted_expr e s) → Says n s (expr.Not e)
   negated_says e h = subst (CanSay n (at l.Or)) (sym (d.not_is e s)) (say.negated_said n (dotted_expr e s) h)
 
-  pub is_number_says : (e : Expr) (i : ℕ) → i < 2 ^ 63 → CanSay (suc n) (at l.Primary) (dotted_expr e s) → Says (suc n) s (expr.Compare cmp.Eq e (number (pos i)))
+  pub is_number_says : (e : Expr) (i : ℕ) → i < 2 ^ 63 → CanSay (suc n) (at l.Primary) (dotted_expr e s) → Says (suc n) s
+      (expr.Compare cmp.Eq e (number (pos i)))
   is_number_says e i low h =
-      let same : dotted_expr (number (pos i)) s ≡ number (pos i) = d.cast_is (expr.Int (pos i)) ty.Bigint s ∙ ap (λ y. expr.Cast y ty.Bigint) (d.int_is (pos i) s) in
+      let same : dotted_expr (number (pos i)) s ≡ number (pos i) =
+      d.cast_is (expr.Int (pos i)) ty.Bigint s ∙ ap (λ y. expr.Cast y ty.Bigint) (d.int_is (pos i) s) in
       subst (CanSay (suc n) (at l.Or)) (sym (d.compare_is cmp.Eq e (number (pos i)) s))
       (say.equal_said (suc n) (dotted_expr e s) (dotted_expr (number (pos i)) s) h
       (subst (CanSay (suc n) (at l.Primary)) (sym same) (say.cast_alone n ty.Bigint (expr.Int (pos i)) tt (say.int_said n i low))))

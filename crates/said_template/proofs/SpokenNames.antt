@@ -1,12 +1,10 @@
 -- The query's own names can be written: they are short, in lower case, and not reserved.
-use Rattle.std.proofs.Common.{◌≡◌, refl, ap, sym, ◌∙◌, subst, ℕ, zero, suc, ◌+◌, ◌-◌, ◌<◌, ◌≤◌, ◌^◌, ◌&&◌, true, false, List, [], ◌∷◌, ◌++◌, map, length, codes, decimal, arith}
-use Rattle.std.specs.Char.{to_ascii_lowercase, is_ascii_digit}
+use Rattle.std.proofs.Common.{◌≡◌, refl, ap, ◌∙◌, ℕ, zero, suc, ◌+◌, ◌<◌, ◌≤◌, ◌^◌, ◌&&◌, true, List, [], ◌∷◌, ◌++◌, map, length, codes, decimal, arith}
+use Rattle.std.specs.Char.{to_ascii_lowercase}
 use Rattle.std.specs.List.{list_all}
 use Rattle.std.specs.Char.{digit_value}
 use Rattle.std.specs.Str.Parse.{AllDigits}
 use Rattle.std.proofs.lemmas.Fmt.{decimal_is_IsNumeral, length-decimal-le}
-use Rattle.std.proofs.lemmas.List.Folds.{list_all-append}
-use Rattle.std.proofs.lemmas.List.{map-append}
 use Rattle.std.proofs.lemmas.Str.Parse.{digit_from_value}
 use Rattle.std.specs.Int.{IsInRange}
 use Rattle.std.proofs.lemmas.Bool.Decides.{nat_tests}
@@ -17,7 +15,8 @@ use Rattle.away_grammar.specs.Spellings.{goes_on}
 use Rattle.dotted_names.proofs.Gives.{Every}
 use Rattle.sql_meaning.specs.Template.{count_from}
 use Rattle.sql_printer.specs.Spoken.{Spoken}
-use Rattle.template_parts.specs.Names.{table_name, step_name, only_name, go_name, label_name, result_name, fault_name, alias_name, column_name, value_names, row_names}
+use Rattle.template_parts.specs.Names.{table_name, step_name, only_name, go_name, label_name, result_name, fault_name, alias_name, column_name, value_names}
+use Rattle.template_parts.specs.Names.{row_names}
 use Rattle.template_names.proofs.Differences.{every_both}
 
 abbrev pub NameIsSaid : Name → Type 0
@@ -47,8 +46,7 @@ short_digits k fits = length-decimal-le 20 k (omega arith) (omega (arith, fits))
 pub alias_said : (k : ℕ) → k < 2 ^ 64 → NameIsSaid (alias_name k)
 unfolding is_reserved
 alias_said k fits =
-    let digits = decimal_is_IsNumeral k fits in
-    (
+    let digits = decimal_is_IsNumeral k fits in (
       record { starts = refl; plain = digits_go_on (decimal k) digits.0.1; short = omega (arith, short_digits k fits) },
       λ i. codes "away_k" ++ digits_folded (decimal k) digits.0.1 i,
       refl,
@@ -57,8 +55,7 @@ alias_said k fits =
 pub column_said : (k : ℕ) → k < 2 ^ 64 → NameIsSaid (column_name k)
 unfolding is_reserved
 column_said k fits =
-    let digits = decimal_is_IsNumeral k fits in
-    (
+    let digits = decimal_is_IsNumeral k fits in (
       record { starts = refl; plain = digits_go_on (decimal k) digits.0.1; short = omega (arith, short_digits k fits) },
       λ i. codes "away_c" ++ digits_folded (decimal k) digits.0.1 i,
       refl,
@@ -101,5 +98,11 @@ values_said i zero fits = tt
 values_said i (suc n) fits = (column_said i (omega (arith, fits)), values_said (suc i) n (omega (arith, fits)))
 
 pub row_said : (w : ℕ) → w < 2 ^ 64 → Every NameIsSaid (row_names w)
-row_said w fits =
-    (go_said, (label_said, every_both NameIsSaid (value_names w) (result_name ∷ fault_name ∷ []) (values_said 0 w (omega (arith, fits))) (result_said, (fault_said, tt))))
+row_said w fits = (
+  go_said,
+  (
+    label_said,
+    every_both NameIsSaid (value_names w) (result_name ∷ fault_name ∷ []) (values_said 0 w (omega (arith, fits)))
+        (result_said, (fault_said, tt)),
+  ),
+)
