@@ -1,1 +1,3 @@
 pub mod SaidReadings
+pub mod SaidNames
+pub mod LikeNodes

@@ -11,3 +11,6 @@ use Rattle.said_values.specs.NamesSaid.{NamesAreSaid}
 -- The names of an expression that is read from spoken signs can be said.
 abbrev pub ReadNamesAreSaid : Type 0
 ReadNamesAreSaid = (level : Level) (ts : List Sign) (x : Expr) (rest : List Sign) → Reads (at level) ts x rest → AllSpoken ts → NamesAreSaid value x
+
+abbrev pub Scratch : Type 0
+Scratch = Unit {0}

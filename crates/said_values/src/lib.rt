@@ -3,4 +3,4 @@
 
 mod laws;
 
-pub use laws::names_that_are_read_are_said;
+pub use laws::{names_that_are_read_are_said, scratch};
