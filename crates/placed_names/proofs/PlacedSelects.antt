@@ -266,7 +266,7 @@ module _ (q : Scope) (slots : ℕ → Bool) (leaf : ℕ → ℕ → Expr) where
 
   -- ---- queries
 
-  abbrev QueryFields : Type 0
+  abbrev pub QueryFields : Type 0
   QueryFields = Query-F Expr Source FromItem Item Key Query Recursive Select
 
   first_so : (s : Scope) (ms : List Level) → Fits q s ms → (ls : List n.Listing) → Every (part.Selects q slots leaf) ls → Every (λ l. Clean (l s).note) ls

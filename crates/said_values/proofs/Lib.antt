@@ -1,3 +1,5 @@
 pub mod SaidReadings
 pub mod SaidNames
 pub mod LikeNodes
+pub mod LikeFrom
+pub mod LikeSelects
