@@ -3,3 +3,4 @@ pub mod SaidNames
 pub mod LikeNodes
 pub mod LikeFrom
 pub mod LikeSelects
+pub mod LikeTrees
