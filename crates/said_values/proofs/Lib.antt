@@ -4,3 +4,4 @@ pub mod LikeNodes
 pub mod LikeFrom
 pub mod LikeSelects
 pub mod LikeTrees
+pub mod WrittenSources

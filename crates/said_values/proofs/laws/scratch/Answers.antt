@@ -1,5 +1,5 @@
 use Rattle.said_values.proofs.SaidNames.{said_leaves}
-use Rattle.said_values.proofs.LikeTrees as x
+use Rattle.said_values.proofs.WrittenSources as x
 use Rattle.said_values.proofs.laws.scratch.Goals as goal
 
 pub returns : goal.returns
