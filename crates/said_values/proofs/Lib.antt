@@ -5,3 +5,6 @@ pub mod LikeFrom
 pub mod LikeSelects
 pub mod LikeTrees
 pub mod WrittenSources
+pub mod SaidEntries
+pub mod SaidFixed
+pub mod SaidExpressions

@@ -3,4 +3,4 @@
 
 mod laws;
 
-pub use laws::{names_that_are_read_are_said, scratch};
+pub use laws::{expressions_in_a_query_are_said, names_that_are_read_are_said};
