@@ -1,5 +1,5 @@
 -- FROM of a function is like what stands for it in a query, where its subqueries are.
-use Rattle.std.proofs.Common.{◌≡◌, refl, ap, sym, subst, ◌∙◌, ℕ, suc, arith, Bool, true, false, List, [], ◌∷◌, ◌++◌, map, drop, length, Option, Some, None}
+use Rattle.std.proofs.Common.{◌≡◌, ap, sym, subst, ◌∙◌, ℕ, suc, arith, Bool, true, false, List, [], ◌∷◌, ◌++◌, map, length, Option, Some, None}
 use Rattle.away_trees.specs.declared.queries.Expr.{Expr}
 use Rattle.away_trees.specs.declared.queries.Source.{Source}
 use Rattle.away_trees.specs.declared.queries.Source.TheVariants as source
@@ -17,7 +17,7 @@ use Rattle.away_names.specs.declared.scope.Listed.{Listed}
 use Rattle.away_names.specs.declared.scope.Seen.{Seen}
 use Rattle.away_names.specs.Lookups.{Name, Level, Scope, inside}
 use Rattle.away_names.specs.Naming as n
-use Rattle.sql_meaning.specs.Reads.{Read, Reads, SourceReads, reading, of_list}
+use Rattle.sql_meaning.specs.Reads.{Read, SourceReads, reading, of_list}
 use Rattle.sql_meaning.proofs.Lists.{Zipped}
 use Rattle.typed_values.specs.Sorts.{Every}
 use Rattle.typed_values.proofs.Lists.{every_append}
@@ -106,7 +106,7 @@ module _ (q : Scope) (slots : ℕ → Bool) (leaf : ℕ → ℕ → Expr) (said 
       subst (IsLike from_item (roll-FromItem (record { source = source.Sub w lateral; alias = alias; columns = columns }))) (sym is) (like.subquery alias columns lateral it) in
       record {
         like = subst (λ (z : Source). IsLike from_item (roll-FromItem (record { source = source.Sub w lateral; alias = alias; columns = columns }))
-                   (dotted_part (roll-FromItem (record { source = z; alias = alias; columns = columns })) (ms ++ q.levels) seen).item)
+            (dotted_part (roll-FromItem (record { source = z; alias = alias; columns = columns })) (ms ++ q.levels) seen).item)
             (sym (ap (λ (u : ℕ → Source). u e) (eq.of_sub P found.it.it lateral))) whole;
         alias = h;
       }
@@ -137,7 +137,7 @@ module _ (q : Scope) (slots : ℕ → Bool) (leaf : ℕ → ℕ → Expr) (said 
       let it = h s level seen ms r al st k.0 (nodes.one q slots leaf said here _ a) in
       let so = (c s level seen ms r st.fits k.0 (nodes.one q slots leaf said here _ a)).1.seen_so in
       let more = rest s (level ++ x.seen ∷ []) (seen ++ o ∷ []) ms (zipped_append SeenSo level seen x.seen o r so) (every_append Aliased level (x.seen ∷ []) al (it.alias, tt)) st k.1
-          (nodes.two q slots leaf said here _ a) in
+      (nodes.two q slots leaf said here _ a) in
       record { like = like.one_from it.like more.like; aliases = (it.alias, more.aliases) }
 
   -- all of FROM

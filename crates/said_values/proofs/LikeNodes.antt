@@ -1,5 +1,5 @@
 -- An expression of a function is like what stands for it in a query, where its parts are.
-use Rattle.std.proofs.Common.{◌≡◌, refl, ap, sym, subst, ◌∙◌, ℕ, suc, arith, Bool, true, false, List, [], ◌∷◌, ◌++◌, map, length, Option, Some, None, option_map}
+use Rattle.std.proofs.Common.{◌≡◌, ap, sym, subst, ◌∙◌, ℕ, Bool, List, ◌∷◌, ◌++◌, map, length, Option, Some, option_map}
 use Rattle.std.specs.List.{flat_map}
 use Rattle.away_values.specs.declared.types.Ty.{Ty}
 use Rattle.away_values.specs.declared.operators.ChainOp.{ChainOp}

@@ -1,6 +1,5 @@
 -- Selects and queries of a function are like what stands for them in a query, where their parts are.
-use Rattle.std.proofs.Common.{◌≡◌, refl, ap, sym, subst, ◌∙◌, ℕ, suc, arith, Bool, true, false, List, [], ◌∷◌, ◌++◌, map, length, Option, Some, None, option_map}
-use Rattle.std.specs.Prelude.{is_some}
+use Rattle.std.proofs.Common.{◌≡◌, ap, sym, subst, ◌∙◌, ℕ, suc, Bool, false, List, ◌∷◌, ◌++◌, map, length, Option, None, option_map}
 use Rattle.away_trees.specs.declared.queries.Expr.{Expr}
 use Rattle.away_trees.specs.declared.queries.FromItem.{FromItem}
 use Rattle.away_trees.specs.declared.queries.Item.{Item}
@@ -8,7 +7,7 @@ use Rattle.away_trees.specs.declared.queries.Key.{Key}
 use Rattle.away_trees.specs.declared.queries.Select.{Select}
 use Rattle.away_trees.specs.declared.queries.Query.{Query}
 use Rattle.away_trees.specs.declared.queries.Expr.TheViews.{roll-Item, roll-Key, roll-Select, roll-Query, out-roll-Query}
-use Rattle.away_trees.specs.Algebra.{Algebra, expr_of, from_of, item_of, key_of, select_of, query_of}
+use Rattle.away_trees.specs.Algebra.{Algebra, from_of, item_of, key_of, select_of, query_of}
 use Rattle.away_trees.proofs.Equations as eq
 use Rattle.away_names.specs.declared.note.Column.{Column}
 use Rattle.away_names.specs.declared.note.Framed.{Framed}
@@ -16,7 +15,7 @@ use Rattle.away_names.specs.declared.note.Named.{Named}
 use Rattle.away_names.specs.declared.note.Shown.{Shown}
 use Rattle.away_names.specs.Lookups.{Name, Level, Scope, inside, has_double}
 use Rattle.away_names.specs.Naming as n
-use Rattle.away_names.specs.Notes.{joined, breaks, each, held}
+use Rattle.away_names.specs.Notes.{breaks, each, held}
 use Rattle.sql_meaning.specs.Reads.{Read, Reads, reading, of_list}
 use Rattle.typed_values.specs.Sorts.{Every}
 use Rattle.typed_values.proofs.CleanNotes.{Clean, clean_parts}
@@ -24,12 +23,12 @@ use Rattle.dotted_names.specs.Dotting as dot
 use Rattle.dotted_names.specs.Trees.{dotted_item, dotted_key, dotted_select, dotted_shown, dotted_in, dotted_from, dotted_selects, dotted_recursive}
 use Rattle.dotted_names.proofs.DottingRules as d
 use Rattle.placed_names.proofs.Folded.{each_is, each_clean, items_are, items_clean, selects_are, selects_clean}
-use Rattle.placed_names.proofs.Standing.{Allowed, Fits, placing}
+use Rattle.placed_names.proofs.Standing.{Allowed, placing}
 use Rattle.placed_names.proofs.PlacedParts as part
 use Rattle.placed_names.proofs.PlacedSelects as sel
 use Rattle.said_trees.specs.Like.{item, items, key, keys, from_items, maybe, select, selects, query, IsLike}
 use Rattle.said_trees.specs.Like as like
-use Rattle.said_values.proofs.SaidNames.{Aliased, Stands, SaidLeaves}
+use Rattle.said_values.proofs.SaidNames.{Stands, SaidLeaves}
 use Rattle.said_values.proofs.LikeNodes as nodes
 use Rattle.said_values.proofs.LikeFrom as from_
 

@@ -1,18 +1,16 @@
 -- A function's expression whose names can be said is like what stands for it in a query.
-use Rattle.std.proofs.Common.{◌≡◌, refl, ap, sym, subst, ◌∙◌, ℕ, suc, Bool, true, false, List, [], ◌∷◌, map, length, Option, Some, None, option_map}
+use Rattle.std.proofs.Common.{◌≡◌, ap, sym, subst, ◌∙◌, ℕ, Bool, true, false, List, [], map, Option, None, option_map}
 use Rattle.away_values.specs.declared.operators.ChainOp.{ChainOp}
 use Rattle.away_values.specs.declared.types.Ty.{Ty}
 use Rattle.away_values.specs.declared.types.Ty.TheVariants as ty
 use Rattle.away_trees.specs.declared.queries.Expr.{Expr}
 use Rattle.away_trees.specs.declared.queries.Expr.TheVariants as expr
 use Rattle.away_trees.specs.declared.queries.Expr.TheOpen as ex
-use Rattle.away_trees.specs.declared.queries.Source.{Source}
 use Rattle.away_trees.specs.declared.queries.Source.TheVariants as source
 use Rattle.away_trees.specs.declared.queries.FromItem.{FromItem}
-use Rattle.away_trees.specs.declared.queries.Select.{Select}
 use Rattle.away_trees.specs.declared.queries.Query.{Query}
 use Rattle.away_trees.specs.declared.queries.Expr.TheViews.{roll-FromItem, roll-Select, roll-Query}
-use Rattle.away_trees.specs.Algebra.{Algebra, expr_of, source_of, from_of, item_of, key_of, select_of, query_of}
+use Rattle.away_trees.specs.Algebra.{Algebra, expr_of, from_of, item_of, key_of, select_of, query_of}
 use Rattle.away_trees.proofs.Equations as eq
 use Rattle.away_names.specs.Lookups.{Name, Level, Scope, is_kept}
 use Rattle.away_names.specs.Naming as n
@@ -25,7 +23,7 @@ use Rattle.typed_values.proofs.CleanNotes.{Clean}
 use Rattle.dotted_names.specs.Trees.{dotted_expr}
 use Rattle.dotted_names.proofs.DottingRules as d
 use Rattle.placed_names.proofs.Refined.{LevelsSo}
-use Rattle.placed_names.proofs.Standing.{Allowed, Fits, Leaves, placing, no_param}
+use Rattle.placed_names.proofs.Standing.{Allowed, Leaves, placing, no_param}
 use Rattle.placed_names.proofs.PlacedParts as part
 use Rattle.placed_names.proofs.PlacedTrees as trees
 use Rattle.said_trees.specs.Like.{Kind, Tree, value, values, links, arms, maybe, item, items, key, keys, from_item, from_items, select, selects, query, IsLike}

@@ -1,8 +1,7 @@
 -- The entries behind a function's source expressions can be said where the query has them, but for NULL of the type integer.
-use Rattle.std.proofs.Common.{◌≡◌, refl, ap, sym, subst, ◌∙◌, ℕ, ℤ, zero, suc, pos, negsuc, arith, ◌==◌, ◌≤◌, Bool, true, false, List, [], ◌∷◌, map}
+use Rattle.std.proofs.Common.{◌≡◌, refl, ap, sym, subst, ◌∙◌, ℕ, ℤ, pos, negsuc, arith, ◌==◌, false, [], ◌∷◌}
 use Rattle.std.proofs.lemmas.Bool.{eqb-true, eq-eqb}
-use Rattle.std.specs.Prelude.{◌^◌, ◌-◌, ◌<◌, Some}
-use Rattle.away_values.specs.declared.operators.ChainOp.{ChainOp}
+use Rattle.std.specs.Prelude.{◌^◌, ◌-◌, Some}
 use Rattle.away_values.specs.declared.operators.ChainOp.TheVariants as chain
 use Rattle.away_values.specs.declared.operators.CmpOp.{CmpOp}
 use Rattle.away_values.specs.declared.operators.CmpOp.TheVariants as cmp
@@ -37,8 +36,8 @@ use Rattle.said_trees.proofs.LikeNodes.{say_cast_to}
 use Rattle.said_trees.proofs.SayNodes as say
 use Rattle.said_trees.proofs.SayLevels.{loosen, at_or}
 use Rattle.said_values.specs.InSight.{SightIsSaid}
-use Rattle.said_values.proofs.SaidNames.{IsColumn, said_leaves}
-use Rattle.said_values.proofs.SaidEntries.{IsSaid, IsSaidAt, null_said, whole}
+use Rattle.said_values.proofs.SaidNames.{said_leaves}
+use Rattle.said_values.proofs.SaidEntries.{IsSaid, null_said, whole}
 
 module _ (s : Scope) (ref : ℕ → Col) where
   abbrev P : Algebra

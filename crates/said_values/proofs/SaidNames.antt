@@ -1,5 +1,5 @@
 -- Names in a function's expression are said where a query has it: as columns by an alias and a name that can be said.
-use Rattle.std.proofs.Common.{◌≡◌, refl, ap, sym, subst, ◌∙◌, ℕ, zero, suc, arith, Bool, true, List, [], ◌∷◌, ◌++◌, length, Option, Some, None}
+use Rattle.std.proofs.Common.{◌≡◌, refl, sym, subst, ◌∙◌, ℕ, zero, suc, arith, Bool, true, List, [], ◌∷◌, ◌++◌, length, Option, Some, None}
 use Rattle.std.specs.Prelude.{slice_get}
 use Rattle.away_trees.specs.declared.queries.Col.{Col}
 use Rattle.away_trees.specs.declared.queries.Expr.{Expr}
@@ -22,7 +22,7 @@ use Rattle.dotted_names.proofs.DottingRules as d
 use Rattle.dotted_names.proofs.Gives as gives
 use Rattle.dotted_names.proofs.ReadColumns.{named_read, dotted_read}
 use Rattle.placed_names.specs.Own.{IsOwn}
-use Rattle.placed_names.proofs.Refined.{LevelsSo, Called, called_by, called_still}
+use Rattle.placed_names.proofs.Refined.{Called, called_by, called_still}
 use Rattle.placed_names.proofs.Further.{called_further}
 use Rattle.placed_names.proofs.Standing.{Fits, Allowed, placing}
 use Rattle.said_trees.specs.Like.{value, IsLike}

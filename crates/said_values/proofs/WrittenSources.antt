@@ -17,7 +17,6 @@ use Rattle.away_trees.proofs.StatementEquations as eq
 use Rattle.away_names.specs.declared.scope.Variable.{Variable}
 use Rattle.away_names.specs.Lookups.{Name, Scope, variable_named}
 use Rattle.away_names.specs.Notes.{joined, breaks, held}
-use Rattle.away_names.specs.Tables.{table_of}
 use Rattle.away_names.specs.Trees.{named_expr}
 use Rattle.away_types.specs.declared.resolved.Declared.{Declared}
 use Rattle.away_types.specs.declared.resolved.Resolved.{Resolved}
