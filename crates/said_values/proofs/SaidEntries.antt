@@ -42,7 +42,8 @@ IsSaidAt s w = CanSay 195 (at l.Or) (dotted_expr w s.levels)
 -- at each place that sees the schema's tables, where its slots are columns of the query's own with names that can be said
 abbrev pub IsSaid : Schema → Expr → Type 0
 IsSaid schema e =
-    (t : Ty) (s : Scope) (ref : ℕ → Col) → IsCastable t → SeesTables schema s → SightIsSaid s.levels → Each (λ k. IsOwn s.levels (ref k)) (slots_of e) → IsSaidAt s (placed_at t ref e)
+    (t : Ty) (s : Scope) (ref : ℕ → Col) → IsCastable t → SeesTables schema s → SightIsSaid s.levels → Each (λ k. IsOwn s.levels (ref k))
+    (slots_of e) → IsSaidAt s (placed_at t ref e)
 
 module _ (s : Scope) where
   -- NULL with a type
@@ -68,7 +69,8 @@ module _ (schema : Schema) where
       at_place =
           like_said r.holds.reads r.holds.spoken _
           (expr_like s (is_in (slots_of e)) (column_of ref) (own_leaves s (is_in (slots_of e)) ref owned) (said_leaves s (is_in (slots_of e)) ref said owned)
-          r.written (names_said (read_so r.holds.reads) r.holds.spoken).names r.scope r.plain.in_function (λ x k. tables.tables x k ∙ ap (λ f. f x) (sym r.plain.tables)) r.plain.no_levels r.clean
+          r.written (names_said (read_so r.holds.reads) r.holds.spoken).names r.scope r.plain.in_function
+          (λ x k. tables.tables x k ∙ ap (λ f. f x) (sym r.plain.tables)) r.plain.no_levels r.clean
           (subst (λ x. Allowed (is_in (slots_of e)) (reads x)) (sym r.resolved) (reads_own e)))
 
   pub sources_said : (es : List Expr) → Every (StandsFor (IsReadWithin 64) schema) es → Every (IsSaid schema) es

@@ -33,8 +33,10 @@ module _ (schema : Schema) where
 
 pub expressions_said : ExpressionsAreSaid
 expressions_said schema written f slots h read i t s ref k n tables said own =
-    let all = sources_said schema (sources f.body) (sources_stand (IsReadWithin 64) schema written f slots h (every_of (IsReadWithin 64) (sources written.body) read)) in
-    at_place schema (expressions f) (every_append (IsSaidEntry schema) (sources f.body) fixed_list (always schema (sources f.body) all) (fixed_said schema)) i n t s ref k tables said own
+    let all = sources_said schema (sources f.body)
+    (sources_stand (IsReadWithin 64) schema written f slots h (every_of (IsReadWithin 64) (sources written.body) read)) in
+    at_place schema (expressions f)
+    (every_append (IsSaidEntry schema) (sources f.body) fixed_list (always schema (sources f.body) all) (fixed_said schema)) i n t s ref k tables said own
 
 pub file_expressions_said : FileExpressionsAreSaid
 file_expressions_said bytes may schema written f slots h read i t s ref k n tables said own =

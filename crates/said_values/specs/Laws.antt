@@ -37,7 +37,8 @@ ReadNamesAreSaid = (level : Level) (ts : List Sign) (x : Expr) (rest : List Sign
 -- CAST for each `::`, three times the 64 of the function's text and three. NULL of the type integer alone can't be said, as no cast can name that type.
 abbrev pub EntriesAreSaid : (Function → Type 0) → Type 0
 EntriesAreSaid IsRead =
-    (schema : Schema) (written f : Function) (slots : List Slot) → IsChecked schema written f slots → IsRead written → (i : ℕ) (t : Ty) (s : Scope) (ref : ℕ → Col)
+    (schema : Schema) (written f : Function) (slots : List Slot) → IsChecked schema written f slots → IsRead written → (i : ℕ) (t : Ty) (s : Scope)
+    (ref : ℕ → Col)
     → IsCastable t → (get_or (expressions f) i expr.Null ≡ null_as ty.Integer → ⊥)
     → SeesTables schema s → SightIsSaid s.levels → Each (λ k. IsOwn s.levels (ref k)) (slots_of (get_or (expressions f) i expr.Null))
     → CanSay 195 (at l.Or) (dotted_expr (placed_at t ref (get_or (expressions f) i expr.Null)) s.levels)
