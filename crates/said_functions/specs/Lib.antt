@@ -1,0 +1,4 @@
+pub mod SignNesting
+pub mod ReadsIn
+pub mod Said
+pub mod Laws
