@@ -26,7 +26,7 @@ use Rattle.said_functions.proofs.Room.{Room}
 use Rattle.said_functions.proofs.Passing.{plain_passes, perhaps_passes, fresh_passes, word_passes, not_null_passes, labelled_passes, name_passes}
 use Rattle.said_functions.proofs.Passing.{behind_perhaps, behind_name, default_plain, assign_plain, elsif_plain}
 use Rattle.said_functions.proofs.Reading.{Walk, walk}
-use Rattle.said_functions.proofs.ReadingDepth.{deepen}
+use Rattle.said_trees.proofs.ReadingDepth.{deepen}
 
 -- ---- the expressions of a part
 

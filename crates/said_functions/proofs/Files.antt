@@ -14,11 +14,11 @@ use Rattle.block_forms.specs.Places.{Each}
 use Rattle.typed_values.specs.Sorts.{Every}
 use Rattle.said_functions.specs.Laws.{SourcesAreRead}
 use Rattle.said_functions.specs.Said.{IsReadWithin}
-use Rattle.said_functions.specs.SignNesting.{SignsNestWithin, NestWithin}
+use Rattle.printed_nesting.specs.SignNesting.{SignsNestWithin, NestWithin}
 use Rattle.said_functions.proofs.Room.{room}
 use Rattle.said_functions.proofs.Bodies.{PartWalk, walked}
 use Rattle.said_functions.proofs.InsideSpoken.{inner_spoken}
-use Rattle.said_functions.proofs.SaidChanges.{changes_said}
+use Rattle.printed_nesting.proofs.SaidChanges.{changes_said}
 
 each_of : {X : Type 0} (P : X → Type 0) (xs : List X) → Every P xs → Each P xs
 each_of P [] h i x e = absurd (cc)

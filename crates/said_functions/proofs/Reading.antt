@@ -6,8 +6,8 @@ use Rattle.away_grammar.specs.Grammar as g
 use Rattle.away_grammar.specs.Grammar.{Sort, Tree, Reads, at, links, list, arms, item, items, from_item, from_items, from_clause, where_clause, key, keys}
 use Rattle.away_grammar.specs.Grammar.{order_clause, limit_clause, select, selects, query, names, recursive, file, column, columns, tables, operands}
 use Rattle.away_grammar.specs.FunctionGrammar.{loop_opens}
-use Rattle.said_functions.specs.ReadsIn as s
-use Rattle.said_functions.specs.ReadsIn.{ReadsIn}
+use Rattle.said_trees.specs.ReadsIn as s
+use Rattle.said_trees.specs.ReadsIn.{ReadsIn}
 use Rattle.said_functions.proofs.Room.{Room}
 use Rattle.said_functions.proofs.Passing.{plain_passes, perhaps_passes, fresh_passes, qualified_passes, operator_plain, comparison_plain}
 use Rattle.said_functions.proofs.Passing.{test_plain, literal_plain, called_plain}

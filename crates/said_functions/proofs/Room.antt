@@ -5,7 +5,7 @@ use Rattle.away_grammar.specs.declared.grammar.Mark.{Mark}
 use Rattle.away_grammar.specs.declared.grammar.Mark.TheVariants as m
 use Rattle.away_grammar.specs.Nesting.{Change, opens, closes, stays}
 use Rattle.away_grammar.specs.Signs.{Sign, mark}
-use Rattle.said_functions.specs.SignNesting.{closes_with_end, is_end_mark, mark_change, is_closed, is_end, change, changes, NestWithin}
+use Rattle.printed_nesting.specs.SignNesting.{closes_with_end, is_end_mark, mark_change, is_closed, is_end, change, changes, NestWithin}
 
 -- where one more may be open, with one less left
 abbrev pub Takes : ℕ → (ℕ → Type 0) → Type 0

@@ -1,4 +1,2 @@
-pub mod SignNesting
-pub mod ReadsIn
 pub mod Said
 pub mod Laws

@@ -5,7 +5,7 @@ use Rattle.away_trees.specs.declared.queries.Expr.{Expr}
 use Rattle.away_grammar.specs.Grammar.{at}
 use Rattle.away_grammar.specs.Signs.{Sign}
 use Rattle.sql_printer.specs.Spoken.{AllSpoken}
-use Rattle.said_functions.specs.ReadsIn.{ReadsIn}
+use Rattle.said_trees.specs.ReadsIn.{ReadsIn}
 
 -- Spoken signs begin with what reads as the expression, with at most so many brackets one inside another.
 pub record IsReadWithin (d : ℕ) (x : Expr) : Type 0 where

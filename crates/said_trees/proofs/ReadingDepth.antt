@@ -3,8 +3,8 @@ use Rattle.std.proofs.Common.{◌≡◌, ◌≤◌, ℕ, suc, ◌+◌, ◌-◌, 
 use Rattle.away_grammar.specs.Signs.{Sign}
 use Rattle.away_grammar.specs.Grammar.{Sort, Tree, Reads}
 use Rattle.away_grammar.specs.Grammar as g
-use Rattle.said_functions.specs.ReadsIn.{ReadsIn}
-use Rattle.said_functions.specs.ReadsIn as s
+use Rattle.said_trees.specs.ReadsIn.{ReadsIn}
+use Rattle.said_trees.specs.ReadsIn as s
 
 pub read_so : {d : ℕ} {n : Sort} {ts : List Sign} {t : Tree n} {rest : List Sign} → ReadsIn d n ts t rest → Reads n ts t rest
 read_so (s.chain a b c) = g.chain a (read_so b) (read_so c)

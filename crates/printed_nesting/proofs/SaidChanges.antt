@@ -1,5 +1,6 @@
 -- What tokens do to the count is what the signs that they say do.
-use Rattle.std.proofs.Common.{◌≡◌, ◌⊎◌, ℕ, Bool, true, false, not, ◌||◌, ◌&&◌, if◌then◌else◌, List, [], ◌∷◌, Option, Some, None, refl, sym, ap, ◌∙◌, subst, inl, inr, bytes_eq, codes}
+use Rattle.std.proofs.Common.{◌≡◌, ◌⊎◌, ℕ, Bool, true, false, not, ◌||◌, ◌&&◌, if◌then◌else◌, List, [], ◌∷◌, Option, Some, None, refl, sym, ap, ◌∙◌, subst}
+use Rattle.std.proofs.Common.{inl, inr, bytes_eq, codes}
 use Rattle.std.specs.List.{list_all}
 use Rattle.std.proofs.lemmas.Bool.{cases_Bool}
 use Rattle.std.proofs.lemmas.Slice.Eq.{bytes_eq-Decides}
@@ -14,7 +15,7 @@ use Rattle.away_grammar.specs.Reserved.{folded}
 use Rattle.away_grammar.specs.Signs.{Sign, name, quote, first_mark, word_mark, symbol_mark, mark_or, says_by, says, all_say}
 use Rattle.away_grammar.specs.Tokens.{Lexeme}
 use Rattle.away_lex.proofs.Runs.{and_left, and_right}
-use Rattle.said_functions.specs.SignNesting.{change, changes, is_closed, is_end}
+use Rattle.printed_nesting.specs.SignNesting.{change, changes, is_closed, is_end}
 
 -- what something does to the count, whether it is END, and whether END makes a pair with it
 abbrev Does : Type 0
@@ -61,7 +62,8 @@ one_does a b h =
     λ i. (first i, (second i, third i))
 
 -- The text is that of an entry, of which the test holds, or has no mark.
-found : {Q : Type 0} (test : Entry → Bool) (same : List ℕ → Bool) (es : List Entry) → list_all test es ≡ true → ((e : Entry) → same e.0 ≡ true → test e ≡ true → Q) → Q ⊎ (first_mark same es ≡ None)
+found : {Q : Type 0} (test : Entry → Bool) (same : List ℕ → Bool) (es : List Entry) → list_all test es ≡ true
+    → ((e : Entry) → same e.0 ≡ true → test e ≡ true → Q) → Q ⊎ (first_mark same es ≡ None)
 found test same [] h give = inr refl
 found test same (e ∷ es) h give = elim (cases_Bool (same e.0)) [
   | inl here ↦ inl (give e here (and_left (test e) (list_all test es) h))
@@ -101,13 +103,15 @@ isnt n w sign is none = elim (cases_Bool (bytes_eq n w)) [
 
 unmarked_said : (n : List ℕ) → marked n ≡ None → WordSaid n
 unmarked_said n none =
-    (λ i. by_word (isnt n (codes "begin") m.Begin refl none i) (isnt n (codes "if") m.If refl none i) (isnt n (codes "loop") m.Loop refl none i) (isnt n (codes "case") m.Case refl none i)
-    (isnt n (codes "end") m.End refl none i))
+    (λ i.
+    by_word (isnt n (codes "begin") m.Begin refl none i) (isnt n (codes "if") m.If refl none i) (isnt n (codes "loop") m.Loop refl none i)
+    (isnt n (codes "case") m.Case refl none i) (isnt n (codes "end") m.End refl none i))
     ∙ ap (λ o. sign_does (mark_or o (name n))) (sym none)
 
 word_said : (n : List ℕ) → WordSaid n
 word_said n =
-    let entry : (e : Entry) → bytes_eq n (folded e.0) ≡ true → folded_said e ≡ true → WordSaid n = (λ e here said. subst WordSaid (sym ((bytes_eq-Decides n (folded e.0)).0 here)) (one_does _ _ said)) in
+    let entry : (e : Entry) → bytes_eq n (folded e.0) ≡ true → folded_said e ≡ true → WordSaid n =
+    (λ e here said. subst WordSaid (sym ((bytes_eq-Decides n (folded e.0)).0 here)) (one_does _ _ said)) in
     elim (found {Q = WordSaid n} folded_said (λ w. bytes_eq n (folded w)) reserved_words refl entry) [ inl said ↦ said | inr none ↦ unmarked_said n none ]
 
 -- ---- symbols
@@ -132,11 +136,13 @@ isnt_symbol z w sign is none = elim (cases_Bool (bytes_eq z w)) [
 
 unmarked_symbol : (z : List ℕ) → spelling z ≡ None → SymbolSaid z
 unmarked_symbol z none =
-    (λ i. by_symbol (isnt_symbol z (codes "(") m.Open refl none i) (isnt_symbol z (codes ")") m.Close refl none i)) ∙ ap (λ o. sign_does (mark_or o (quote z))) (sym none)
+    (λ i. by_symbol (isnt_symbol z (codes "(") m.Open refl none i) (isnt_symbol z (codes ")") m.Close refl none i))
+    ∙ ap (λ o. sign_does (mark_or o (quote z))) (sym none)
 
 symbol_said : (z : List ℕ) → SymbolSaid z
 symbol_said z =
-    let entry : (e : Entry) → bytes_eq z e.0 ≡ true → symbol_is_said e ≡ true → SymbolSaid z = (λ e here said. subst SymbolSaid (sym ((bytes_eq-Decides z e.0).0 here)) (one_does _ _ said)) in
+    let entry : (e : Entry) → bytes_eq z e.0 ≡ true → symbol_is_said e ≡ true → SymbolSaid z =
+    (λ e here said. subst SymbolSaid (sym ((bytes_eq-Decides z e.0).0 here)) (one_does _ _ said)) in
     elim (found {Q = SymbolSaid z} symbol_is_said (bytes_eq z) spelled_symbols refl entry) [ inl said ↦ said | inr none ↦ unmarked_symbol z none ]
 
 -- ---- all tokens
@@ -156,4 +162,5 @@ does_said t = by_kind t.kind t.text
 pub changes_said : (ts : List Lexeme) → tokens.changes ts ≡ changes (all_say ts)
 changes_said [] = refl
 changes_said (t ∷ []) = λ i. (does_said t i).0 ∷ []
-changes_said (t ∷ u ∷ ts) = λ i. if ((does_said t i).1.0 && (does_said u i).1.1) then closes ∷ changes_said ts i else (does_said t i).0 ∷ changes_said (u ∷ ts) i
+changes_said (t ∷ u ∷ ts) = λ i.
+    if ((does_said t i).1.0 && (does_said u i).1.1) then closes ∷ changes_said ts i else (does_said t i).0 ∷ changes_said (u ∷ ts) i
