@@ -1,0 +1,2 @@
+pub mod SignNesting
+pub mod Laws

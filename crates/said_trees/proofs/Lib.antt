@@ -1,0 +1,9 @@
+pub mod ReadingDepth
+pub mod SayingDepth
+pub mod SayNodes
+pub mod SayLevels
+pub mod SayQueries
+pub mod Shapes
+pub mod QueryShapes
+pub mod LikeNodes
+pub mod LikeSaid

@@ -1,0 +1,5 @@
+pub mod ReadsIn
+pub mod SaysIn
+pub mod CanSay
+pub mod Like
+pub mod Laws

@@ -1,0 +1,179 @@
+-- The grammar of expressions and queries with the depth of brackets: parentheses of any kind, and CASE with END. What stands between two brackets is one less
+-- deep than what holds them. The productions are those of the grammar; schemas are left out.
+use Rattle.std.specs.Prelude.{◌≡◌, ℕ, suc, ◌<◌, ◌^◌, ◌-◌, pos, negsuc, Bool, true, false, List, [], ◌∷◌, ◌++◌, Option, Some, None, codes}
+use Rattle.away_grammar.specs.declared.grammar.Mark.{Mark}
+use Rattle.away_grammar.specs.declared.grammar.Mark.TheVariants as m
+use Rattle.away_grammar.specs.declared.grammar.Level.{Level}
+use Rattle.away_grammar.specs.declared.grammar.Level.TheVariants as l
+use Rattle.away_values.specs.declared.types.Ty.{Ty}
+use Rattle.away_values.specs.declared.operators.ChainOp.{ChainOp}
+use Rattle.away_values.specs.declared.operators.CmpOp.{CmpOp}
+use Rattle.away_values.specs.declared.operators.IsTest.{IsTest}
+use Rattle.away_trees.specs.declared.queries.Expr.{Expr}
+use Rattle.away_trees.specs.declared.queries.Expr.TheVariants as e
+use Rattle.away_trees.specs.declared.queries.Source.TheVariants as source
+use Rattle.away_trees.specs.declared.queries.Item.{Item}
+use Rattle.away_trees.specs.declared.queries.FromItem.{FromItem}
+use Rattle.away_trees.specs.declared.queries.Key.{Key}
+use Rattle.away_trees.specs.declared.queries.Select.{Select}
+use Rattle.away_trees.specs.declared.queries.Recursive.{Recursive}
+use Rattle.away_trees.specs.declared.queries.Query.{Query}
+use Rattle.away_trees.specs.declared.queries.Expr.TheViews.{roll-Item, roll-FromItem, roll-Key, roll-Select, roll-Recursive, roll-Query}
+use Rattle.away_grammar.specs.Signs.{Sign, mark, name, integer, string, parameter}
+use Rattle.away_grammar.specs.Grammar.{Sort, at, links, list, arms, item, items, from_item, from_items, from_clause, where_clause, key, keys, order_clause}
+use Rattle.away_grammar.specs.Grammar.{limit_clause, select, selects, query, names, recursive, file, Tree, operator_of, comparison_of, test_of, literal_of}
+use Rattle.away_grammar.specs.Grammar.{called, type_named, operands, IsChain, chained, perhaps, qualified, is_number, may_join}
+
+-- As this sort, the signs of the first list up to the second list read as the tree, with at most so many brackets one inside another.
+pub data ReadsIn : ℕ → (n : Sort) → List Sign → Tree n → List Sign → Type 0 where
+  -- and {OR and}, and likewise for AND, `||`, `+ -` and `* / %`
+  chain : {d : ℕ} {level : Level} {ts middle rest : List Sign} {first : Expr} {more : List (ChainOp × Expr)}
+      → IsChain level → ReadsIn d (at (operands level)) ts first middle → ReadsIn d (links level) middle more rest
+      → ReadsIn d (at level) ts (chained first more) rest
+  no_link : {d : ℕ} {level : Level} {ts : List Sign} → ReadsIn d (links level) ts [] ts
+  link : {d : ℕ} {level : Level} {ts middle rest : List Sign} {o : ChainOp} {x : Expr} {more : List (ChainOp × Expr)} (sign : Mark)
+      → operator_of level sign ≡ Some o → ReadsIn d (at (operands level)) ts x middle → ReadsIn d (links level) middle more rest
+      → ReadsIn d (links level) (mark sign ∷ ts) ((o, x) ∷ more) rest
+  -- [NOT] is
+  affirmed : {d : ℕ} {ts rest : List Sign} {x : Expr} → ReadsIn d (at l.Is) ts x rest → ReadsIn d (at l.Not) ts x rest
+  negated : {d : ℕ} {ts rest : List Sign} {x : Expr} → ReadsIn d (at l.Is) ts x rest → ReadsIn d (at l.Not) (mark m.Not ∷ ts) (e.Not x) rest
+  -- cmp [IS [NOT] (NULL | TRUE | FALSE)]
+  untested : {d : ℕ} {ts rest : List Sign} {x : Expr} → ReadsIn d (at l.Compare) ts x rest → ReadsIn d (at l.Is) ts x rest
+  tested : {d : ℕ} {ts rest : List Sign} {x : Expr} {n : Bool} {test : IsTest} (sign : Mark)
+      → test_of sign ≡ Some test → ReadsIn d (at l.Compare) ts x (mark m.Is ∷ perhaps n (mark m.Not) (mark sign ∷ rest))
+      → ReadsIn d (at l.Is) ts (e.Is x test n) rest
+  -- range [(= | <> | < | <= | > | >=) range]
+  uncompared : {d : ℕ} {ts rest : List Sign} {x : Expr} → ReadsIn d (at l.Range) ts x rest → ReadsIn d (at l.Compare) ts x rest
+  compared : {d : ℕ} {ts after rest : List Sign} {x y : Expr} {o : CmpOp} (sign : Mark)
+      → comparison_of sign ≡ Some o → ReadsIn d (at l.Range) ts x (mark sign ∷ after) → ReadsIn d (at l.Range) after y rest
+      → ReadsIn d (at l.Compare) ts (e.Compare o x y) rest
+  -- cat [[NOT] BETWEEN cat AND cat | [NOT] IN (list)]
+  unranged : {d : ℕ} {ts rest : List Sign} {x : Expr} → ReadsIn d (at l.Concat) ts x rest → ReadsIn d (at l.Range) ts x rest
+  between : {d : ℕ} {ts after middle rest : List Sign} {x low high : Expr} {n : Bool}
+      → ReadsIn d (at l.Concat) ts x (perhaps n (mark m.Not) (mark m.Between ∷ after)) → ReadsIn d (at l.Concat) after low (mark m.And ∷ middle)
+      → ReadsIn d (at l.Concat) middle high rest
+      → ReadsIn d (at l.Range) ts (e.Between n x low high) rest
+  one_of : {d : ℕ} {ts after rest : List Sign} {x : Expr} {xs : List Expr} {n : Bool}
+      → ReadsIn (suc d) (at l.Concat) ts x (perhaps n (mark m.Not) (mark m.In ∷ mark m.Open ∷ after)) → ReadsIn d list after xs (mark m.Close ∷ rest)
+      → ReadsIn (suc d) (at l.Range) ts (e.OneOf n x xs) rest
+  -- - 9223372036854775808 | [-] post
+  unsigned : {d : ℕ} {ts rest : List Sign} {x : Expr} → ReadsIn d (at l.Cast) ts x rest → ReadsIn d (at l.Sign) ts x rest
+  signed : {d : ℕ} {ts rest : List Sign} {x : Expr} → ReadsIn d (at l.Cast) ts x rest → ReadsIn d (at l.Sign) (mark m.Minus ∷ ts) (e.Neg x) rest
+  least : {d : ℕ} {rest : List Sign} → ReadsIn d (at l.Sign) (mark m.Minus ∷ integer (2 ^ 63) ∷ rest) (e.Int (negsuc (2 ^ 63 - 1))) rest
+  -- prim [:: type [:: type]]
+  uncast : {d : ℕ} {ts rest : List Sign} {x : Expr} → ReadsIn d (at l.Primary) ts x rest → ReadsIn d (at l.Cast) ts x rest
+  cast_once : {d : ℕ} {ts rest : List Sign} {x : Expr} {ty : Ty} (t : List ℕ) → type_named t ≡ Some ty
+      → ReadsIn d (at l.Primary) ts x (mark m.Colons ∷ name t ∷ rest) → ReadsIn d (at l.Cast) ts (e.Cast x ty) rest
+  cast_twice : {d : ℕ} {ts rest : List Sign} {x : Expr} {first second : Ty} (t u : List ℕ)
+      → type_named t ≡ Some first → type_named u ≡ Some second → ReadsIn d (at l.Primary) ts x (mark m.Colons ∷ name t ∷ mark m.Colons ∷ name u ∷ rest)
+      → ReadsIn d (at l.Cast) ts (e.Cast (e.Cast x first) second) rest
+  -- what stands alone
+  number : {d : ℕ} {rest : List Sign} {n : ℕ} → n < 2 ^ 63 → ReadsIn d (at l.Primary) (integer n ∷ rest) (e.Int (pos n)) rest
+  text : {d : ℕ} {rest : List Sign} {t : List ℕ} → ReadsIn d (at l.Primary) (string t ∷ rest) (e.Str t) rest
+  literal : {d : ℕ} {rest : List Sign} {x : Expr} (sign : Mark) → literal_of sign ≡ Some x → ReadsIn d (at l.Primary) (mark sign ∷ rest) x rest
+  named : {d : ℕ} {rest : List Sign} {n : List ℕ} → ReadsIn d (at l.Primary) (name n ∷ rest) (e.Named n) rest
+  dotted : {d : ℕ} {rest : List Sign} {n c : List ℕ} → ReadsIn d (at l.Primary) (name n ∷ mark m.Dot ∷ name c ∷ rest) (e.Dotted n c) rest
+  typed_parameter : {d : ℕ} {rest : List Sign} {i : ℕ} {ty : Ty} (t : List ℕ) → type_named t ≡ Some ty
+      → ReadsIn (suc d) (at l.Primary) (mark m.Cast ∷ mark m.Open ∷ parameter i ∷ mark m.As ∷ name t ∷ mark m.Close ∷ rest) (e.Param i ty) rest
+  short_parameter : {d : ℕ} {rest : List Sign} {i : ℕ} {ty : Ty} (t : List ℕ) → type_named t ≡ Some ty
+      → ReadsIn d (at l.Primary) (parameter i ∷ mark m.Colons ∷ name t ∷ rest) (e.Param i ty) rest
+  parentheses : {d : ℕ} {ts rest : List Sign} {x : Expr} → ReadsIn d (at l.Or) ts x (mark m.Close ∷ rest)
+      → ReadsIn (suc d) (at l.Primary) (mark m.Open ∷ ts) x rest
+  scalar : {d : ℕ} {ts rest : List Sign} {q : Query} → ReadsIn d query ts q (mark m.Close ∷ rest)
+      → ReadsIn (suc d) (at l.Primary) (mark m.Open ∷ ts) (e.Scalar q) rest
+  cast : {d : ℕ} {ts rest : List Sign} {x : Expr} {ty : Ty} (t : List ℕ) → type_named t ≡ Some ty
+      → ReadsIn d (at l.Or) ts x (mark m.As ∷ name t ∷ mark m.Close ∷ rest)
+      → ReadsIn (suc d) (at l.Primary) (mark m.Cast ∷ mark m.Open ∷ ts) (e.Cast x ty) rest
+  exists : {d : ℕ} {ts rest : List Sign} {q : Query} → ReadsIn d query ts q (mark m.Close ∷ rest)
+      → ReadsIn (suc d) (at l.Primary) (mark m.Exists ∷ mark m.Open ∷ ts) (e.Exists q) rest
+  cases : {d : ℕ} {ts rest : List Sign} {a : Expr × Expr} {more : List (Expr × Expr)} → ReadsIn d arms ts (a ∷ more) (mark m.End ∷ rest)
+      → ReadsIn (suc d) (at l.Primary) (mark m.Case ∷ ts) (e.Cases (a ∷ more) None) rest
+  cases_else : {d : ℕ} {ts middle rest : List Sign} {a : Expr × Expr} {more : List (Expr × Expr)} {x : Expr}
+      → ReadsIn d arms ts (a ∷ more) (mark m.Else ∷ middle) → ReadsIn d (at l.Or) middle x (mark m.End ∷ rest)
+      → ReadsIn (suc d) (at l.Primary) (mark m.Case ∷ ts) (e.Cases (a ∷ more) (Some x)) rest
+  call_word : {d : ℕ} {ts rest : List Sign} {n : List ℕ} {xs : List Expr} (sign : Mark) → called sign ≡ Some n → ReadsIn d list ts xs (mark m.Close ∷ rest)
+      → ReadsIn (suc d) (at l.Primary) (mark sign ∷ mark m.Open ∷ ts) (e.Call n xs) rest
+  count_rows : {d : ℕ} {rest : List Sign}
+      → ReadsIn (suc d) (at l.Primary) (name (codes "count") ∷ mark m.Open ∷ mark m.Star ∷ mark m.Close ∷ rest) e.CountRows rest
+  call_empty : {d : ℕ} {rest : List Sign} {n : List ℕ} → ReadsIn (suc d) (at l.Primary) (name n ∷ mark m.Open ∷ mark m.Close ∷ rest) (e.Call n []) rest
+  call : {d : ℕ} {ts rest : List Sign} {n : List ℕ} {xs : List Expr} → ReadsIn d list ts xs (mark m.Close ∷ rest)
+      → ReadsIn (suc d) (at l.Primary) (name n ∷ mark m.Open ∷ ts) (e.Call n xs) rest
+  -- expr {, expr}
+  last : {d : ℕ} {ts rest : List Sign} {x : Expr} → ReadsIn d (at l.Or) ts x rest → ReadsIn d list ts (x ∷ []) rest
+  another : {d : ℕ} {ts middle rest : List Sign} {x : Expr} {xs : List Expr} → ReadsIn d (at l.Or) ts x (mark m.Comma ∷ middle)
+      → ReadsIn d list middle xs rest → ReadsIn d list ts (x ∷ xs) rest
+  -- {WHEN expr THEN expr}
+  no_arm : {d : ℕ} {ts : List Sign} → ReadsIn d arms ts [] ts
+  arm : {d : ℕ} {ts middle after rest : List Sign} {test value : Expr} {more : List (Expr × Expr)}
+      → ReadsIn d (at l.Or) ts test (mark m.Then ∷ middle) → ReadsIn d (at l.Or) middle value after → ReadsIn d arms after more rest
+      → ReadsIn d arms (mark m.When ∷ ts) ((test, value) ∷ more) rest
+  -- expr [AS name]
+  item_alone : {d : ℕ} {ts rest : List Sign} {x : Expr} → ReadsIn d (at l.Or) ts x rest
+      → ReadsIn d item ts (roll-Item (record { expr = x; alias = None })) rest
+  item_as : {d : ℕ} {ts rest : List Sign} {x : Expr} {n : List ℕ} → ReadsIn d (at l.Or) ts x (mark m.As ∷ name n ∷ rest)
+      → ReadsIn d item ts (roll-Item (record { expr = x; alias = Some n })) rest
+  last_item : {d : ℕ} {ts rest : List Sign} {x : Item} → ReadsIn d item ts x rest → ReadsIn d items ts (x ∷ []) rest
+  another_item : {d : ℕ} {ts middle rest : List Sign} {x : Item} {xs : List Item} → ReadsIn d item ts x (mark m.Comma ∷ middle)
+      → ReadsIn d items middle xs rest → ReadsIn d items ts (x ∷ xs) rest
+  -- [public .] name [[AS] name] | [LATERAL] ( query ) [AS] name [( name {, name} )]
+  table_alone : {d : ℕ} {rest : List Sign} {n : List ℕ} (q : Bool)
+      → ReadsIn d from_item (qualified q (name n ∷ rest)) (roll-FromItem (record { source = source.Table n; alias = n; columns = [] })) rest
+  table_as : {d : ℕ} {rest : List Sign} {n a : List ℕ} (q w : Bool)
+      → ReadsIn d from_item (qualified q (name n ∷ perhaps w (mark m.As) (name a ∷ rest)))
+      (roll-FromItem (record { source = source.Table n; alias = a; columns = [] })) rest
+  sub_alone : {d : ℕ} {ts rest : List Sign} {q : Query} {a : List ℕ} {v : Bool} (w : Bool)
+      → ReadsIn d query ts q (mark m.Close ∷ perhaps w (mark m.As) (name a ∷ rest))
+      → ReadsIn (suc d) from_item (perhaps v (mark m.Lateral) (mark m.Open ∷ ts))
+      (roll-FromItem (record { source = source.Sub q v; alias = a; columns = [] })) rest
+  sub_columns : {d : ℕ} {ts after rest : List Sign} {q : Query} {a : List ℕ} {ns : List (List ℕ)} {v : Bool} (w : Bool)
+      → ReadsIn d query ts q (mark m.Close ∷ perhaps w (mark m.As) (name a ∷ mark m.Open ∷ after)) → ReadsIn d names after ns (mark m.Close ∷ rest)
+      → ReadsIn (suc d) from_item (perhaps v (mark m.Lateral) (mark m.Open ∷ ts))
+      (roll-FromItem (record { source = source.Sub q v; alias = a; columns = ns })) rest
+  last_from : {d : ℕ} {ts rest : List Sign} {x : FromItem} → ReadsIn d from_item ts x rest → ReadsIn d from_items ts (x ∷ []) rest
+  another_from : {d : ℕ} {ts middle rest : List Sign} {x : FromItem} {xs : List FromItem} → ReadsIn d from_item ts x (mark m.Comma ∷ middle)
+      → ReadsIn d from_items middle xs rest → ReadsIn d from_items ts (x ∷ xs) rest
+  -- name {, name}
+  last_name : {d : ℕ} {rest : List Sign} {n : List ℕ} → ReadsIn d names (name n ∷ rest) (n ∷ []) rest
+  another_name : {d : ℕ} {middle rest : List Sign} {n : List ℕ} {ns : List (List ℕ)} → ReadsIn d names middle ns rest
+      → ReadsIn d names (name n ∷ mark m.Comma ∷ middle) (n ∷ ns) rest
+  -- expr [ASC | DESC]
+  key_alone : {d : ℕ} {ts rest : List Sign} {x : Expr} → is_number x ≡ false → ReadsIn d (at l.Or) ts x rest
+      → ReadsIn d key ts (roll-Key (record { expr = x; descending = false })) rest
+  ascending : {d : ℕ} {ts rest : List Sign} {x : Expr} → is_number x ≡ false → ReadsIn d (at l.Or) ts x (mark m.Asc ∷ rest)
+      → ReadsIn d key ts (roll-Key (record { expr = x; descending = false })) rest
+  descending : {d : ℕ} {ts rest : List Sign} {x : Expr} → is_number x ≡ false → ReadsIn d (at l.Or) ts x (mark m.Desc ∷ rest)
+      → ReadsIn d key ts (roll-Key (record { expr = x; descending = true })) rest
+  last_key : {d : ℕ} {ts rest : List Sign} {x : Key} → ReadsIn d key ts x rest → ReadsIn d keys ts (x ∷ []) rest
+  another_key : {d : ℕ} {ts middle rest : List Sign} {x : Key} {xs : List Key} → ReadsIn d key ts x (mark m.Comma ∷ middle) → ReadsIn d keys middle xs rest
+      → ReadsIn d keys ts (x ∷ xs) rest
+  -- SELECT item {, item} [FROM from {, from}] [WHERE expr] [ORDER BY key {, key}] [LIMIT expr]
+  no_from : {d : ℕ} {ts : List Sign} → ReadsIn d from_clause ts [] ts
+  from : {d : ℕ} {ts rest : List Sign} {xs : List FromItem} → ReadsIn d from_items ts xs rest → ReadsIn d from_clause (mark m.From ∷ ts) xs rest
+  no_where : {d : ℕ} {ts : List Sign} → ReadsIn d where_clause ts None ts
+  where_of : {d : ℕ} {ts rest : List Sign} {x : Expr} → ReadsIn d (at l.Or) ts x rest → ReadsIn d where_clause (mark m.Where ∷ ts) (Some x) rest
+  no_order : {d : ℕ} {ts : List Sign} → ReadsIn d order_clause ts [] ts
+  order_by : {d : ℕ} {ts rest : List Sign} {xs : List Key} → ReadsIn d keys ts xs rest → ReadsIn d order_clause (mark m.Order ∷ mark m.By ∷ ts) xs rest
+  no_limit : {d : ℕ} {ts : List Sign} → ReadsIn d limit_clause ts None ts
+  limit_of : {d : ℕ} {ts rest : List Sign} {x : Expr} → ReadsIn d (at l.Or) ts x rest → ReadsIn d limit_clause (mark m.Limit ∷ ts) (Some x) rest
+  select_of : {d : ℕ} {ts a b c z rest : List Sign} {xs : List Item} {fs : List FromItem} {w : Option Expr} {ks : List Key} {n : Option Expr}
+      → ReadsIn d items ts xs a → ReadsIn d from_clause a fs b → ReadsIn d where_clause b w c → ReadsIn d order_clause c ks z
+      → ReadsIn d limit_clause z n rest
+      → ReadsIn d select (mark m.Select ∷ ts) (roll-Select (record { list = xs; from = fs; filter = w; order = ks; limit = n })) rest
+  -- select {UNION ALL select}
+  last_select : {d : ℕ} {ts rest : List Sign} {s : Select} → ReadsIn d select ts s rest → ReadsIn d selects ts (s ∷ []) rest
+  another_select : {d : ℕ} {ts middle rest : List Sign} {s : Select} {ss : List Select} → ReadsIn d select ts s (mark m.Union ∷ mark m.All ∷ middle)
+      → ReadsIn d selects middle ss rest → ReadsIn d selects ts (s ∷ ss) rest
+  query_of : {d : ℕ} {ts rest : List Sign} {ss : List Select} → may_join ss ≡ true → ReadsIn d selects ts ss rest
+      → ReadsIn d query ts (roll-Query (record { recursive = None; selects = ss })) rest
+  -- WITH RECURSIVE name ( name {, name} ) AS ( select {UNION ALL select} UNION ALL select ): the last one is the second term
+  recursive_of : {d : ℕ} {ts after rest : List Sign} {n : List ℕ} {ns : List (List ℕ)} {s : Select} (ss : List Select) (second : Select)
+      → ReadsIn d names ts ns (mark m.Close ∷ mark m.As ∷ mark m.Open ∷ after) → ReadsIn d selects after (s ∷ (ss ++ second ∷ [])) (mark m.Close ∷ rest)
+      → ReadsIn (suc d) recursive (mark m.With ∷ mark m.Recursive ∷ name n ∷ mark m.Open ∷ ts)
+      (roll-Recursive (record { name = n; columns = ns; first = s ∷ ss; second = second })) rest
+  -- [WITH ..] query [;]
+  plain_file : {d : ℕ} {ts rest : List Sign} {q : Query} (w : Bool) → ReadsIn d query ts q (perhaps w (mark m.Semicolon) rest) → ReadsIn d file ts q rest
+  with_file : {d : ℕ} {ts middle rest : List Sign} {r : Recursive} {ss : List Select} (w : Bool) → may_join ss ≡ true → ReadsIn d recursive ts r middle
+      → ReadsIn d selects middle ss (perhaps w (mark m.Semicolon) rest)
+      → ReadsIn d file ts (roll-Query (record { recursive = Some r; selects = ss })) rest
+  -- name type [NOT NULL]
+  -- {CREATE TABLE [public .] name ( column {, column} ) ;}
