@@ -1,6 +1,7 @@
 -- The branches of labels.
-use Rattle.std.proofs.Common.{◌≡◌, ap, sym, ◌∙◌, ℕ, suc, ◌+◌, List, [], ◌∷◌, ◌++◌, length, append_assoc, append-nil, arith}
-use Rattle.std.specs.Prelude.{slice_get, None}
+use Rattle.std.proofs.Common.{◌≡◌, ap, sym, ◌∙◌, subst, ℕ, suc, ◌+◌, ◌<◌, ◌≤◌, ◌^◌, List, [], ◌∷◌, ◌++◌, length, get_or, append_assoc, append-nil, ⊎_elim, eq-or-lt_of_le, arith}
+use Rattle.std.proofs.lemmas.Option.{get_or_from_slice_get}
+use Rattle.std.specs.Prelude.{slice_get, Some, None}
 use Rattle.away_trees.specs.declared.queries.Expr.TheViews.{roll-Select}
 use Rattle.away_trees.specs.declared.queries.Item.{Item}
 use Rattle.away_trees.specs.declared.queries.Select.{Select}
@@ -9,9 +10,10 @@ use Rattle.call_forms.specs.Forms.{params_of}
 use Rattle.call_forms.specs.Scopes.{Scope, paired}
 use Rattle.cte_template.specs.Making.{Making}
 use Rattle.cte_template.specs.Places.{nowhere, row_place}
+use Rattle.cte_template.specs.Numbers.{AliasesFit}
 use Rattle.cte_template.specs.Tree.{at_label, branch, branches}
 use Rattle.template_parts.specs.Trees.{gate_as}
-use Rattle.cte_template.specs.Walks.{walk, selected, written, rest, from_block, keys_of}
+use Rattle.cte_template.specs.Walks.{Walked, walk, selected, written, rest, from_block, keys_of}
 use Rattle.cte_template.specs.declared.body.Draft.{Draft}
 use Rattle.cte_template.specs.declared.places.Place.{Place}
 
@@ -25,6 +27,16 @@ branch_is m i b most places d after list s here items next many h made =
     made
     ∙ ap selected (h ∙ (λ j. walk m 1 (here j) ((items ∙ ap (λ n. gate_as 1 (at_label m n) ∷ []) more) j) (next j) (tree m.anf m.tail (many j) b)))
 
+-- the numbers of its aliases fit where the last one does
+pub branch_fits : (m : Making) (i b most : ℕ) (places : Scope Place) (d after : Draft) (list : List Item)
+    → places ≡ paired row_place nowhere (params_of (slice_get m.anf.blocks b)) (keys_of m i) → d.items ≡ gate_as 1 (at_label m (i + 1)) ∷ [] → d.next ≡ 2
+    → most ≡ length m.anf.blocks → written after list ≡ rest m 1 places d (from_block m most b) → after.next ≤ 2 ^ 64 → AliasesFit m i b
+unfolding rest from_block
+branch_fits m i b most places d after list here items next many h fits =
+    let more : i + 1 ≡ suc i = omega arith in
+    subst (λ (w : Walked). w.next ≤ 2 ^ 64)
+    (h ∙ (λ j. walk m 1 (here j) ((items ∙ ap (λ n. gate_as 1 (at_label m n) ∷ []) more) j) (next j) (tree m.anf m.tail (many j) b))) fits
+
 -- one more branch behind those that are there
 pub one_branch : (m : Making) (i b : ℕ) (xs left : List ℕ) (list now whole : List Select) (s : Select)
     → xs ≡ b ∷ left → s ≡ branch m i b → now ≡ list ++ (s ∷ []) → list ++ branches m i xs ≡ whole → now ++ branches m (i + 1) left ≡ whole
@@ -36,3 +48,10 @@ one_branch m i b xs left list now whole s here made pushed h =
 
 pub all_branches : (m : Making) (i : ℕ) (xs : List ℕ) (list whole : List Select) → xs ≡ [] → list ++ branches m i xs ≡ whole → list ≡ whole
 all_branches m i xs list whole none h = sym (append-nil list) ∙ (ap (λ ys. list ++ branches m i ys) (sym none) ∙ h)
+
+-- the aliases of one more label fit
+pub one_fits : (m : Making) (i : ℕ) (xs : List ℕ) → AliasesFit m i (get_or xs i 0) → ((j b : ℕ) → j < i → slice_get xs j ≡ Some b → AliasesFit m j b)
+    → (j b : ℕ) → j < i + 1 → slice_get xs j ≡ Some b → AliasesFit m j b
+one_fits m i xs new before j b lt there = ⊎_elim
+    (λ same. subst (λ j. AliasesFit m j b) (sym same) (subst (λ b. AliasesFit m i b) (get_or_from_slice_get xs i b 0 (subst (λ j. slice_get xs j ≡ Some b) same there)) new))
+    (λ less. before j b less there) (eq-or-lt_of_le (let le : j ≤ i = omega (arith, lt) in le))

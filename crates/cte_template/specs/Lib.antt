@@ -3,4 +3,5 @@ pub mod Making
 pub mod Walks
 pub mod Steps
 pub mod Tree
+pub mod Numbers
 pub mod Laws

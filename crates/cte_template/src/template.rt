@@ -1,15 +1,16 @@
 //! The whole query.
 
-ghost use Rattle.std.specs.Prelude.{◌≡◌, IfOk, length};
+ghost use Rattle.std.specs.Prelude.{◌≡◌, ◌<◌, ◌^◌, IfOk, length};
 ghost use Rattle.block_forms.specs.Expressions.{expressions};
 ghost use Rattle.block_forms.specs.Lowered.{Lowered};
 ghost use Rattle.block_forms.specs.Named.{Named};
-ghost use Rattle.block_forms.specs.Places.{Each};
+ghost use Rattle.block_forms.specs.Places.{Each, EachAt};
 ghost use Rattle.call_forms.specs.Called.{Called};
 ghost use Rattle.call_forms.specs.Columned.{Columned};
 ghost use Rattle.call_forms.specs.Merged.{Merged};
 ghost use Rattle.call_forms.specs.Templated.{Templated};
 ghost use Rattle.cte_template.specs.Making.{making};
+ghost use Rattle.cte_template.specs.Numbers.{AliasesFit, NumbersFit};
 ghost use Rattle.template_laws.specs.Terms.{FailsByClass};
 ghost use Rattle.cte_template.specs.Tree as spec;
 
@@ -36,23 +37,31 @@ fn at_label(alloc: Global, w: &Writer<'_>, label: usize) -> Result<Expr, NoMemor
     equal(alloc, col(2, 0, 1)?, number(alloc, label)?)
 }
 
+/// A number of the machine fits a word.
+fn fits_word(number: usize)
+    ensures { number < 2 ^ 64 }
+{}
+
 /// The branch of a label, counted from 0.
 fn branch(alloc: Global, w: &Writer<'_>, label: usize, block: u32) -> Result<Select, NoMemory>
     requires classes { Each FailsByClass w.now.anf.now.blocks }
-    ensures { IfOk result (λ s. s ≡ spec.branch (making w.now) label block) }
+    ensures is { IfOk result (λ s. s ≡ spec.branch (making w.now) label block) }
+    ensures fits { IfOk result (λ s. AliasesFit (making w.now) label block) }
 {
     let mut draft = behind(alloc, 1, at_label(alloc, w, after(label)?)?)?;
     let params = params_of(w, block as usize);
     let pairs = on_row(alloc, params, places_at(w, label))?;
     let most = w.anf.blocks.len();
     let list = body_of(alloc, w, most, 1, block, pairs, &mut draft)?;
+    fits_word(draft.next);
     Ok(select(alloc, list, draft.items, None))
 }
 
 /// The branches of all labels.
 fn branches(alloc: Global, w: &Writer<'_>) -> Result<Items<Select>, NoMemory>
     requires classes { Each FailsByClass w.now.anf.now.blocks }
-    ensures { IfOk result (λ list. list ≡ spec.branches (making w.now) 0 w.now.tail.now.labels) }
+    ensures is { IfOk result (λ list. list ≡ spec.branches (making w.now) 0 w.now.tail.now.labels) }
+    ensures fits { IfOk result (λ list. EachAt (AliasesFit (making w.now)) w.now.tail.now.labels) }
 {
     let mut list = Items::new(alloc);
     let labels = w.tail.labels.as_slice();
@@ -82,8 +91,10 @@ fn start(alloc: Global, w: &Writer<'_>, entry: u32) -> Result<Select, NoMemory>
 /// The rows of the labels.
 fn labels(alloc: Global, w: &Writer<'_>) -> Result<FromItem, NoMemory>
     requires classes { Each FailsByClass w.now.anf.now.blocks }
-    ensures { IfOk result (λ i. i ≡ spec.label_rows (making w.now)) }
+    ensures is { IfOk result (λ i. i ≡ spec.label_rows (making w.now)) }
+    ensures fits { IfOk result (λ i. NumbersFit (making w.now)) }
 {
+    fits_word(w.tail.columns.len());
     let query = subquery(alloc, branches(alloc, w)?)?;
     Ok(FromItem {
         source: Source::Sub(query, true),
@@ -95,7 +106,8 @@ fn labels(alloc: Global, w: &Writer<'_>) -> Result<FromItem, NoMemory>
 /// The step from a row to the next: the columns of a label's row, while the call goes on.
 fn step(alloc: Global, w: &Writer<'_>, tables: usize) -> Result<Select, NoMemory>
     requires classes { Each FailsByClass w.now.anf.now.blocks }
-    ensures { IfOk result (λ s. s ≡ spec.step (making w.now) tables) }
+    ensures is { IfOk result (λ s. s ≡ spec.step (making w.now) tables) }
+    ensures fits { IfOk result (λ s. NumbersFit (making w.now)) }
 {
     let mut from = working(alloc, tables, w.tail.columns.len())?;
     from.push(labels(alloc, w)?)?;
@@ -123,7 +135,8 @@ fn working_table(
     tables: usize,
 ) -> Result<Recursive, NoMemory>
     requires classes { Each FailsByClass w.now.anf.now.blocks }
-    ensures { IfOk result (λ r. r ≡ spec.working_table (making w.now) entry tables) }
+    ensures is { IfOk result (λ r. r ≡ spec.working_table (making w.now) entry tables) }
+    ensures fits { IfOk result (λ r. NumbersFit (making w.now)) }
 {
     let name = Known::Table.name(alloc)?;
     let columns = row_names(alloc, w.tail.columns.len())?;
@@ -145,7 +158,8 @@ pub(crate) fn tree(
     tables: usize,
 ) -> Result<Query, NoMemory>
     requires classes { Each FailsByClass w.now.anf.now.blocks }
-    ensures { IfOk result (λ q. q ≡ spec.tree (making w.now) entry tables) }
+    ensures is { IfOk result (λ q. q ≡ spec.tree (making w.now) entry tables) }
+    ensures fits { IfOk result (λ q. NumbersFit (making w.now)) }
 {
     let recursive = working_table(alloc, w, entry, tables)?;
     let selects = alone(alloc, last(alloc, w, tables)?)?;

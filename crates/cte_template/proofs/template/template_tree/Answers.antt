@@ -33,7 +33,7 @@ returns c =
     let same = tree_is_template (made (expressions f.function)) g.entry c.args.tables in
     let all : List Expr → List Slot → List ℕ → Making = λ (ts : List Expr) (ss : List Slot) (ns : List ℕ). record { table = ts; types = λ n. type_or_bigint (type_of_name ss ns n); result = f.function.result; anf = a; tail = r } in
     let P : List Expr → List Slot → List ℕ → Type 0 = λ (ts : List Expr) (ss : List Slot) (ns : List ℕ). IfOk c.tree.result (λ q. q ≡ tree (all ts ss ns) g.entry c.args.tables) in
-    let h1 : P c.args.table.now.list c.as_slice-2.result.now c.as_slice-3.result.now = subst (λ ts. P ts c.as_slice-2.result.now c.as_slice-3.result.now) c.as_slice.ensures c.tree.ensures in
+    let h1 : P c.args.table.now.list c.as_slice-2.result.now c.as_slice-3.result.now = subst (λ ts. P ts c.as_slice-2.result.now c.as_slice-3.result.now) c.as_slice.ensures c.tree.ensures.is in
     let h2 : P c.args.table.now.list f.slots c.as_slice-3.result.now = subst (λ ss. P c.args.table.now.list ss c.as_slice-3.result.now) c.as_slice-2.ensures h1 in
     let h3 : P c.args.table.now.list f.slots z.names = subst (λ ns. P c.args.table.now.list f.slots ns) c.as_slice-3.ensures h2 in
     ok_by c.tree.result (λ q. q ≡ tree (made c.args.table.now.list) g.entry c.args.tables) (λ q. Templated f.function f.slots c.args.tables g z a r q)
