@@ -1,0 +1,4 @@
+pub mod NamesSaid
+pub mod InSight
+pub mod Given
+pub mod Laws

@@ -1,0 +1,6 @@
+//! That a function's expressions can be said where a query has them.
+#![tactic(auto)]
+
+mod laws;
+
+pub use laws::{expressions_in_a_query_are_said, names_that_are_read_are_said};
