@@ -1,0 +1,2 @@
+pub mod SpelledTypes
+pub mod SlotTypes
