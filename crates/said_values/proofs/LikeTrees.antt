@@ -1,18 +1,16 @@
 -- A function's expression whose names can be said is like what stands for it in a query.
-use Rattle.std.proofs.Common.{◌≡◌, refl, ap, sym, subst, ◌∙◌, ℕ, suc, Bool, true, false, List, [], ◌∷◌, map, length, Option, Some, None, option_map}
+use Rattle.std.proofs.Common.{◌≡◌, ap, sym, subst, ◌∙◌, ℕ, Bool, true, false, List, [], map, Option, None, option_map}
 use Rattle.away_values.specs.declared.operators.ChainOp.{ChainOp}
 use Rattle.away_values.specs.declared.types.Ty.{Ty}
 use Rattle.away_values.specs.declared.types.Ty.TheVariants as ty
 use Rattle.away_trees.specs.declared.queries.Expr.{Expr}
 use Rattle.away_trees.specs.declared.queries.Expr.TheVariants as expr
 use Rattle.away_trees.specs.declared.queries.Expr.TheOpen as ex
-use Rattle.away_trees.specs.declared.queries.Source.{Source}
 use Rattle.away_trees.specs.declared.queries.Source.TheVariants as source
 use Rattle.away_trees.specs.declared.queries.FromItem.{FromItem}
-use Rattle.away_trees.specs.declared.queries.Select.{Select}
 use Rattle.away_trees.specs.declared.queries.Query.{Query}
 use Rattle.away_trees.specs.declared.queries.Expr.TheViews.{roll-FromItem, roll-Select, roll-Query}
-use Rattle.away_trees.specs.Algebra.{Algebra, expr_of, source_of, from_of, item_of, key_of, select_of, query_of}
+use Rattle.away_trees.specs.Algebra.{Algebra, expr_of, from_of, item_of, key_of, select_of, query_of}
 use Rattle.away_trees.proofs.Equations as eq
 use Rattle.away_names.specs.Lookups.{Name, Level, Scope, is_kept}
 use Rattle.away_names.specs.Naming as n
@@ -25,7 +23,7 @@ use Rattle.typed_values.proofs.CleanNotes.{Clean}
 use Rattle.dotted_names.specs.Trees.{dotted_expr}
 use Rattle.dotted_names.proofs.DottingRules as d
 use Rattle.placed_names.proofs.Refined.{LevelsSo}
-use Rattle.placed_names.proofs.Standing.{Allowed, Fits, Leaves, placing, no_param}
+use Rattle.placed_names.proofs.Standing.{Allowed, Leaves, placing, no_param}
 use Rattle.placed_names.proofs.PlacedParts as part
 use Rattle.placed_names.proofs.PlacedTrees as trees
 use Rattle.said_trees.specs.Like.{Kind, Tree, value, values, links, arms, maybe, item, items, key, keys, from_item, from_items, select, selects, query, IsLike}
@@ -63,7 +61,8 @@ module _ (q : Scope) (slots : ℕ → Bool) (leaf : ℕ → ℕ → Expr) (leave
   -- ---- an item of FROM is seen by a query as it is by the function
 
   table_so : (x alias : Name) → part.Froms q slots leaf (from_of naming (roll-FromItem (record { source = source.Table x; alias = alias; columns = [] })))
-  table_so x alias = let k = trees.steps q slots leaf leaves in k.from (n.origin (ex.Table x)) (n.origin (ex.Table x)) (n.origin (ex.Table x)) alias [] (k.table x)
+  table_so x alias =
+      let k = trees.steps q slots leaf leaves in k.from (n.origin (ex.Table x)) (n.origin (ex.Table x)) (n.origin (ex.Table x)) alias [] (k.table x)
 
   abbrev part_of : n.Rows → Name → List Name → n.Piece
   part_of r alias columns = n.part (record { source = r; alias = alias; columns = columns })
@@ -74,7 +73,9 @@ module _ (q : Scope) (slots : ℕ → Bool) (leaf : ℕ → ℕ → Expr) (leave
       let k = trees.steps q slots leaf leaves in
       let r : n.Rows = n.origin (ex.Sub (query_of naming w) lateral) in
       subst (λ (r : n.Rows). part.Froms q slots leaf (part_of r alias columns)) (sym (eq.of_sub naming w lateral))
-      (k.from r r r alias columns (k.sub (query_of naming w) (query_of naming w) (query_of naming w) lateral (query_related naming naming naming (trees.relation q slots leaf leaves) k w)))
+      (k.from r r r alias columns
+      (k.sub (query_of naming w) (query_of naming w) (query_of naming w) lateral
+      (query_related naming naming naming (trees.relation q slots leaf leaves) k w)))
 
   -- ---- all sorts of trees
 
@@ -123,10 +124,12 @@ module _ (q : Scope) (slots : ℕ → Bool) (leaf : ℕ → ℕ → Expr) (leave
   all_like (said.not {x = x} h) = by _ _ (eq.of_not naming x) (node.not q slots leaf say x (T x) (all_like h))
   all_like (said.is {x = x} t v h) = by _ _ (eq.of_is naming x t v) (node.is q slots leaf say t v x (T x) (all_like h))
   all_like (said.chain {x = x} {xs = xs} h r) = by _ _ (eq.of_chain naming x xs) (node.chain q slots leaf say x xs (T x) (Ls xs) (all_like h) (all_like r))
-  all_like (said.compare {x = x} {y = y} o h i) = by _ _ (eq.of_compare naming o x y) (node.compare q slots leaf say o x y (T x) (T y) (all_like h) (all_like i))
+  all_like (said.compare {x = x} {y = y} o h i) =
+      by _ _ (eq.of_compare naming o x y) (node.compare q slots leaf say o x y (T x) (T y) (all_like h) (all_like i))
   all_like (said.between {x = x} {y = y} {z = z} v h i j) =
       by _ _ (eq.of_between naming v x y z) (node.between q slots leaf say v x y z (T x) (T y) (T z) (all_like h) (all_like i) (all_like j))
-  all_like (said.one_of {x = x} {xs = xs} v h r) = by _ _ (eq.of_oneof naming v x xs) (node.one_of q slots leaf say v x xs (T x) (Ts xs) (all_like h) (all_like r))
+  all_like (said.one_of {x = x} {xs = xs} v h r) =
+      by _ _ (eq.of_oneof naming v x xs) (node.one_of q slots leaf say v x xs (T x) (Ts xs) (all_like h) (all_like r))
   all_like (said.cast {x = x} t h) = by _ _ (eq.of_cast naming x t) (node.cast q slots leaf say t x (T x) (all_like h))
   all_like (said.cases {xs = xs} {o = o} h i) = by _ _ (eq.of_cases naming xs o) (node.cases q slots leaf say xs o (As xs) (To o) (all_like h) (all_like i))
   all_like (said.call {xs = xs} x r) = by _ _ (eq.of_call naming x xs) (node.call q slots leaf say x xs (Ts xs) (all_like r))
@@ -143,10 +146,12 @@ module _ (q : Scope) (slots : ℕ → Bool) (leaf : ℕ → ℕ → Expr) (leave
   all_like (said.something {x = x} h) = node.something q slots leaf say x (T x) (all_like h)
   all_like (said.an_item {x = x} alias h k) = sel.an_item q slots leaf say alias x (T x) (all_like k)
   all_like said.no_item = λ s ms st k a. like.no_item
-  all_like (said.one_item {x = x} {xs = xs} h r) = sel.one_item q slots leaf say x (item_of naming x) xs (map (λ x. item_of naming x) xs) (all_like h) (all_like r)
+  all_like (said.one_item {x = x} {xs = xs} h r) =
+      sel.one_item q slots leaf say x (item_of naming x) xs (map (λ x. item_of naming x) xs) (all_like h) (all_like r)
   all_like (said.a_key {x = x} v h) = sel.a_key q slots leaf say v x (T x) (all_like h)
   all_like said.no_key = λ aliases s ms st k a. like.no_key
-  all_like (said.one_key {x = x} {xs = xs} h r) = sel.one_key q slots leaf say x (key_of naming x) xs (map (λ x. key_of naming x) xs) (all_like h) (all_like r)
+  all_like (said.one_key {x = x} {xs = xs} h r) =
+      sel.one_key q slots leaf say x (key_of naming x) xs (map (λ x. key_of naming x) xs) (all_like h) (all_like r)
   all_like (said.table x alias h k) = (from_.table q slots leaf say x alias k, table_so x alias)
   all_like (said.subquery {q = w} alias columns lateral h k) = (sub_like w alias columns lateral h (all_like k), sub_so w alias columns lateral)
   all_like said.no_from = (from_.no_from q slots leaf say, tt)
@@ -156,16 +161,21 @@ module _ (q : Scope) (slots : ℕ → Bool) (leaf : ℕ → ℕ → Expr) (leave
       (from_.one_from q slots leaf say x (from_of naming x) xs (map (λ x. from_of naming x) xs) here.0 here.1 more.0, (here.1, more.1))
   all_like (said.whole {list = list} {from = from} {filter = filter} {limit = limit} {order = order} l f w o m) =
       let parts = all_like f in
-      subst (sel.LikeSelect q slots leaf say (roll-Select (record { list = list; from = from; filter = filter; order = order; limit = limit }))) (sym (eq.of_select naming list from filter order limit))
-      (sel.whole q slots leaf say list from filter order limit (map (λ x. item_of naming x) list) (map (λ x. from_of naming x) from) (To filter) (map (λ x. key_of naming x) order) (To limit)
+      subst (sel.LikeSelect q slots leaf say (roll-Select (record { list = list; from = from; filter = filter; order = order; limit = limit })))
+      (sym (eq.of_select naming list from filter order limit))
+      (sel.whole q slots leaf say list from filter order limit (map (λ x. item_of naming x) list) (map (λ x. from_of naming x) from) (To filter)
+      (map (λ x. key_of naming x) order) (To limit)
       (all_like l) parts.0 parts.1 (all_like w) (all_like o) (all_like m))
   all_like said.no_select = λ s ms st k a. like.no_select
-  all_like (said.one_select {x = x} {xs = xs} h r) = sel.one_select q slots leaf say x (select_of naming x) xs (map (λ x. select_of naming x) xs) (all_like h) (all_like r)
+  all_like (said.one_select {x = x} {xs = xs} h r) =
+      sel.one_select q slots leaf say x (select_of naming x) xs (map (λ x. select_of naming x) xs) (all_like h) (all_like r)
   all_like (said.union {xs = xs} h) =
-      subst (node.LikeQuery q slots leaf say (roll-Query (record { recursive = None; selects = xs }))) (sym (eq.of_query naming xs)) (sel.union q slots leaf say xs (map (λ x. select_of naming x) xs) (all_like h))
+      subst (node.LikeQuery q slots leaf say (roll-Query (record { recursive = None; selects = xs }))) (sym (eq.of_query naming xs))
+      (sel.union q slots leaf say xs (map (λ x. select_of naming x) xs) (all_like h))
 
   -- an expression under no select
-  pub expr_like : (w : Expr) → NamesAreSaid value w → (s : Scope) → s.in_function ≡ true → ((x : Name) → is_kept x ≡ false → q.table x ≡ s.table x) → s.levels ≡ [] → Clean (named_expr w s).note
+  pub expr_like : (w : Expr) → NamesAreSaid value w → (s : Scope) → s.in_function ≡ true → ((x : Name) → is_kept x ≡ false → q.table x ≡ s.table x)
+      → s.levels ≡ [] → Clean (named_expr w s).note
       → Allowed slots (expr_of reading (named_expr w s).it 0) → IsLike value w (dotted_expr (expr_of P (named_expr w s).it 0) q.levels)
   unfolding named_expr
   expr_like w h s f tables l g a =

@@ -1,40 +1,24 @@
 -- Each source expression of a checked function can be said where the query has it.
-use Rattle.std.proofs.Common.{◌≡◌, refl, ap, sym, subst, ◌∙◌, ℕ, ℤ, zero, suc, pos, negsuc, arith, ◌==◌, ◌≤◌, Bool, true, false, List, [], ◌∷◌, get_or}
-use Rattle.std.proofs.lemmas.Bool.{eqb-true, eq-eqb}
-use Rattle.std.specs.Prelude.{slice_get, ◌^◌, ◌-◌, ◌<◌, Some}
-use Rattle.away_values.specs.declared.operators.ChainOp.{ChainOp}
-use Rattle.away_values.specs.declared.operators.ChainOp.TheVariants as chain
-use Rattle.away_values.specs.declared.operators.CmpOp.{CmpOp}
-use Rattle.away_values.specs.declared.operators.CmpOp.TheVariants as cmp
-use Rattle.away_values.specs.declared.operators.IntOp.{IntOp}
-use Rattle.away_values.specs.declared.operators.IntOp.TheVariants as int
-use Rattle.away_values.specs.declared.operators.IsTest.TheVariants as is
+use Rattle.std.proofs.Common.{◌≡◌, refl, ap, sym, subst, ◌∙◌, ℕ, true, List, [], ◌∷◌}
 use Rattle.away_values.specs.declared.types.Ty.{Ty}
-use Rattle.away_values.specs.declared.types.Ty.TheVariants as ty
-use Rattle.away_grammar.specs.declared.grammar.Level.{Level}
 use Rattle.away_grammar.specs.declared.grammar.Level.TheVariants as l
-use Rattle.away_grammar.specs.declared.grammar.Mark.{Mark}
 use Rattle.away_grammar.specs.declared.grammar.Mark.TheVariants as m
-use Rattle.away_grammar.specs.Grammar.{at, operator_of, comparison_of}
+use Rattle.away_grammar.specs.Grammar.{at}
 use Rattle.away_trees.specs.declared.queries.Col.{Col}
 use Rattle.away_trees.specs.declared.queries.Expr.{Expr}
 use Rattle.away_trees.specs.declared.queries.Expr.TheVariants as expr
 use Rattle.away_trees.specs.declared.queries.Expr.TheBlock as b
 use Rattle.away_trees.specs.declared.schemas.Schema.{Schema}
-use Rattle.away_trees.specs.Algebra.{Algebra}
-use Rattle.away_trees.proofs.Equations as eq
 use Rattle.away_names.specs.Lookups.{Scope}
 use Rattle.away_names.specs.Trees.{named_expr}
 use Rattle.sql_meaning.specs.Placed.{column_of, placed, placed_at}
 use Rattle.sql_meaning.specs.Reads.{reads, slots_of}
-use Rattle.block_forms.specs.Expressions.{a, b as second, null_as, a_is_null, of_two, compared, fixed_list, sources, expressions}
 use Rattle.block_forms.specs.Places.{Each}
 use Rattle.typed_values.specs.Sorts.{Every}
-use Rattle.typed_values.proofs.Lists.{every_append}
 use Rattle.dotted_names.specs.Trees.{dotted_expr}
 use Rattle.dotted_names.proofs.DottingRules as d
 use Rattle.placed_names.specs.Own.{SeesTables, IsOwn}
-use Rattle.placed_names.proofs.Standing.{placing, Allowed}
+use Rattle.placed_names.proofs.Standing.{Allowed}
 use Rattle.placed_names.proofs.OwnLeaves.{own_leaves}
 use Rattle.placed_names.proofs.ReadSlots.{is_in, stands, reads_own}
 use Rattle.said_trees.specs.CanSay.{CanSay}
@@ -43,14 +27,13 @@ use Rattle.said_trees.proofs.ReadingDepth.{read_so}
 use Rattle.said_trees.proofs.LikeSaid.{like_said}
 use Rattle.said_trees.proofs.LikeNodes.{say_cast_to}
 use Rattle.said_trees.proofs.SayNodes as say
-use Rattle.said_trees.proofs.SayLevels.{loosen, at_or}
-use Rattle.said_values.specs.Given.{IsReadWithin}
+use Rattle.said_trees.proofs.SayLevels.{at_or}
+use Rattle.said_functions.specs.Said.{IsReadWithin}
 use Rattle.said_values.specs.InSight.{SightIsSaid}
-use Rattle.said_values.specs.Laws.{ExpressionsAreSaid}
-use Rattle.said_values.proofs.SaidNames.{IsColumn, said_leaves}
+use Rattle.said_values.proofs.SaidNames.{said_leaves}
 use Rattle.said_values.proofs.SaidReadings.{names_said}
 use Rattle.said_values.proofs.LikeTrees.{expr_like}
-use Rattle.said_values.proofs.WrittenSources.{StandsFor, sources_stand}
+use Rattle.said_values.proofs.WrittenSources.{StandsFor}
 
 -- can be said as a value of the query
 abbrev pub IsSaidAt : Scope → Expr → Type 0
@@ -59,7 +42,8 @@ IsSaidAt s w = CanSay 195 (at l.Or) (dotted_expr w s.levels)
 -- at each place that sees the schema's tables, where its slots are columns of the query's own with names that can be said
 abbrev pub IsSaid : Schema → Expr → Type 0
 IsSaid schema e =
-    (t : Ty) (s : Scope) (ref : ℕ → Col) → IsCastable t → SeesTables schema s → SightIsSaid s.levels → Each (λ k. IsOwn s.levels (ref k)) (slots_of e) → IsSaidAt s (placed_at t ref e)
+    (t : Ty) (s : Scope) (ref : ℕ → Col) → IsCastable t → SeesTables schema s → SightIsSaid s.levels → Each (λ k. IsOwn s.levels (ref k))
+    (slots_of e) → IsSaidAt s (placed_at t ref e)
 
 module _ (s : Scope) where
   -- NULL with a type
@@ -85,7 +69,8 @@ module _ (schema : Schema) where
       at_place =
           like_said r.holds.reads r.holds.spoken _
           (expr_like s (is_in (slots_of e)) (column_of ref) (own_leaves s (is_in (slots_of e)) ref owned) (said_leaves s (is_in (slots_of e)) ref said owned)
-          r.written (names_said (read_so r.holds.reads) r.holds.spoken).names r.scope r.plain.in_function (λ x k. tables.tables x k ∙ ap (λ f. f x) (sym r.plain.tables)) r.plain.no_levels r.clean
+          r.written (names_said (read_so r.holds.reads) r.holds.spoken).names r.scope r.plain.in_function
+          (λ x k. tables.tables x k ∙ ap (λ f. f x) (sym r.plain.tables)) r.plain.no_levels r.clean
           (subst (λ x. Allowed (is_in (slots_of e)) (reads x)) (sym r.resolved) (reads_own e)))
 
   pub sources_said : (es : List Expr) → Every (StandsFor (IsReadWithin 64) schema) es → Every (IsSaid schema) es

@@ -1,8 +1,7 @@
 -- The entries behind a function's source expressions can be said where the query has them, but for NULL of the type integer.
-use Rattle.std.proofs.Common.{◌≡◌, refl, ap, sym, subst, ◌∙◌, ℕ, ℤ, zero, suc, pos, negsuc, arith, ◌==◌, ◌≤◌, Bool, true, false, List, [], ◌∷◌, map}
+use Rattle.std.proofs.Common.{◌≡◌, refl, ap, sym, subst, ◌∙◌, ℕ, ℤ, pos, negsuc, arith, ◌==◌, false, [], ◌∷◌}
 use Rattle.std.proofs.lemmas.Bool.{eqb-true, eq-eqb}
-use Rattle.std.specs.Prelude.{◌^◌, ◌-◌, ◌<◌, Some}
-use Rattle.away_values.specs.declared.operators.ChainOp.{ChainOp}
+use Rattle.std.specs.Prelude.{◌^◌, ◌-◌, Some}
 use Rattle.away_values.specs.declared.operators.ChainOp.TheVariants as chain
 use Rattle.away_values.specs.declared.operators.CmpOp.{CmpOp}
 use Rattle.away_values.specs.declared.operators.CmpOp.TheVariants as cmp
@@ -37,8 +36,8 @@ use Rattle.said_trees.proofs.LikeNodes.{say_cast_to}
 use Rattle.said_trees.proofs.SayNodes as say
 use Rattle.said_trees.proofs.SayLevels.{loosen, at_or}
 use Rattle.said_values.specs.InSight.{SightIsSaid}
-use Rattle.said_values.proofs.SaidNames.{IsColumn, said_leaves}
-use Rattle.said_values.proofs.SaidEntries.{IsSaid, IsSaidAt, null_said, whole}
+use Rattle.said_values.proofs.SaidNames.{said_leaves}
+use Rattle.said_values.proofs.SaidEntries.{IsSaid, null_said, whole}
 
 module _ (s : Scope) (ref : ℕ → Col) where
   abbrev P : Algebra
@@ -47,7 +46,8 @@ module _ (s : Scope) (ref : ℕ → Col) where
   abbrev At : Level → Expr → Type 0
   At level e = CanSay 195 (at level) (dotted_expr (placed ref e) s.levels)
 
-  by : (level : Level) (v w : ℕ → Expr) (u : Expr) → v ≡ w → dotted_expr (w 0) s.levels ≡ u → CanSay 195 (at level) u → CanSay 195 (at level) (dotted_expr (v 0) s.levels)
+  by : (level : Level) (v w : ℕ → Expr) (u : Expr) → v ≡ w → dotted_expr (w 0) s.levels ≡ u → CanSay 195 (at level) u
+      → CanSay 195 (at level) (dotted_expr (v 0) s.levels)
   by level v w u e k h = subst (CanSay 195 (at level)) (sym (ap (λ (t : ℕ → Expr). dotted_expr (t 0) s.levels) e ∙ k)) h
 
   slot : (k : ℕ) → SightIsSaid s.levels → IsOwn s.levels (ref k) → At l.Primary (expr.Slot k)
@@ -108,28 +108,35 @@ module _ (schema : Schema) where
   unfolding b.hidden-the_row-Expr-0 denote.Hole.Carrier.hidden
   both_entry op sign e n t s ref h tables said own =
       whole s t ref (compared op a second) h
-      (at_or l.Compare (compare s ref op sign e a second (to_range s ref a (slot s ref 0 said (own 0 0 refl))) (to_range s ref second (slot s ref 1 said (own 1 1 refl)))))
+      (at_or l.Compare (compare s ref op sign e a second (to_range s ref a (slot s ref 0 said (own 0 0 refl)))
+      (to_range s ref second (slot s ref 1 said (own 1 1 refl)))))
 
-  limit_entry : (op : CmpOp) (sign : Mark) → comparison_of sign ≡ Some op → (step : IntOp) (plus : Mark) → operator_of l.Sum plus ≡ Some (chain.Int step) → (x : ℤ) → CanSay 194 (at l.Or) (expr.Int x)
+  limit_entry : (op : CmpOp) (sign : Mark) → comparison_of sign ≡ Some op → (step : IntOp) (plus : Mark) → operator_of l.Sum plus ≡ Some (chain.Int step)
+      → (x : ℤ) → CanSay 194 (at l.Or) (expr.Int x)
       → IsSaidEntry schema (compared op (of_two step (expr.Int x) a) second)
   unfolding b.hidden-the_row-Expr-0 b.hidden-the_row-Expr-Chain-1-2-1 denote.Hole.Carrier.hidden
   limit_entry op sign e step plus k x c n t s ref h tables said own =
       whole s t ref (compared op (of_two step (expr.Int x) a) second) h
       (at_or l.Compare (compare s ref op sign e (of_two step (expr.Int x) a) second
-      (loosen l.Range l.Sum (omega arith) (two s ref step plus k (expr.Int x) a (to_product s ref (expr.Int x) (number s ref x c)) (to_product s ref a (slot s ref 0 said (own 0 0 refl)))))
+      (loosen l.Range l.Sum (omega arith)
+      (two s ref step plus k (expr.Int x) a (to_product s ref (expr.Int x) (number s ref x c)) (to_product s ref a (slot s ref 0 said (own 0 0 refl)))))
       (to_range s ref second (slot s ref 1 said (own 1 1 refl)))))
 
   step_entry : (op : IntOp) (plus : Mark) → operator_of l.Sum plus ≡ Some (chain.Int op) → IsSaidEntry schema (of_two op a second)
   unfolding b.hidden-the_row-Expr-0 b.hidden-the_row-Expr-Chain-1-2-1 denote.Hole.Carrier.hidden
   step_entry op plus k n t s ref h tables said own =
       whole s t ref (of_two op a second) h
-      (at_or l.Sum (two s ref op plus k a second (to_product s ref a (slot s ref 0 said (own 0 0 refl))) (to_product s ref second (slot s ref 1 said (own 1 1 refl)))))
+      (at_or l.Sum (two s ref op plus k a second (to_product s ref a (slot s ref 0 said (own 0 0 refl)))
+      (to_product s ref second (slot s ref 1 said (own 1 1 refl)))))
 
   one_entry : IsSaidEntry schema (expr.Cast (expr.Int (pos 1)) ty.Bigint)
   one_entry n t s ref h tables said own =
       whole s t ref (expr.Cast (expr.Int (pos 1)) ty.Bigint) h
-      (by s ref l.Or _ _ _ (eq.of_cast (P s ref) (expr.Int (pos 1)) ty.Bigint) (d.cast_is _ ty.Bigint s.levels ∙ ap (λ v. expr.Cast v ty.Bigint) (d.cast_is _ ty.Bigint s.levels ∙ ap (λ v. expr.Cast v ty.Bigint) (d.int_is (pos 1) s.levels)))
-      (at_or l.Primary (say_cast_to {d = 194} ty.Bigint tt (at_or l.Primary (say_cast_to {d = 193} ty.Bigint tt (at_or l.Primary (say.say_number (omega arith))))))))
+      (by s ref l.Or _ _ _ (eq.of_cast (P s ref) (expr.Int (pos 1)) ty.Bigint)
+      (d.cast_is _ ty.Bigint s.levels ∙ ap (λ v. expr.Cast v ty.Bigint)
+      (d.cast_is _ ty.Bigint s.levels ∙ ap (λ v. expr.Cast v ty.Bigint) (d.int_is (pos 1) s.levels)))
+      (at_or l.Primary (say_cast_to {d = 194} ty.Bigint tt
+      (at_or l.Primary (say_cast_to {d = 193} ty.Bigint tt (at_or l.Primary (say.say_number (omega arith))))))))
 
   pub fixed_said : Every (IsSaidEntry schema) fixed_list
   fixed_said = (

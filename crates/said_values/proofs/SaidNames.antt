@@ -1,5 +1,5 @@
 -- Names in a function's expression are said where a query has it: as columns by an alias and a name that can be said.
-use Rattle.std.proofs.Common.{◌≡◌, refl, ap, sym, subst, ◌∙◌, ℕ, zero, suc, arith, Bool, true, List, [], ◌∷◌, ◌++◌, length, Option, Some, None}
+use Rattle.std.proofs.Common.{◌≡◌, refl, sym, subst, ◌∙◌, ℕ, zero, suc, arith, Bool, true, List, [], ◌∷◌, ◌++◌, length, Option, Some, None}
 use Rattle.std.specs.Prelude.{slice_get}
 use Rattle.away_trees.specs.declared.queries.Col.{Col}
 use Rattle.away_trees.specs.declared.queries.Expr.{Expr}
@@ -22,7 +22,7 @@ use Rattle.dotted_names.proofs.DottingRules as d
 use Rattle.dotted_names.proofs.Gives as gives
 use Rattle.dotted_names.proofs.ReadColumns.{named_read, dotted_read}
 use Rattle.placed_names.specs.Own.{IsOwn}
-use Rattle.placed_names.proofs.Refined.{LevelsSo, Called, called_by, called_still}
+use Rattle.placed_names.proofs.Refined.{Called, called_by, called_still}
 use Rattle.placed_names.proofs.Further.{called_further}
 use Rattle.placed_names.proofs.Standing.{Fits, Allowed, placing}
 use Rattle.said_trees.specs.Like.{value, IsLike}
@@ -75,7 +75,8 @@ in_sight levels h c a x e =
 abbrev pub SaidLeaves : Scope → (ℕ → Bool) → (ℕ → ℕ → Expr) → Type 0
 SaidLeaves q slots leaf = (ms : List Level) (i : ℕ) → slots i ≡ true → IsColumn (dotted_expr (leaf (length ms) i) (ms ++ q.levels))
 
-pub said_leaves : (q : Scope) (slots : ℕ → Bool) (ref : ℕ → Col) → SightIsSaid q.levels → ((i : ℕ) → slots i ≡ true → IsOwn q.levels (ref i)) → SaidLeaves q slots (column_of ref)
+pub said_leaves : (q : Scope) (slots : ℕ → Bool) (ref : ℕ → Col) → SightIsSaid q.levels → ((i : ℕ) → slots i ≡ true → IsOwn q.levels (ref i))
+    → SaidLeaves q slots (column_of ref)
 said_leaves q slots ref said own ms i h =
     let o = own i h in
     let names = in_sight q.levels said (ref i) o.alias o.name o.is_spoken in
@@ -109,26 +110,30 @@ module _ (q : Scope) (slots : ℕ → Bool) (leaf : ℕ → ℕ → Expr) (said 
   abbrev MayBe : Expr → Type 0
   MayBe w = (a c : Name) → IsSaid a → IsSaid c → IsLike value w (expr.Dotted a c)
 
-  column_like : (w : Expr) → MayBe w → (x : Name) → IsSaid x → (s : Scope) (ms : List Level) → Stands q s ms → (a : Name) (c : Col) → spoken s.levels c ≡ expr.Dotted a x → IsLike value w (shown_at ms (expr.Column c))
+  column_like : (w : Expr) → MayBe w → (x : Name) → IsSaid x → (s : Scope) (ms : List Level) → Stands q s ms → (a : Name) (c : Col)
+      → spoken s.levels c ≡ expr.Dotted a x → IsLike value w (shown_at ms (expr.Column c))
   column_like w m x h s ms st a c e =
       subst (IsLike value w) (sym (d.column_is c (ms ++ q.levels) ∙ called_still s.levels ms q.levels st.fits.so c a x e))
       (m a x (alias_said s.levels st.aliases c a x (called_by s.levels c a x e)) h)
 
-  slot_or_like : (x : Name) → IsSaid x → (ms : List Level) (v : Option Variable) → Clean (n.slot_or x v).note → Good ms (n.slot_or x v).it → IsLike value (expr.Named x) (shown_at ms (n.slot_or x v).it)
+  slot_or_like : (x : Name) → IsSaid x → (ms : List Level) (v : Option Variable) → Clean (n.slot_or x v).note → Good ms (n.slot_or x v).it
+      → IsLike value (expr.Named x) (shown_at ms (n.slot_or x v).it)
   unfolding n.slot_or
   slot_or_like x h ms (Some v) k a =
       let l = said ms v.slot (and_first (slots v.slot) true a) in
       subst (IsLike value (expr.Named x)) (sym l.is) (like.named x l.alias l.name l.alias_said l.name_said)
   slot_or_like x h ms None k a = absurd (not_broken 7 (omega arith) k)
 
-  named_by_like : (x : Name) → IsSaid x → (s : Scope) (ms : List Level) → Stands q s ms → (hit : Option Hit) (v : Option Variable) → column_named x s.levels ≡ hit
+  named_by_like : (x : Name) → IsSaid x → (s : Scope) (ms : List Level) → Stands q s ms → (hit : Option Hit) (v : Option Variable)
+      → column_named x s.levels ≡ hit
       → Clean (n.named_by x hit v).note → Good ms (n.named_by x hit v).it → IsLike value (expr.Named x) (shown_at ms (n.named_by x hit v).it)
   unfolding n.named_by
   named_by_like x h s ms st (Some hit) v e k a =
       let r = named_read x s.levels hit e in column_like (expr.Named x) (λ a c. like.named x a c) x h s ms st r.alias hit.column r.is
   named_by_like x h s ms st None v e k a = slot_or_like x h ms v k a
 
-  dotted_by_like : (a x : Name) → IsSaid x → (s : Scope) (ms : List Level) → Stands q s ms → (hit : Option Hit) → column_dotted a x s.levels ≡ hit → Clean (n.dotted_by a x hit).note
+  dotted_by_like : (a x : Name) → IsSaid x → (s : Scope) (ms : List Level) → Stands q s ms → (hit : Option Hit) → column_dotted a x s.levels ≡ hit
+      → Clean (n.dotted_by a x hit).note
       → IsLike value (expr.Dotted a x) (shown_at ms (n.dotted_by a x hit).it)
   unfolding n.dotted_by
   dotted_by_like a x h s ms st (Some hit) e k =

@@ -1,5 +1,5 @@
 -- The names of what is read from spoken signs can be said.
-use Rattle.std.proofs.Common.{◌≡◌, refl, sym, subst, Bool, true, false, List, [], ◌∷◌, Option, Some, None}
+use Rattle.std.proofs.Common.{◌≡◌, subst, Bool, true, false, List, [], ◌∷◌, Some, None}
 use Rattle.away_grammar.specs.declared.grammar.Mark.{Mark}
 use Rattle.away_grammar.specs.declared.grammar.Mark.TheVariants as m
 use Rattle.away_values.specs.declared.operators.ChainOp.{ChainOp}
@@ -39,7 +39,8 @@ pub record HasSaid (n : Sort) (t : Tree n) (after : List Sign) : Type 0 where
   pub names : Names n t
   pub rest : AllSpoken after
 
-chain_said : (first : Expr) (more : List (ChainOp × Expr)) → NamesAreSaid k.value first → NamesAreSaid k.links more → NamesAreSaid k.value (chained first more)
+chain_said : (first : Expr) (more : List (ChainOp × Expr)) → NamesAreSaid k.value first → NamesAreSaid k.links more
+    → NamesAreSaid k.value (chained first more)
 chain_said first [] h r = h
 chain_said first (x ∷ xs) h r = s.chain h r
 
@@ -89,7 +90,8 @@ names_said (g.uncompared a) h = let x = names_said a h in made x.names x.rest
 names_said (g.compared a b c e) h = let x = names_said c h in let y = names_said e x.rest.1 in made (s.compare _ x.names y.names) y.rest
 names_said (g.unranged a) h = let x = names_said a h in made x.names x.rest
 names_said (g.between a b c) h =
-    let x = names_said a h in let y = names_said b (next _ _ _ _ x.rest).1 in let z = names_said c y.rest.1 in made (s.between _ x.names y.names z.names) z.rest
+    let x = names_said a h in let y = names_said b (next _ _ _ _ x.rest).1 in let z = names_said c y.rest.1 in made
+    (s.between _ x.names y.names z.names) z.rest
 names_said (g.one_of a b) h = let x = names_said a h in let y = names_said b (two_next _ _ _ _ _ x.rest).1 in made (s.one_of _ x.names y.names) y.rest.1
 names_said (g.unsigned a) h = let x = names_said a h in made x.names x.rest
 names_said (g.signed a) h = let x = names_said a h.1 in made (s.neg x.names) x.rest

@@ -1,4 +1,3 @@
 pub mod NamesSaid
 pub mod InSight
-pub mod Given
 pub mod Laws

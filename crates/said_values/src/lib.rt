@@ -3,4 +3,6 @@
 
 mod laws;
 
-pub use laws::{expressions_in_a_query_are_said, names_that_are_read_are_said};
+pub use laws::{
+    expressions_in_a_query_are_said, expressions_of_a_file_are_said, names_that_are_read_are_said,
+};
