@@ -1,0 +1,3 @@
+pub mod InSight
+pub mod Sayable
+pub mod Laws
