@@ -1,2 +1,4 @@
 pub mod SpelledTypes
 pub mod SlotTypes
+pub mod FewLabels
+pub mod Linked

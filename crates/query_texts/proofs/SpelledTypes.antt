@@ -38,7 +38,7 @@ else_types None = []
 else_types (Some xs) = in_turn xs
 
 abbrev types_in : Stmt-F Types Types → Types
-types_in (st.Block _ decls xs _) = decl_types decls ++ in_turn xs
+types_in (st.Block _ ds xs _) = decl_types ds ++ in_turn xs
 types_in (st.If arms other) = in_turn arms ++ else_types other
 types_in (st.Cases arms other) = in_turn arms ++ else_types other
 types_in (st.Loop _ _ xs _) = in_turn xs
