@@ -47,7 +47,7 @@ use Rattle.template_names.proofs.Sighted.{Sighted, renamed}
 use Rattle.template_names.proofs.WalksRise.{rises}
 use Rattle.said_trees.specs.CanSay.{CanSay}
 use Rattle.said_trees.specs.Like.{IsCastable}
-use Rattle.said_template.specs.InSight.{LevelIsSaid, SightIsSaid}
+use Rattle.said_values.specs.InSight.{LevelIsSaid, SightIsSaid}
 use Rattle.said_template.specs.Sayable.{TableIsSaid, HasExpression, BodyFits, further_in}
 use Rattle.said_template.proofs.DottedParts.{Says, IsSome, SelectSays, select_over, union_says, let_says}
 use Rattle.said_template.proofs.OwnSaid.{FromSays, more_items, column_alone, column_says, columns_say, gated}

@@ -32,7 +32,7 @@ use Rattle.template_names.proofs.BranchesClear as clear
 use Rattle.template_names.proofs.BranchesClear.{KeysFit, keys_fit, under, row_of, row_own}
 use Rattle.template_names.proofs.OwnColumns.{Own, own_deeper}
 use Rattle.said_trees.specs.CanSay.{CanSay}
-use Rattle.said_template.specs.InSight.{ItemIsSaid, SightIsSaid}
+use Rattle.said_values.specs.InSight.{ItemIsSaid, SightIsSaid}
 use Rattle.said_template.specs.Sayable.{TableIsSaid, BodyFits, further_in}
 use Rattle.said_template.proofs.BodiesSaid.{TypesAreSaid, body_says}
 use Rattle.said_template.proofs.DottedParts.{Says, SelectSays, union_says, lateral_says}

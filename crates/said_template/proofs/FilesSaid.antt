@@ -41,7 +41,7 @@ use Rattle.template_names.proofs.OwnColumns.{Own, own_beside, own_last}
 use Rattle.template_names.proofs.OwnNames.{letter_apart}
 use Rattle.template_names.proofs.PassedNames.{beside_holds}
 use Rattle.said_trees.specs.CanSay.{CanSay}
-use Rattle.said_template.specs.InSight.{SightIsSaid}
+use Rattle.said_values.specs.InSight.{SightIsSaid}
 use Rattle.said_template.proofs.BodiesSaid.{TypesAreSaid}
 use Rattle.said_template.proofs.BranchesSaid.{row_in_sight}
 use Rattle.said_template.proofs.DottedParts.{Says, SelectSays, select_over, working_says}

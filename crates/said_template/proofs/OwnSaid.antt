@@ -27,7 +27,7 @@ use Rattle.template_names.proofs.Differences.{every_at, every_both}
 use Rattle.template_names.proofs.ItemsSeen.{seen_as, lateral_seen, seen_more}
 use Rattle.template_names.proofs.OwnColumns.{Own, spoken_is}
 use Rattle.said_trees.specs.CanSay.{CanSay}
-use Rattle.said_template.specs.InSight.{ColumnIsSaid, ItemIsSaid, LevelIsSaid, SightIsSaid}
+use Rattle.said_values.specs.InSight.{ColumnIsSaid, ItemIsSaid, LevelIsSaid, SightIsSaid}
 use Rattle.said_template.proofs.DottedParts.{Says, gate_says, lateral_says}
 use Rattle.said_template.proofs.Saying.{dotted_alone, stands_alone}
 use Rattle.said_template.proofs.SmallSaid.{truth_says}

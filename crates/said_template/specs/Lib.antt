@@ -1,3 +1,2 @@
-pub mod InSight
 pub mod Sayable
 pub mod Laws

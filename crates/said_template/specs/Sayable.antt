@@ -20,7 +20,7 @@ use Rattle.sql_meaning.specs.Reads.{slots_of}
 use Rattle.placed_names.specs.Own.{SeesTables, IsOwn}
 use Rattle.said_trees.specs.CanSay.{CanSay}
 use Rattle.said_trees.specs.Like.{IsCastable}
-use Rattle.said_template.specs.InSight.{SightIsSaid}
+use Rattle.said_values.specs.InSight.{SightIsSaid}
 
 -- Each expression of the table but the NULL of 32 bits, which no text says, can be said at a depth, where its slots are columns of the query's own and the
 -- names in sight can be said.
