@@ -20,15 +20,12 @@ use Rattle.lowered_laws.proofs.NodesKept.{few_nodes}
 
 -- ---- parameters
 
-written_few : (f : Function) → KeepsLimits f → length f.params ≤ 64
-written_few f h = by f h.few_variables
-  where
-    by : (f : Function) → variables f ≤ 64 → length f.params ≤ 64
-    unfolding variables
-    by f h = omega (arith, h)
+of_variables : (f : Function) → variables f ≤ 64 → length f.params ≤ 64
+unfolding variables
+of_variables f h = omega (arith, h)
 
 pub few_parameters : (schema : Schema) (written f : Function) (slots : List Slot) → IsChecked schema written f slots → KeepsLimits written → length f.params ≤ 64
-few_parameters schema written f slots checked limits = subst (λ (f : Function). length f.params ≤ 64) (sym checked.function) (written_few written limits)
+few_parameters schema written f slots checked limits = subst (λ (f : Function). length f.params ≤ 64) (sym checked.function) (of_variables written limits.few_variables)
 
 -- ---- labels
 

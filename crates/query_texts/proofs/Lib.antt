@@ -2,3 +2,4 @@ pub mod SpelledTypes
 pub mod SlotTypes
 pub mod FewLabels
 pub mod Linked
+pub mod Again

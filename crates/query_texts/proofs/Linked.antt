@@ -19,7 +19,7 @@ use Rattle.away_trees.specs.declared.queries.Expr.TheBlock as b
 use Rattle.away_trees.specs.declared.queries.Expr.TheVariants as expr
 use Rattle.away_trees.specs.declared.schemas.Schema.{Schema}
 use Rattle.away_trees.specs.declared.statements.Function.{Function}
-use Rattle.away_trees.specs.Algebra.{expr_of, links_of}
+use Rattle.away_trees.specs.Algebra.{expr_of, exprs_of, head_or, links_of}
 use Rattle.away_types.specs.CheckedFunctions.{IsChecked}
 use Rattle.away_types.specs.declared.slots.Slot.{Slot}
 use Rattle.away_values.specs.declared.operators.ChainOp.{ChainOp}
@@ -115,7 +115,7 @@ resolved_linked : (e : Expr) (s : Scope) → IsLinked e → IsLinked (named_expr
 unfolding named_expr naming.named naming.dotted naming.unwritten
 resolved_linked (b.Named n) s h = named_linked n (column_named n s.levels) (variable_named n s.variables)
 resolved_linked (b.Dotted a n) s h = dotted_linked a n (column_dotted a n s.levels)
-resolved_linked (b.Chain' p e z links) s h = links_linked s (named_expr e s).it links h
+resolved_linked (b.Chain' p e z links) s h = links_linked s ((head_or naming.naming.no_expr (exprs_of naming.naming e)).judge s).it links h
 resolved_linked _ s h = tt
 
 -- ---- the whole table
