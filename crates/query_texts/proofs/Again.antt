@@ -1,5 +1,5 @@
 -- The query of a function that was read reads again.
-use Rattle.std.proofs.Common.{◌≡◌, ℕ, ◌<◌, ◌≤◌, ◌^◌, List, [], length, arith}
+use Rattle.std.proofs.Common.{◌<◌, ◌^◌, List, [], length, arith}
 use Rattle.away_grammar.specs.Grammar as grammar
 use Rattle.away_grammar.specs.Printing.{query_text}
 use Rattle.away_grammar.specs.Texts.{ReadsQuery}
@@ -52,7 +52,8 @@ said_reads q said =
     let w : Said 216 grammar.file q [] = said [] in
     said_text_reads 216 w.signs q (omega arith) (w.spoken tt) w.says
 
-module _ (no_rule : TreeBreaksNoRule) (can_say : TreeIsSaid) (s : Schema) (f : Function) (slots : List Slot) (g : Goto) (z : Ssa) (a : Anf) (r : Tail) (texts : IsOfTexts s f slots)
+module _ (no_rule : TreeBreaksNoRule) (can_say : TreeIsSaid) (s : Schema) (f : Function) (slots : List Slot) (g : Goto) (z : Ssa) (a : Anf) (r : Tail)
+    (texts : IsOfTexts s f slots)
     (low : Lowered f slots g) (named : Named (length slots) (length f.params) g z) (called : Called g z a) (merged : Merged g a r)
     (columned : Columned slots z a r) (tight : Tight slots g z a r) (columns : Each HasKind r.columns) (few : length s.tables < 2 ^ 64)
     (fits : NumbersFit (making_of f slots z a r)) where
@@ -110,8 +111,8 @@ module _ (no_rule : TreeBreaksNoRule) (can_say : TreeIsSaid) (s : Schema) (f : F
         may_be_read = text.0;
         reads = text.1;
         unbroken =
-          no_rule s texts.written f slots g z a r (length slots) (length f.params) texts.checked low named called merged columned typable (file s (dotted q))
-          back.query back.quiet once.first once.second;
+            no_rule s texts.written f slots g z a r (length slots) (length f.params) texts.checked low named called merged columned typable (file s (dotted q))
+            back.query back.quiet once.first once.second;
         is_tree = back.query;
       }
 

@@ -1,6 +1,5 @@
 -- No expression of a function that is read is a chain without links.
-use Rattle.std.proofs.Common.{◌≡◌, refl, ap, sym, subst, ℕ, zero, suc, true, false, List, [], ◌∷◌, ◌++◌, map, fold, Option, Some, None}
-use Rattle.away_grammar.specs.declared.grammar.Level.TheVariants as l
+use Rattle.std.proofs.Common.{◌≡◌, refl, subst, ℕ, zero, suc, true, false, List, [], ◌∷◌, ◌++◌, fold, Option, Some, None}
 use Rattle.away_grammar.specs.declared.grammar.Mark.{Mark}
 use Rattle.away_grammar.specs.declared.grammar.Mark.TheVariants as m
 use Rattle.away_grammar.specs.FunctionGrammar.{ReadsFunction}

@@ -1,18 +1,15 @@
 -- The slots of a function whose declarations have kinds have kinds: the hidden ones of FOR are of bigints.
-use Rattle.std.proofs.Common.{◌≡◌, refl, sym, subst, ℕ, zero, suc, Bool, true, false, List, [], ◌∷◌, ◌++◌, fold, Option, Some, None}
-use Rattle.std.specs.Prelude.{slice_get}
+use Rattle.std.proofs.Common.{◌≡◌, refl, sym, subst, zero, suc, Bool, true, false, List, [], ◌∷◌, fold, Option, Some, None}
 use Rattle.away_values.specs.declared.types.Ty.{Ty}
 use Rattle.away_values.specs.declared.types.Ty.TheVariants as ty
 use Rattle.away_trees.specs.declared.schemas.Schema.{Schema}
-use Rattle.away_trees.specs.declared.statements.Arm.{Arm}
 use Rattle.away_trees.specs.declared.statements.Decl.{Decl}
 use Rattle.away_trees.specs.declared.statements.Function.{Function}
 use Rattle.away_trees.specs.declared.statements.LoopKind.{LoopKind}
 use Rattle.away_trees.specs.declared.statements.LoopKind.TheVariants as kind
 use Rattle.away_trees.specs.declared.statements.Stmt.{Stmt}
 use Rattle.away_trees.specs.declared.statements.Stmt.TheBlock as b
-use Rattle.away_trees.specs.declared.statements.Stmt.TheOpen as st
-use Rattle.away_trees.specs.StatementAlgebra.{stmt_of, stmts_of, branches_of, branch_of, else_of}
+use Rattle.away_trees.specs.StatementAlgebra.{stmt_of, stmts_of, branches_of, else_of}
 use Rattle.away_names.specs.Lookups.{Name, Scope}
 use Rattle.away_types.specs.declared.parameters.Start.{Start}
 use Rattle.away_types.specs.declared.resolved.Declared.{Declared}
@@ -44,7 +41,9 @@ Keeps g = (spot : Spot) (slots : Slots) → Kinds slots → Kinds (g spot slots)
 
 slot_keeps : (t : Ty) (not_null : Bool) (slots : Slots) → HasKind t → Kinds slots → Kinds (with_slot t not_null slots)
 unfolding with_slot
-slot_keeps t not_null slots k h = record { shown = every_append SlotHasKind slots.shown (record { ty = t; not_null = not_null } ∷ []) h.shown (k, tt); hidden = h.hidden }
+slot_keeps t not_null slots k h =
+    let one : Slot = record { ty = t; not_null = not_null } in
+    record { shown = every_append SlotHasKind slots.shown (one ∷ []) h.shown (k, tt); hidden = h.hidden }
 
 hidden_keep : (slots : Slots) → Kinds slots → Kinds (with_hidden slots)
 unfolding with_hidden
@@ -146,6 +145,8 @@ no_integers schema written f slots checked h =
     let kinds = body_kinds schema written h in
     let all = (body_of schema written).slots in
     record {
-      slots_are = subst (Each SlotHasKind) (sym checked.slots_are) (each_of (slots_of schema written) (every_append SlotHasKind all.shown all.hidden kinds.shown kinds.hidden));
+      slots_are =
+        subst (Each SlotHasKind) (sym checked.slots_are)
+        (each_of (slots_of schema written) (every_append SlotHasKind all.shown all.hidden kinds.shown kinds.hidden));
       result_is = subst (λ (f : Function). HasKind f.result) (sym checked.function) h.result;
     }

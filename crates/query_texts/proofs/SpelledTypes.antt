@@ -93,7 +93,8 @@ by_name false false false t e = absurd cc
 named : (n : List ℕ) (t : Ty) → type_named n ≡ Some t → HasKind t
 unfolding type_named
 named n t e =
-    by_name (bytes_eq n (codes "bigint") || bytes_eq n (codes "int8")) (bytes_eq n (codes "boolean") || bytes_eq n (codes "bool")) (bytes_eq n (codes "text")) t e
+    by_name (bytes_eq n (codes "bigint") || bytes_eq n (codes "int8")) (bytes_eq n (codes "boolean") || bytes_eq n (codes "bool"))
+    (bytes_eq n (codes "text")) t e
 
 joined : (u v : Types) → All u → All v → All (u ++ v)
 joined u v h k = every_append HasKind u v h k
