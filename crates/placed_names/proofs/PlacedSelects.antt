@@ -140,25 +140,25 @@ module _ (q : Scope) (slots : ℕ → Bool) (leaf : ℕ → ℕ → Expr) where
 
   -- ---- selects
 
-  abbrev at : {A : Type 0} → ℕ → List (ℕ → A) → List A
+  abbrev pub at : {A : Type 0} → ℕ → List (ℕ → A) → List A
   at d xs = map (λ x. x d) xs
 
-  abbrev maybe_at : ℕ → Option Expr → Option Expr
+  abbrev pub maybe_at : ℕ → Option Expr → Option Expr
   maybe_at d o = option_map (λ x. x d) (option_map (λ e. expr_of P e) o)
 
-  abbrev Fields : Type 0
+  abbrev pub Fields : Type 0
   Fields = Select-F Expr Source FromItem Item Key Query Recursive Select
 
-  dotted_fields : (x : Fields) (l : Sight) → dotted_select (roll-Select x) l ≡ dotted_over x ((dotted_from l x.from).seen ∷ l) (dotted_from l x.from).items
+  pub dotted_fields : (x : Fields) (l : Sight) → dotted_select (roll-Select x) l ≡ dotted_over x ((dotted_from l x.from).seen ∷ l) (dotted_from l x.from).items
   dotted_fields x l = d.select_rule (roll-Select x) l ∙ ap (λ (x : Fields). dotted_over x ((dotted_from l x.from).seen ∷ l) (dotted_from l x.from).items) (out-roll-Select x)
 
   -- the items of FROM, as the query sees them
-  record FromClear (ms : List Level) (aliases : List Name) (seen : Level) (fs : List FromItem) : Type 0 where
-    clear : IsClear (from_items []) (under ms q) (at (suc (length ms)) (map (λ x. from_of P x) fs))
-    seen_so : LevelSo seen (dotted_from (ms ++ q.levels) (at (suc (length ms)) (map (λ x. from_of P x) fs))).seen
-    aliases_are : map (λ f. (out-FromItem f).alias) (at (suc (length ms)) (map (λ x. from_of P x) fs)) ≡ aliases
+  pub record FromClear (ms : List Level) (aliases : List Name) (seen : Level) (fs : List FromItem) : Type 0 where
+    pub clear : IsClear (from_items []) (under ms q) (at (suc (length ms)) (map (λ x. from_of P x) fs))
+    pub seen_so : LevelSo seen (dotted_from (ms ++ q.levels) (at (suc (length ms)) (map (λ x. from_of P x) fs))).seen
+    pub aliases_are : map (λ f. (out-FromItem f).alias) (at (suc (length ms)) (map (λ x. from_of P x) fs)) ≡ aliases
 
-  from_clear : (s : Scope) (ms : List Level) → Fits q s ms → (fs : List n.Piece) → Every (part.Froms q slots leaf) fs → Clean (n.framed s fs).note
+  pub from_clear : (s : Scope) (ms : List Level) → Fits q s ms → (fs : List n.Piece) → Every (part.Froms q slots leaf) fs → Clean (n.framed s fs).note
       → May (of_list (suc (length ms)) (map (λ x. from_of reading x) (n.framed s fs).it.items)) → FromClear ms (map (λ f. f.alias) fs) (n.framed s fs).it.seen (n.framed s fs).it.items
   from_clear s ms f fs h g a =
       let ps : List Part = part.pieces s [] fs in
@@ -172,7 +172,7 @@ module _ (q : Scope) (slots : ℕ → Bool) (leaf : ℕ → ℕ → Expr) where
         aliases_are = so.aliases_are;
       }))
 
-  abbrev inner_levels : List Level → List FromItem → List Level
+  abbrev pub inner_levels : List Level → List FromItem → List Level
   inner_levels ms from = (dotted_from (ms ++ q.levels) (at (suc (length ms)) (map (λ x. from_of P x) from))).seen ∷ ms
 
   select_clear : (ms : List Level) (names : List (Option Name)) (aliases : List Name) (seen : Level) (list : List Item) (from : List FromItem) (filter : Option Expr) (order : List Key) (limit : Option Expr)
@@ -197,14 +197,14 @@ module _ (q : Scope) (slots : ℕ → Bool) (leaf : ℕ → ℕ → Expr) where
   MaybeExprs (Some t) = part.Exprs q slots leaf t
 
   -- what a select reads: its list, FROM, the condition, the keys and LIMIT
-  record MayParts (d : ℕ) (is : List Item) (fs : List FromItem) (w : Option Expr) (ks : List Key) (m : Option Expr) : Type 0 where
-    list : May (of_list d (map (λ x. item_of reading x) is))
-    from : May (of_list d (map (λ x. from_of reading x) fs))
-    filter : May (of_option d (option_map (λ e. expr_of reading e) w))
-    order : May (of_list d (map (λ x. key_of reading x) ks))
-    limit : May (of_option d (option_map (λ e. expr_of reading e) m))
+  pub record MayParts (d : ℕ) (is : List Item) (fs : List FromItem) (w : Option Expr) (ks : List Key) (m : Option Expr) : Type 0 where
+    pub list : May (of_list d (map (λ x. item_of reading x) is))
+    pub from : May (of_list d (map (λ x. from_of reading x) fs))
+    pub filter : May (of_option d (option_map (λ e. expr_of reading e) w))
+    pub order : May (of_list d (map (λ x. key_of reading x) ks))
+    pub limit : May (of_option d (option_map (λ e. expr_of reading e) m))
 
-  may_parts : (d : ℕ) (list : List Item) (from : List FromItem) (filter : Option Expr) (order : List Key) (limit : Option Expr)
+  pub may_parts : (d : ℕ) (list : List Item) (from : List FromItem) (filter : Option Expr) (order : List Key) (limit : Option Expr)
       → May (select_of reading (roll-Select (record { list = list; from = from; filter = filter; order = order; limit = limit })) d) → MayParts (suc d) list from filter order limit
   may_parts d list from filter order limit a =
       let e : ℕ = suc d in
@@ -266,7 +266,7 @@ module _ (q : Scope) (slots : ℕ → Bool) (leaf : ℕ → ℕ → Expr) where
 
   -- ---- queries
 
-  abbrev QueryFields : Type 0
+  abbrev pub QueryFields : Type 0
   QueryFields = Query-F Expr Source FromItem Item Key Query Recursive Select
 
   first_so : (s : Scope) (ms : List Level) → Fits q s ms → (ls : List n.Listing) → Every (part.Selects q slots leaf) ls → Every (λ l. Clean (l s).note) ls

@@ -46,7 +46,7 @@ module _ (q : Scope) (slots : ℕ → Bool) (leaf : ℕ → ℕ → Expr) (leave
   abbrev May : List Read → Type 0
   May = Allowed slots
 
-  abbrev relation : Relation naming naming naming
+  abbrev pub relation : Relation naming naming naming
   relation = record {
     Exprs = λ x y z. part.Exprs q slots leaf x;
     Sources = λ x y z. sel.Sources q slots leaf x;
@@ -88,7 +88,7 @@ module _ (q : Scope) (slots : ℕ → Bool) (leaf : ℕ → ℕ → Expr) (leave
   option (Some x) (Some y) (Some z) r = r
   option _ _ _ r = absurd r
 
-  steps : IsKept naming naming naming relation
+  pub steps : IsKept naming naming naming relation
   unfolding n.shown
   steps = record {
     no_expr = λ s ms f g a. node _ expr.Null c.null (ap own_name (d.null_is _));

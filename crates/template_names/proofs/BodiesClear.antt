@@ -108,21 +108,21 @@ module _ (schema : Schema) (m : Making) (clears : TableClears schema m.table) (n
 
     -- behind a term's item its value is in sight of the list
     module _ (fits : k < 2 ^ 64) (sees : SeesTables schema s) (t : Ty) (u : Term) (refers : HasReferences m.table names u) where
-      abbrev let_query : Query
+      abbrev pub let_query : Query
       let_query = one (tree.select (value_at m depth places t u ∷ []) [] None)
 
-      with_let : Sighted (suc k) depth s (fs ++ let_at m depth places k t u ∷ []) names places
+      pub with_let : Sighted (suc k) depth s (fs ++ let_at m depth places k t u ∷ []) names places
       with_let = added k depth s fs names places fits h only_name [] let_query only_apart (let_clear (inside h.level s) (value_at m depth places t u) (value_clear t u sees refers))
 
-      abbrev let_column : Col
+      abbrev pub let_column : Col
       let_column = record { level = 0; item = length fs; column = 0 }
 
-      let_own : Own (suc k) (with_let.level ∷ s.levels) let_column
+      pub let_own : Own (suc k) (with_let.level ∷ s.levels) let_column
       unfolding with_let added
       let_own = column_of k depth s fs names places fits h only_name [] let_query 0 only_name only_apart only_kept refl
 
       -- the name that is assigned stands there
-      assigned : (n : ℕ) → Sighted (suc k) depth s (fs ++ let_at m depth places k t u ∷ []) (n ∷ names) (stands n (first_of depth (length fs)) places)
+      pub assigned : (n : ℕ) → Sighted (suc k) depth s (fs ++ let_at m depth places k t u ∷ []) (n ∷ names) (stands n (first_of depth (length fs)) places)
       assigned n =
           renamed (suc k) depth s (fs ++ let_at m depth places k t u ∷ []) names places with_let (n ∷ names) (stands n (first_of depth (length fs)) places)
           (shallow_stands depth n (length fs) places h.shallow)
@@ -131,15 +131,15 @@ module _ (schema : Schema) (m : Making) (clears : TableClears schema m.table) (n
 
     -- behind an item of rows
     module _ (fits : k < 2 ^ 64) (a b : Select) (clear_a : IsClear select (inside h.level s) a) (clear_b : IsClear select (inside h.level s) b) where
-      abbrev rows_query : Query
+      abbrev pub rows_query : Query
       rows_query = roll-Query (record { recursive = None; selects = a ∷ b ∷ [] })
 
-      with_rows : Sighted (suc k) depth s (fs ++ either_as k width a b ∷ []) names places
+      pub with_rows : Sighted (suc k) depth s (fs ++ either_as k width a b ∷ []) names places
       with_rows =
           added k depth s fs names places fits h go_name (label_name ∷ value_names width ++ (result_name ∷ fault_name ∷ [])) rows_query (row_apart width narrow)
           (c.union (c.one_select clear_a (c.one_select clear_b c.no_select)))
 
-      row_own : (i : ℕ) → i < suc (suc (suc (suc width))) → Own (suc k) (with_rows.level ∷ s.levels) (record { level = 0; item = length fs; column = i })
+      pub row_own : (i : ℕ) → i < suc (suc (suc (suc width))) → Own (suc k) (with_rows.level ∷ s.levels) (record { level = 0; item = length fs; column = i })
       unfolding with_rows added
       row_own i lt =
           let there = column_there width i lt in
@@ -157,16 +157,16 @@ module _ (schema : Schema) (m : Making) (clears : TableClears schema m.table) (n
   -- the column of the test, seen from a gate in a select further in
   module _ (k j depth : ℕ) (s : Scope) (fs : List FromItem) (names : List ℕ) (places : scopes.Scope Place) (h : Sighted k depth s fs names places) (le : k ≤ j) (fits : j < 2 ^ 64)
       (col : Col) (own : Own k (h.level ∷ s.levels) col) where
-    abbrev further : Scope
+    abbrev pub further : Scope
     further = inside h.level s
 
-    abbrev arm : Sighted j (suc depth) further [] names places
+    abbrev pub arm : Sighted j (suc depth) further [] names places
     arm = begun k j depth s fs names places le h
 
-    test_clear : IsClear value (inside [] (inside [] further)) (expr.Column (deeper (deeper col)))
+    pub test_clear : IsClear value (inside [] (inside [] further)) (expr.Column (deeper (deeper col)))
     test_clear = column_clear k (inside [] (inside [] further)) (deeper (deeper col)) (own_deeper k _ _ (own_deeper k (h.level ∷ s.levels) col own))
 
-    behind_gate : (e : Expr) → IsClear value (inside [] (inside [] further)) e → Sighted (suc j) (suc depth) further (gate_as j e ∷ []) names places
+    pub behind_gate : (e : Expr) → IsClear value (inside [] (inside [] further)) e → Sighted (suc j) (suc depth) further (gate_as j e ∷ []) names places
     unfolding begun
     behind_gate e clear =
         added j (suc depth) further [] names places fits arm only_name [] (one (tree.select (truth true ∷ []) [] (Some e))) only_apart (gate_clear (inside [] further) e clear)

@@ -75,7 +75,7 @@ typed_within : (columns : List Ty) (i : ℕ) (t : Option Ty) → HasType t (slic
 typed_within columns i None h = absurd h
 typed_within columns i (Some t) h = slice_get_within columns i t h
 
-keys_fit : (slots : List Slot) (names : List ℕ) (columns : List Ty) (x : Option AnfBlock) (keys : List ℕ) → PlacesAt slots names columns x keys → KeysFit (length columns) (params_of x) keys
+pub keys_fit : (slots : List Slot) (names : List ℕ) (columns : List Ty) (x : Option AnfBlock) (keys : List ℕ) → PlacesAt slots names columns x keys → KeysFit (length columns) (params_of x) keys
 keys_fit slots names columns None keys h = absurd h
 keys_fit slots names columns (Some x) keys h = record {
   as_many = h.as_many;
@@ -100,7 +100,7 @@ module _ (schema : Schema) (m : Making) (clears : TableClears schema m.table) (n
   -- ---- a branch
 
   module _ (params keys : List ℕ) (fit : KeysFit width params keys) where
-    abbrev places : scopes.Scope Place
+    abbrev pub places : scopes.Scope Place
     places = paired row_place nowhere params keys
 
     key_own : (n : ℕ) → Among keys n → Own 1 ([] ∷ (row_of width ∷ []) ∷ []) (seen 1 (row_place n))
@@ -108,7 +108,7 @@ module _ (schema : Schema) (m : Making) (clears : TableClears schema m.table) (n
         let lt : n < width = fit.within n among in
         own_deeper 1 ((row_of width ∷ []) ∷ []) (record { level = 0; item = 0; column = suc (suc n) }) (row_own 1 width (suc (suc n)) narrow (omega (arith, lt)))
 
-    nothing_yet : Sighted 1 1 here [] params places
+    pub nothing_yet : Sighted 1 1 here [] params places
     nothing_yet = record {
       level = [];
       seen_is = refl;
@@ -128,7 +128,7 @@ module _ (schema : Schema) (m : Making) (clears : TableClears schema m.table) (n
         (own_deeper 1 _ (record { level = 1; item = 0; column = 1 }) (own_deeper 1 ((row_of width ∷ []) ∷ []) (record { level = 0; item = 0; column = 1 }) (row_own 1 width 1 narrow (omega arith)))))
         (number_clear (inside [] (inside [] here)) (pos n))
 
-    behind_gate : (n : ℕ) → Sighted 2 1 here (gate_as 1 (at_label m n) ∷ []) params places
+    pub behind_gate : (n : ℕ) → Sighted 2 1 here (gate_as 1 (at_label m n) ∷ []) params places
     unfolding nothing_yet
     behind_gate n =
         added 1 1 here [] params places (omega arith) nothing_yet only_name [] (one (tree.select (truth true ∷ []) [] (Some (at_label m n)))) only_apart

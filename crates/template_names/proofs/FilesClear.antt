@@ -77,14 +77,14 @@ module _ (schema : Schema) (m : Making) (narrow : length m.tail.columns < 2 ^ 64
   pub working_clear : (level : Level) → IsClear (from_item level) outside (working tables width)
   working_clear level = c.table table_name table_name (decimal tables ∷ row_names width) true refl
 
-  abbrev rows_seen : Seen
+  abbrev pub rows_seen : Seen
   rows_seen = seen_as step_name (row_names width)
 
-  abbrev both : Level
+  abbrev pub both : Level
   both = row_of width ∷ rows_seen ∷ []
 
   -- a column of the labels' rows
-  rows_own : (i : ℕ) → i < suc (suc (suc (suc width))) → Own 1 (both ∷ []) (record { level = 0; item = 1; column = i })
+  pub rows_own : (i : ℕ) → i < suc (suc (suc (suc width))) → Own 1 (both ∷ []) (record { level = 0; item = 1; column = i })
   rows_own i lt =
       let there = column_there width i lt in
       own_last 1 (row_of width ∷ []) [] rows_seen there.name i step_kept there.kept (step_older 1) (letter_apart step_name table_name refl, tt)
@@ -93,7 +93,7 @@ module _ (schema : Schema) (m : Making) (narrow : length m.tail.columns < 2 ^ 64
   abbrev rest : List Name
   rest = label_name ∷ value_names width ++ (result_name ∷ fault_name ∷ [])
 
-  seen_both : (dotted_from [] (working tables width ∷ label_rows m ∷ [])).seen ≡ both
+  pub seen_both : (dotted_from [] (working tables width ∷ label_rows m ∷ [])).seen ≡ both
   seen_both =
       let first : Seen = (dotted_part (working tables width) [] []).seen in
       λ i. working_seen tables width [] [] i

@@ -1,0 +1,125 @@
+-- The branches of labels can be said, and so can the rows of the labels, beside the working table.
+use Rattle.std.proofs.Common.{◌≡◌, refl, sym, subst, ℕ, suc, ◌+◌, ◌<◌, ◌≤◌, ◌^◌, List, [], ◌∷◌, ◌++◌, length, Option, Some, None, arith}
+use Rattle.std.specs.Prelude.{slice_get}
+use Rattle.std.proofs.lemmas.Option.{slice_get_within}
+use Rattle.away_grammar.specs.Grammar.{from_item}
+use Rattle.away_trees.specs.declared.queries.Expr.TheViews.{roll-Query}
+use Rattle.away_trees.specs.declared.schemas.Schema.{Schema}
+use Rattle.away_types.specs.declared.slots.Slot.{Slot}
+use Rattle.away_names.specs.declared.scope.Listed.{Listed}
+use Rattle.away_names.specs.Lookups.{Name, Level, Scope, inside}
+use Rattle.block_forms.specs.Places.{Each, EachPair}
+use Rattle.call_forms.specs.Bodies.{body_of}
+use Rattle.call_forms.specs.Columned.{PlacesAt}
+use Rattle.call_forms.specs.Forms.{params_of}
+use Rattle.call_forms.specs.Scopes.{paired}
+use Rattle.call_forms.specs.Templated.{HasTree}
+use Rattle.call_law.proofs.Labels.{element_there}
+use Rattle.cte_template.specs.Making.{Making}
+use Rattle.cte_template.specs.Places.{nowhere, row_place}
+use Rattle.cte_template.specs.Tree.{at_label, branch, branches, label_rows}
+use Rattle.cte_template.specs.Walks.{keys_of}
+use Rattle.cte_template.proofs.PlaceRules.{found_or}
+use Rattle.dotted_names.specs.Trees.{dotted_part}
+use Rattle.dotted_names.proofs.Gives.{Every}
+use Rattle.sql_meaning.specs.Trees.{col}
+use Rattle.template_parts.specs.Names.{table_name, step_name, go_name, label_name, result_name, fault_name, value_names, row_names}
+use Rattle.template_parts.specs.Trees.{gate_as, lateral_as}
+use Rattle.placed_names.specs.Own.{SeesTables}
+use Rattle.template_names.specs.Laws.{walk_of, NumbersFit}
+use Rattle.template_names.proofs.BodiesClear.{TableClears, sees_inside}
+use Rattle.template_names.proofs.BranchesClear as clear
+use Rattle.template_names.proofs.BranchesClear.{KeysFit, keys_fit, under, row_of, row_own}
+use Rattle.template_names.proofs.OwnColumns.{Own, own_deeper}
+use Rattle.said_trees.specs.CanSay.{CanSay}
+use Rattle.said_values.specs.InSight.{ItemIsSaid, SightIsSaid}
+use Rattle.said_template.specs.Sayable.{TableIsSaid, BodyFits, further_in}
+use Rattle.said_template.proofs.BodiesSaid.{TypesAreSaid, body_says}
+use Rattle.said_template.proofs.DottedParts.{Says, SelectSays, union_says, lateral_says}
+use Rattle.said_template.proofs.OwnSaid.{seen_said, column_alone, gated}
+use Rattle.said_template.proofs.SmallSaid.{is_number_says}
+use Rattle.said_template.proofs.SpokenNames.{table_said, step_said, row_said}
+
+pub row_in_sight : (w : ℕ) → w < 2 ^ 64 → ItemIsSaid (row_of w)
+row_in_sight w narrow = seen_said table_name (row_names w) table_said (row_said w narrow)
+
+module _ (schema : Schema) (m : Making) (clears : TableClears schema m.table) (narrow : length m.tail.columns < 2 ^ 64) (typed : TypesAreSaid m)
+    (d tests : ℕ) (says : (e : ℕ) → d ≤ e → TableIsSaid (suc e) schema m.table) (tables : Name → Option Listed) (sees : SeesTables schema (under schema tables))
+    (few : length m.tail.labels < 2 ^ 63) where
+  abbrev width : ℕ
+  width = length m.tail.columns
+
+  abbrev outside : Scope
+  outside = under schema tables
+
+  -- a label's branch sees the working table
+  abbrev here : Scope
+  here = inside (row_of width ∷ []) outside
+
+  here_said : SightIsSaid here.levels
+  here_said = ((row_in_sight width narrow, tt), tt)
+
+  abbrev depth : ℕ
+  depth = suc (suc (further_in d tests))
+
+  -- ---- a branch
+
+  label_says : (n i : ℕ) → i < 2 ^ 63 → Says (suc n) ([] ∷ [] ∷ here.levels) (at_label m i)
+  label_says n i low =
+      let ls : List Level = [] ∷ [] ∷ here.levels in
+      let own : Own 1 ls (record { level = 2; item = 0; column = 1 }) =
+      own_deeper 1 ([] ∷ here.levels) (record { level = 1; item = 0; column = 1 })
+      (own_deeper 1 here.levels (record { level = 0; item = 0; column = 1 }) (row_own 1 width 1 narrow (omega arith))) in
+      is_number_says n ls (col 2 0 1) i low (column_alone 1 ls (record { level = 2; item = 0; column = 1 }) own (tt, (tt, here_said)) (suc n))
+
+  branch_says : (i b : ℕ) → suc i < 2 ^ 63 → KeysFit width (params_of (slice_get m.anf.blocks b)) (keys_of m i)
+      → HasTree m.table (params_of (slice_get m.anf.blocks b)) (body_of m.anf m.tail b) → BodyFits m.table (body_of m.anf m.tail b) tests →
+      (walk_of m i b).next ≤ 2 ^ 64
+      → SelectSays depth here.levels (branch m i b)
+  branch_says i b small fit has fits low =
+      let params : List ℕ = params_of (slice_get m.anf.blocks b) in
+      body_says schema m clears narrow typed d says (body_of m.anf m.tail b) 2 1 here (gate_as 1 (at_label m (suc i)) ∷ []) params
+      (paired row_place nowhere params (keys_of m i))
+      (sees_inside schema outside (row_of width ∷ []) sees) has low
+      (clear.behind_gate schema m clears narrow tables sees params (keys_of m i) fit (suc i)) here_said tests fits
+      (gated (further_in d tests) 1 here.levels (at_label m (suc i)) (omega arith) (label_says (further_in d tests) (suc i) small))
+
+  -- ---- all branches
+
+  from_there : (i : ℕ) (bs : List ℕ) → ((j b : ℕ) → slice_get bs j ≡ Some b → SelectSays depth here.levels (branch m (i + j) b)) → Every
+      (SelectSays depth here.levels) (branches m i bs)
+  from_there i [] h = tt
+  from_there i (b ∷ bs) h =
+      let first : i + 0 ≡ i = omega arith in (
+        subst (λ j. SelectSays depth here.levels (branch m j b)) first (h 0 b refl),
+        from_there (suc i) bs (λ j x there. let next : i + suc j ≡ suc i + j = omega arith in subst (λ j. SelectSays depth here.levels (branch m j x)) next
+            (h (suc j) x there)),
+      )
+
+  -- the rows of labels, of which there is one
+  rows_of : (bs : List ℕ) → 0 < length bs → Every (SelectSays depth here.levels) (branches m 0 bs)
+      → CanSay (suc depth) from_item (dotted_part (lateral_as step_name (row_names width)
+      (roll-Query (record { recursive = None; selects = branches m 0 bs }))) [] (row_of width ∷ [])).item
+  rows_of [] some h = absurd (omega (arith, some))
+  rows_of (b ∷ bs) some h =
+      lateral_says depth step_name go_name (label_name ∷ value_names width ++ (result_name ∷ fault_name ∷ []))
+      (roll-Query (record { recursive = None; selects = branches m 0 (b ∷ bs) }))
+      [] (row_of width ∷ []) step_said (row_said width narrow) (union_says depth here.levels (branch m 0 b) (branches m 1 bs) h)
+
+  module _ (slots : List Slot) (names : List ℕ) (as_many : length m.tail.places ≡ length m.tail.labels)
+      (placed : EachPair (λ i b places. PlacesAt slots names m.tail.columns (slice_get m.anf.blocks b) places) m.tail.labels m.tail.places)
+      (trees : Each (λ b. HasTree m.table (params_of (slice_get m.anf.blocks b)) (body_of m.anf m.tail b)) m.tail.labels)
+      (bodies : Each (λ b. BodyFits m.table (body_of m.anf m.tail b) tests) m.tail.labels) (fits : NumbersFit m) (some : 0 < length m.tail.labels) where
+    each_branch : (i b : ℕ) → slice_get m.tail.labels i ≡ Some b → SelectSays depth here.levels (branch m i b)
+    each_branch i b there =
+        let lt : i < length m.tail.labels = slice_get_within m.tail.labels i b there in
+        let keys = element_there m.tail.places i (subst (λ l. i < l) (sym as_many) lt) in
+        let fit : KeysFit width (params_of (slice_get m.anf.blocks b)) keys.0 =
+        keys_fit slots names m.tail.columns (slice_get m.anf.blocks b) keys.0 (placed i b keys.0 there keys.1) in
+        branch_says i b (omega (arith, lt, few)) (subst (KeysFit width (params_of (slice_get m.anf.blocks b)))
+        (sym (found_or m.tail.places i keys.0 keys.1)) fit) (trees i b there) (bodies i b there)
+        (fits.aliases i b there)
+
+    pub rows_say : CanSay (suc depth) from_item (dotted_part (label_rows m) [] (row_of width ∷ [])).item
+    rows_say = rows_of m.tail.labels some (from_there 0 m.tail.labels
+        (λ j b there. let same : j ≡ 0 + j = omega arith in subst (λ j. SelectSays depth here.levels (branch m j b)) same (each_branch j b there)))

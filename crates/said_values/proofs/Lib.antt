@@ -1,0 +1,10 @@
+pub mod SaidReadings
+pub mod SaidNames
+pub mod LikeNodes
+pub mod LikeFrom
+pub mod LikeSelects
+pub mod LikeTrees
+pub mod WrittenSources
+pub mod SaidEntries
+pub mod SaidFixed
+pub mod SaidExpressions

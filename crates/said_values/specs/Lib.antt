@@ -1,0 +1,3 @@
+pub mod NamesSaid
+pub mod InSight
+pub mod Laws
