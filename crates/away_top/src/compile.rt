@@ -7,6 +7,7 @@ ghost use Rattle.away_top.specs.Files.{as_callable};
 ghost use Rattle.away_top.specs.Runs.{IsEnd, Runs};
 ghost use Rattle.away_top.specs.Steps.{run_end};
 ghost use Rattle.cert_json.specs.Writable.{HasSpelling};
+ghost use Rattle.query_texts.specs.Texts.{IsOfTexts};
 
 use crate::ending::{Ending, Halt};
 use crate::files::{function_of, schema_of};
@@ -48,6 +49,7 @@ fn written(
     tables: &CheckedSchema,
     function: &CheckedFunction,
 ) -> Result<Ending, Halt>
+    requires texts { IsOfTexts tables.now.schema function.now.function function.now.slots }
     ensures { (text : List ℕ) × IsEnd (Compiles wanted tables.now.schema (as_callable function.now) text) (run_end result) }
 {
     let compiled = compiling::compile(alloc, tables, function)?;

@@ -1,30 +1,56 @@
--- What a text that reads as the tree of a function's query tells.
-use Rattle.std.proofs.Common.{List, length, string_bytes, Result, Ok, Err, IfOk, ◌∙◌}
+-- What the text of a function's query tells.
+use Rattle.std.proofs.Common.{◌≡◌, ◌∙◌, ap, sym, subst, ◌<◌, ◌^◌, List, length, string_bytes, Result, Ok, Err, IfOk}
+use Rattle.away_grammar.specs.Printing.{query_text}
+use Rattle.away_grammar.specs.Texts.{ReadsQuery}
 use Rattle.away_trees.specs.declared.queries.Query.{Query}
 use Rattle.away_trees.specs.declared.schemas.Schema.{Schema}
 use Rattle.away_trees.specs.declared.statements.Function.{Function}
-use Rattle.away_types.specs.CheckedQueries.{resolved_query}
+use Rattle.away_types.specs.CheckedQueries.{query_note, resolved_query}
 use Rattle.away_types.specs.declared.slots.Slot.{Slot}
+use Rattle.away_types.specs.Refusals.{IsUnbroken}
 use Rattle.away_values.specs.declared.errors.NoMemory.{NoMemory}
+use Rattle.away_values.specs.declared.types.Ty.{Ty}
+use Rattle.away_values.specs.declared.types.Ty.TheVariants.{Bigint, Boolean, Text, Integer}
 use Rattle.call_forms.specs.Templated.{Templated}
 use Rattle.cert_json.specs.declared.cert.Cert.{Cert}
+use Rattle.cert_json.specs.Writable.{HasName}
 use Rattle.compiling.specs.Compiled.{IsCompiled}
 use Rattle.compiling.specs.declared.compiler.Spoken.{Spoken}
 use Rattle.compiling.specs.Spelled.{IsSpelled}
 use Rattle.compiling.specs.Spoken.{IsSpokenOf, Speaks}
 use Rattle.compiling.specs.Stages.{AreForms}
 use Rattle.compiling.proofs.AllSpelled.{spelling}
+use Rattle.cte_template.specs.Making.{making_of}
+use Rattle.cte_template.specs.Numbers.{NumbersFit}
+use Rattle.cte_template.specs.Tree.{tree}
+use Rattle.dotted_names.specs.Trees.{dotted}
 use Rattle.equivalence.specs.Accepted.{AcceptedForms}
+use Rattle.query_texts.specs.Texts.{IsOfTexts, ReadsAgain, TreesReadAgain}
+use Rattle.sql_text.specs.Refusals.{MayBeRead}
+use Rattle.typed_forms.specs.Typed.{HasKind}
+
+-- a type with a name is one that expressions have
+kind : (t : Ty) → HasName t → HasKind t
+kind Bigint h = tt
+kind Boolean h = tt
+kind Text h = tt
+kind Integer h = h
 
 module _ (s : Schema) (f : Function) (slots : List Slot) (c : Cert) where
-  pub told : (tree : Query) → Templated f slots (length s.tables) c.goto c.ssa c.anf c.tail tree → (result : Result Spoken NoMemory) → IfOk result (Speaks s tree)
+  -- the text of the forms' tree reads again
+  pub again : TreesReadAgain → IsOfTexts s f slots → AreForms f slots c → IsSpelled c → length s.tables < 2 ^ 64 → NumbersFit (making_of f slots c.ssa c.anf c.tail)
+      → (q : Query) → q ≡ tree (making_of f slots c.ssa c.anf c.tail) c.goto.entry (length s.tables) → ReadsAgain s q
+  again law texts forms spelled few fits q is = subst (ReadsAgain s) (sym is)
+      (law s f slots c.goto c.ssa c.anf c.tail texts forms.lowered forms.named forms.called forms.merged forms.columned forms.tight (λ i t e. kind t (spelled.columns i t e)) few fits)
+
+  pub told : (q : Query) → Templated f slots (length s.tables) c.goto c.ssa c.anf c.tail q → ReadsAgain s q → (result : Result Spoken NoMemory) → IfOk result (Speaks q)
       → IfOk result (IsSpokenOf s f slots c)
-  told tree t (Err e) h = tt
-  told tree t (Ok x) h = record {
-    may_be_read = h.may_be_read;
-    reads = h.reads;
-    unbroken = h.is_tree_of.unbroken;
-    templated = record { entry = t.entry; trees = t.trees; query = h.is_tree_of.is_tree ∙ t.query };
+  told q t r (Err e) h = tt
+  told q t r (Ok x) h = record {
+    may_be_read = subst MayBeRead (sym (h.text_is ∙ ap query_text h.query_is)) r.may_be_read;
+    reads = subst (λ z. ReadsQuery z x.query) (sym (h.text_is ∙ ap query_text h.query_is)) (subst (λ w. ReadsQuery (query_text (dotted q)) w) (sym h.query_is) r.reads);
+    unbroken = subst (λ w. IsUnbroken (query_note s w)) (sym h.query_is) r.unbroken;
+    templated = subst (Templated f slots (length s.tables) c.goto c.ssa c.anf c.tail) (sym (ap (resolved_query s) h.query_is ∙ r.is_tree)) t;
   }
 
   pub accepted : AreForms f slots c → (x : Spoken) → IsSpokenOf s f slots c x → AcceptedForms s f slots c.goto c.ssa c.anf c.tail (resolved_query s x.query)

@@ -1,5 +1,6 @@
--- That a text and a query are those of a tree.
-use Rattle.std.specs.Prelude.{List, length, string_bytes}
+-- That a text and a query are those of forms of a function.
+use Rattle.std.specs.Prelude.{◌≡◌, List, length, string_bytes}
+use Rattle.away_grammar.specs.Printing.{query_text}
 use Rattle.away_grammar.specs.Texts.{ReadsQuery}
 use Rattle.away_trees.specs.declared.queries.Query.{Query}
 use Rattle.away_trees.specs.declared.schemas.Schema.{Schema}
@@ -10,12 +11,13 @@ use Rattle.away_types.specs.Refusals.{IsUnbroken}
 use Rattle.call_forms.specs.Templated.{Templated}
 use Rattle.cert_json.specs.declared.cert.Cert.{Cert}
 use Rattle.compiling.specs.declared.compiler.Spoken.{Spoken}
-use Rattle.read_back.specs.ReadBack.{ReadsBack}
+use Rattle.dotted_names.specs.Trees.{dotted}
 use Rattle.sql_text.specs.Refusals.{MayBeRead}
 
--- the text reads as the query, which is the tree under the schema but for names of aliases and columns
-abbrev pub Speaks : Schema → Query → Spoken → Type 0
-Speaks s tree x = ReadsBack s (string_bytes x.text) tree x.query
+-- the query is the tree with names of its columns, and the text is its text
+pub record Speaks (tree : Query) (x : Spoken) : Type 0 where
+  pub query_is : x.query ≡ dotted tree
+  pub text_is : string_bytes x.text ≡ query_text x.query
 
 -- The text reads as the query, which breaks no rule under the schema. With its names resolved it is that of the tail form.
 pub record IsSpokenOf (s : Schema) (f : Function) (slots : List Slot) (c : Cert) (x : Spoken) : Type 0 where

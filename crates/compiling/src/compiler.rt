@@ -1,13 +1,16 @@
 //! The compiler.
 
-ghost use Rattle.std.specs.Prelude.{IfOk, string_bytes};
+ghost use Rattle.std.specs.Prelude.{◌≡◌, IfOk, string_bytes};
 ghost use Rattle.away_trees.specs.declared.statements.Function.{Function};
 ghost use Rattle.away_types.specs.CheckedFunctions.{IsChecked};
 ghost use Rattle.away_types.specs.CheckedQueries.{resolved_query};
 ghost use Rattle.compiling.specs.Compiled.{IsCompiled};
+ghost use Rattle.compiling.specs.Spelled.{IsSpelled};
 ghost use Rattle.compiling.specs.Spoken.{IsSpokenOf, Speaks};
 ghost use Rattle.compiling.specs.Stages.{AreForms};
+ghost use Rattle.dotted_names.specs.Trees.{dotted};
 ghost use Rattle.equivalence.specs.Accepted.{EquivalentWith};
+ghost use Rattle.query_texts.specs.Texts.{IsOfTexts};
 
 use crate::forms::{forms_of, tree_of};
 use crate::spelling::is_spelled;
@@ -17,7 +20,7 @@ use away_values::NoMemory;
 use cert_json::Cert;
 use dotted_names::dotted_query;
 use equivalence::accepted_forms_are_equivalent;
-use read_back::read_back;
+use query_texts::trees_read_again;
 use sql_printer::print_query;
 use sqlite_items::Boxed;
 use std::alloc::Global;
@@ -37,24 +40,21 @@ struct Spoken {
     text: String,
 }
 
-/// The text of a tree with names of its columns.
-fn printed(alloc: Global, tree: &Query) -> Result<String, NoMemory> {
+/// A tree with names of its columns.
+fn named(alloc: Global, tree: &Query) -> Result<Boxed<Query>, NoMemory>
+    ensures { IfOk result (λ q. q ≡ dotted tree.now) }
+{
     let named = dotted_query(alloc, tree)?;
-    print_query(alloc, &named)
+    Ok(Boxed::new(alloc, named)?)
 }
 
-/// The text of a tree, and the query that it reads as. A text that doesn't read as the tree again stands for want of memory.
-fn text_of(alloc: Global, s: &CheckedSchema, tree: &Query) -> Result<Spoken, NoMemory>
-    ensures { IfOk result (Speaks s.now.schema tree.now) }
+/// A tree with names of its columns, and the text of that.
+fn text_of(alloc: Global, tree: &Query) -> Result<Spoken, NoMemory>
+    ensures { IfOk result (Speaks tree.now) }
 {
-    let text = printed(alloc, tree)?;
-    match read_back(alloc, s, text.as_str(), tree)? {
-        Some(query) => Ok(Spoken {
-            query: Boxed::new(alloc, query)?,
-            text,
-        }),
-        None => Err(NoMemory),
-    }
+    let query = named(alloc, tree)?;
+    let text = print_query(alloc, query.get())?;
+    Ok(Spoken { query, text })
 }
 
 /// The query of a function with these forms, and its text.
@@ -64,15 +64,20 @@ fn spoken_of(
     f: &CheckedFunction,
     c: &Cert,
 ) -> Result<Spoken, NoMemory>
+    requires texts { IsOfTexts s.now.schema f.now.function f.now.slots }
     requires forms { AreForms f.now.function f.now.slots c.now }
+    requires spelled { IsSpelled c.now }
     ensures { IfOk result (IsSpokenOf s.now.schema f.now.function f.now.slots c.now) }
 {
+    trees_read_again();
     let tree = tree_of(alloc, f, c, s.schema.tables.len())?;
-    text_of(alloc, s, tree.get())
+    text_of(alloc, tree.get())
 }
 
 /// The query of a function, with its text, and with forms that show that the query is equivalent to the function, if that was checked under the schema.
+/// The function is that of a text, checked under a schema that is that of a text.
 pub fn compile(alloc: Global, s: &CheckedSchema, f: &CheckedFunction) -> Result<Compiled, NoMemory>
+    requires texts { IsOfTexts s.now.schema f.now.function f.now.slots }
     ensures compiled { IfOk result (λ c. IsCompiled s.now.schema f.now.function f.now.slots c.query (string_bytes c.text) c.cert) }
     ensures equivalent { IfOk result (λ c. (written : Function) → IsChecked s.now.schema written f.now.function f.now.slots
         → EquivalentWith s.now.schema f.now.function f.now.slots (resolved_query s.now.schema c.query)) }

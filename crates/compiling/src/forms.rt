@@ -3,6 +3,9 @@
 ghost use Rattle.std.specs.Prelude.{◌≡◌, IfOk, length};
 ghost use Rattle.call_forms.specs.Templated.{Templated};
 ghost use Rattle.compiling.specs.Stages.{AreForms};
+ghost use Rattle.cte_template.specs.Making.{making_of};
+ghost use Rattle.cte_template.specs.Numbers.{NumbersFit};
+ghost use Rattle.cte_template.specs.Tree.{tree};
 
 use crate::spelling::is_short;
 use anf_build::to_calls;
@@ -45,7 +48,9 @@ pub(crate) fn tree_of(
     tables: usize,
 ) -> Result<Boxed<Query>, NoMemory>
     requires forms { AreForms f.now.function f.now.slots c.now }
-    ensures { IfOk result (λ q. Templated f.now.function f.now.slots tables c.now.goto c.now.ssa c.now.anf c.now.tail q) }
+    ensures templated { IfOk result (λ q. Templated f.now.function f.now.slots tables c.now.goto c.now.ssa c.now.anf c.now.tail q) }
+    ensures is { IfOk result (λ q. q ≡ tree (making_of f.now.function f.now.slots c.now.ssa c.now.anf c.now.tail) c.now.goto.entry tables) }
+    ensures fits { IfOk result (λ q. NumbersFit (making_of f.now.function f.now.slots c.now.ssa c.now.anf c.now.tail)) }
 {
     let table = expr_table(alloc, f)?;
     let tree = template_tree(alloc, f, &c.goto, &c.ssa, &c.anf, &c.tail, &table, tables)?;

@@ -5,4 +5,5 @@ pub mod WalkRules
 pub mod Nameless
 pub mod PlacesSeen
 pub mod TreeIsTemplate
+mod Makings
 mod BranchRules

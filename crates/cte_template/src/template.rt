@@ -9,7 +9,7 @@ ghost use Rattle.call_forms.specs.Called.{Called};
 ghost use Rattle.call_forms.specs.Columned.{Columned};
 ghost use Rattle.call_forms.specs.Merged.{Merged};
 ghost use Rattle.call_forms.specs.Templated.{Templated};
-ghost use Rattle.cte_template.specs.Making.{making};
+ghost use Rattle.cte_template.specs.Making.{making, making_of};
 ghost use Rattle.cte_template.specs.Numbers.{AliasesFit, NumbersFit};
 ghost use Rattle.template_laws.specs.Terms.{FailsByClass};
 ghost use Rattle.cte_template.specs.Tree as spec;
@@ -187,7 +187,9 @@ pub fn template_tree(
     requires merged { Merged g.now a.now t.now }
     requires columned { Columned f.now.slots s.now a.now t.now }
     requires entries { table.now.list ≡ expressions f.now.function }
-    ensures { IfOk result (λ q. Templated f.now.function f.now.slots tables g.now s.now a.now t.now q) }
+    ensures templated { IfOk result (λ q. Templated f.now.function f.now.slots tables g.now s.now a.now t.now q) }
+    ensures is { IfOk result (λ q. q ≡ spec.tree (making_of f.now.function f.now.slots s.now a.now t.now) g.now.entry tables) }
+    ensures fits { IfOk result (λ q. NumbersFit (making_of f.now.function f.now.slots s.now a.now t.now)) }
 {
     let w = Writer {
         table: table.list.as_slice(),

@@ -6,6 +6,7 @@ use Rattle.away_trees.specs.declared.statements.Function.{Function}
 use Rattle.away_types.specs.CheckedQueries.{resolved_query}
 use Rattle.away_gen.specs.Texts.{IsCase}
 use Rattle.away_gen.specs.declared.case.DemoCase.{DemoCase}
+use Rattle.query_texts.specs.Texts.{IsOfTexts}
 use Rattle.demonstration.specs.Summary.{AreRuns, IsOver, IsSummary, iterations_for}
 use Rattle.demonstration.specs.Trial.{IsTrial}
 use Rattle.demonstration.specs.declared.summary.Summary.{Summary}
@@ -51,3 +52,17 @@ pub summary_made : (number : ℕ) (case : DemoCase) (trial : Trial) (result : Re
     → IfOk result (λ summary. (text : List ℕ) × IsOver number text trial case.args summary) → IfOk result (λ summary. (text : List ℕ) × IsSummary number text summary)
 summary_made number case trial (Ok summary) made t (text, over) = (text, summary_is number text case trial summary made t over)
 summary_made number case trial (Err e) made t over = tt
+
+-- the function of a trial and its schema are those of the case's texts
+pub of_texts : (case : DemoCase) (trial : Trial) → IsTrial case trial → IsOfTexts trial.schema.schema trial.counted.function.function trial.counted.function.slots
+of_texts case trial t = record {
+  written = t.written;
+  limits = t.function_reads.within_limits;
+  checked = t.counted.checked;
+  function_text = case.function.items;
+  function_fits = t.function_reads.may_be_read;
+  reads_function = t.function_reads.reads;
+  schema_text = case.schema.items;
+  schema_fits = t.schema_reads.may_be_read;
+  reads_schema = t.schema_reads.reads;
+}

@@ -3,6 +3,7 @@
 ghost use Rattle.std.specs.Prelude.{◌≡◌, IfOk, List, length, string_bytes, ℕ};
 ghost use Rattle.away_types.specs.CheckedQueries.{resolved_query};
 ghost use Rattle.demonstration.specs.Told.{IsTold, Tells};
+ghost use Rattle.query_texts.specs.Texts.{IsOfTexts};
 
 use away_trees::Query;
 use away_types::{CheckedFunction, CheckedQuery, CheckedSchema, check_query};
@@ -24,6 +25,7 @@ pub(crate) fn told_of(
     schema: &CheckedSchema,
     function: &CheckedFunction,
 ) -> Result<Told, NoMemory>
+    requires texts { IsOfTexts schema.now.schema function.now.function function.now.slots }
     ensures { IfOk result (λ told. (text : List ℕ) × IsTold schema.now.schema function.now.function function.now.slots text told) }
 {
     let compiled = compile(alloc, schema, function)?;

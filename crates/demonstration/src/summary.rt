@@ -2,6 +2,7 @@
 
 ghost use Rattle.std.specs.Prelude.{◌≡◌, ◌≤◌, ◌+◌, ◌*◌, IfOk, List, ℕ};
 ghost use Rattle.demonstration.specs.Summary.{AreRuns, IsOver, IsSummary, iterations_for};
+ghost use Rattle.query_texts.specs.Texts.{IsOfTexts};
 ghost use Rattle.sql_meaning.specs.AtBound.{rows_of_tables};
 
 use crate::compiled::told_of;
@@ -48,7 +49,8 @@ pub fn summary_of(alloc: Global, number: u64) -> Result<Summary, NoMemory>
 
 /// Compiles the function of a case, and runs it and its query.
 fn over_case(alloc: Global, number: u64, trial: &Trial, args: &[Value]) -> Result<Summary, NoMemory>
-    requires { trial.now.counted.nodes ≤ 500 }
+    requires few { trial.now.counted.nodes ≤ 500 }
+    requires texts { IsOfTexts trial.now.schema.schema trial.now.counted.function.function trial.now.counted.function.slots }
     ensures { IfOk result (λ summary. (text : List ℕ) × IsOver number text trial.now args.now summary) }
 {
     let told = told_of(alloc, trial.schema.get(), trial.counted.function.get())?;

@@ -8,4 +8,4 @@ pub mod BodiesSaid
 pub mod BranchesSaid
 pub mod FilesSaid
 pub mod BodiesFit
-mod TreesSaid
+pub mod TreesSaid

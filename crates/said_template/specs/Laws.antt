@@ -34,7 +34,7 @@ pub record IsWritable (f : Function) (slots : List Slot) (r : Tail) (params : �
 -- Where the function's expressions can be said with 195 brackets one inside another, the query, with its names, can be said with 216.
 abbrev pub TreeIsSaid : Type 0
 TreeIsSaid =
-    (schema : Schema) (written f : Function) (slots : List Slot) (g : Goto) (z : Ssa) (a : Anf) (r : Tail) (count params : ℕ) → IsChecked schema written f slots
-    → Lowered f slots g → Named count params g z → Called g z a → Merged g a r → Columned slots z a r → Tight slots g z a r → IsWritable f slots r params
-    → NumbersFit (making_of f slots z a r) → TableIsSaid 195 schema (expressions f)
+    (schema : Schema) (written f : Function) (slots : List Slot) (g : Goto) (z : Ssa) (a : Anf) (r : Tail) (count params : ℕ)
+    → IsChecked schema written f slots → Lowered f slots g → Named count params g z → Called g z a → Merged g a r → Columned slots z a r
+    → Tight slots g z a r → IsWritable f slots r params → NumbersFit (making_of f slots z a r) → TableIsSaid 195 schema (expressions f)
     → CanSay 216 file (dotted (tree (making_of f slots z a r) g.entry (length schema.tables)))

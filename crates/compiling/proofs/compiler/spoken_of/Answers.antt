@@ -1,7 +1,9 @@
-use Rattle.std.proofs.Common.{IfOk, subst}
+use Rattle.std.proofs.Common.{◌≡◌, ◌<◌, ◌^◌, IfOk, length, rules, subst}
 use Rattle.call_forms.specs.Templated.{Templated}
 use Rattle.compiling.specs.Spoken.{Speaks}
-use Rattle.compiling.proofs.Telling.{told}
+use Rattle.compiling.proofs.Telling.{again, told}
+use Rattle.cte_template.specs.Making.{making_of}
+use Rattle.cte_template.specs.Tree.{tree}
 use Rattle.compiling.proofs.compiler.spoken_of.Goals as goal
 
 pub returns : goal.returns
@@ -10,5 +12,9 @@ returns c =
     let f = c.args.f.now.function in
     let slots = c.args.f.now.slots in
     let forms = c.args.c.now in
-    let t = subst (λ n. Templated f slots n forms.goto forms.ssa forms.anf forms.tail c.in_ok-tree.tree) c.len.ensures c.in_ok-tree.ensures in
-    told s f slots forms c.in_ok-tree.tree t c.text_of.result (subst (λ q. IfOk c.text_of.result (Speaks s q)) c.get.ensures c.text_of.ensures)
+    let made = c.in_ok-tree.tree in
+    let few : length s.tables < 2 ^ 64 = search rules in
+    let templated = subst (λ n. Templated f slots n forms.goto forms.ssa forms.anf forms.tail made) c.len.ensures c.in_ok-tree.ensures.templated in
+    let is = subst (λ n. made ≡ tree (making_of f slots forms.ssa forms.anf forms.tail) forms.goto.entry n) c.len.ensures c.in_ok-tree.ensures.is in
+    let reads = again s f slots forms c.trees_read_again.ensures c.requires.texts c.requires.forms c.requires.spelled few c.in_ok-tree.ensures.fits made is in
+    told s f slots forms made templated reads c.text_of.result (subst (λ q. IfOk c.text_of.result (Speaks q)) c.get.ensures c.text_of.ensures)

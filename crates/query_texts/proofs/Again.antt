@@ -1,0 +1,120 @@
+-- The query of a function that was read reads again.
+use Rattle.std.proofs.Common.{◌<◌, ◌^◌, List, [], length, arith}
+use Rattle.away_grammar.specs.Grammar as grammar
+use Rattle.away_grammar.specs.Printing.{query_text}
+use Rattle.away_grammar.specs.Texts.{ReadsQuery}
+use Rattle.away_trees.specs.declared.queries.Query.{Query}
+use Rattle.away_trees.specs.declared.schemas.Schema.{Schema}
+use Rattle.away_trees.specs.declared.statements.Function.{Function}
+use Rattle.away_names.specs.Files.{file}
+use Rattle.away_types.specs.declared.slots.Slot.{Slot}
+use Rattle.block_forms.specs.declared.forms.Goto.{Goto}
+use Rattle.block_forms.specs.declared.forms.Ssa.{Ssa}
+use Rattle.block_forms.specs.Expressions.{expressions}
+use Rattle.block_forms.specs.Lowered.{Lowered}
+use Rattle.block_forms.specs.Named.{Named}
+use Rattle.block_forms.specs.Places.{Each}
+use Rattle.call_forms.specs.declared.forms.Anf.{Anf}
+use Rattle.call_forms.specs.declared.forms.Tail.{Tail}
+use Rattle.call_forms.specs.Called.{Called}
+use Rattle.call_forms.specs.Columned.{Columned}
+use Rattle.call_forms.specs.Merged.{Merged}
+use Rattle.call_forms.specs.Templated.{Templated}
+use Rattle.call_forms.specs.Tight.{Tight}
+use Rattle.cte_template.specs.Making.{Making}
+use Rattle.cte_template.specs.Numbers.{NumbersFit}
+use Rattle.cte_template.specs.Tree.{tree}
+use Rattle.cte_template.proofs.TreeIsTemplate.{tree_is_template}
+use Rattle.dotted_names.specs.Trees.{dotted}
+use Rattle.dotted_names.specs.Unambiguous.{IsClearFile}
+use Rattle.dotted_names.proofs.FilesBack.{file_back}
+use Rattle.printed_nesting.proofs.PrintedTexts.{said_text_reads}
+use Rattle.said_template.specs.Laws.{IsWritable, TreeIsSaid}
+use Rattle.said_trees.specs.CanSay.{CanSay, Said}
+use Rattle.said_values.proofs.SaidExpressions.{file_expressions_said}
+use Rattle.sql_text.specs.Refusals.{MayBeRead}
+use Rattle.template_laws.proofs.FormTerms.{terms_fit}
+use Rattle.template_laws.proofs.HasTrees.{labels_have_trees}
+use Rattle.template_names.specs.Laws as names
+use Rattle.template_names.proofs.NamedOnce.{table_named_once}
+use Rattle.template_names.proofs.TreesClear.{trees_clear}
+use Rattle.template_types.specs.Whole.{IsTypable, TreeBreaksNoRule, making_of}
+use Rattle.typed_forms.specs.Typed.{HasKind, NoIntegers}
+use Rattle.query_texts.specs.Texts.{IsOfTexts, ReadsAgain, TreesReadAgain}
+use Rattle.query_texts.proofs.FewLabels.{few_labels, few_parameters}
+use Rattle.query_texts.proofs.Linked.{expressions_linked}
+use Rattle.query_texts.proofs.SlotTypes.{no_integers}
+use Rattle.query_texts.proofs.SpelledTypes.{read_kinds}
+
+-- what can be said with few enough brackets
+said_reads : (q : Query) → CanSay 216 grammar.file q → MayBeRead (query_text q) × ReadsQuery (query_text q) q
+said_reads q said =
+    let w : Said 216 grammar.file q [] = said [] in
+    said_text_reads 216 w.signs q (omega arith) (w.spoken tt) w.says
+
+module _ (no_rule : TreeBreaksNoRule) (can_say : TreeIsSaid) (s : Schema) (f : Function) (slots : List Slot) (g : Goto) (z : Ssa) (a : Anf) (r : Tail)
+    (texts : IsOfTexts s f slots)
+    (low : Lowered f slots g) (named : Named (length slots) (length f.params) g z) (called : Called g z a) (merged : Merged g a r)
+    (columned : Columned slots z a r) (tight : Tight slots g z a r) (columns : Each HasKind r.columns) (few : length s.tables < 2 ^ 64)
+    (fits : NumbersFit (making_of f slots z a r)) where
+  abbrev m : Making
+  m = making_of f slots z a r
+
+  abbrev q : Query
+  q = tree m g.entry (length s.tables)
+
+  kinds : NoIntegers slots f.result
+  kinds = no_integers s texts.written f slots texts.checked (read_kinds texts.function_text texts.written texts.reads_function)
+
+  numbers : names.NumbersFit m
+  numbers = record { columns = fits.columns; aliases = fits.aliases }
+
+  templated : Templated f slots (length s.tables) g z a r q
+  templated = record {
+    entry = merged.entry;
+    trees = labels_have_trees slots g z a r (expressions f) called columned (terms_fit f slots g low (length slots) (length f.params) z named a called) merged;
+    query = tree_is_template m g.entry (length s.tables);
+  }
+
+  clear : IsClearFile s q
+  clear = trees_clear s texts.written f slots g z a r q texts.checked columned templated numbers
+
+  once : names.NamesTableOnce s q
+  once = table_named_once s texts.written f slots g z a r q texts.checked columned templated numbers
+
+  typable : IsTypable s f slots r
+  typable = record {
+    few = few;
+    types = kinds;
+    columns = columns;
+    linked = expressions_linked texts.function_text s texts.written f slots texts.function_fits texts.reads_function texts.checked;
+  }
+
+  writable : IsWritable f slots r (length f.params)
+  writable = record {
+    types = kinds;
+    columns = columns;
+    parameters = few_parameters s texts.written f slots texts.checked texts.limits;
+    labels = few_labels s texts.written f slots g z a r (length slots) (length f.params) texts.checked texts.limits low named called merged;
+  }
+
+  said : CanSay 216 grammar.file (dotted q)
+  said =
+      can_say s texts.written f slots g z a r (length slots) (length f.params) texts.checked low named called merged columned tight writable numbers
+      (file_expressions_said texts.function_text texts.function_fits s texts.written f slots texts.checked texts.reads_function)
+
+  reads_again : ReadsAgain s q
+  reads_again =
+      let back = file_back s q clear in
+      let text = said_reads (dotted q) said in
+      record {
+        may_be_read = text.0;
+        reads = text.1;
+        unbroken =
+            no_rule s texts.written f slots g z a r (length slots) (length f.params) texts.checked low named called merged columned typable (file s (dotted q))
+            back.query back.quiet once.first once.second;
+        is_tree = back.query;
+      }
+
+pub trees_read : TreeBreaksNoRule → TreeIsSaid → TreesReadAgain
+trees_read no_rule can_say = reads_again no_rule can_say

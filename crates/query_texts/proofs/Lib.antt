@@ -1,0 +1,5 @@
+pub mod SpelledTypes
+pub mod SlotTypes
+pub mod FewLabels
+pub mod Linked
+pub mod Again

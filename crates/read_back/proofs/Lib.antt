@@ -1,4 +1,0 @@
-pub mod Kept
-pub mod Refused
-pub mod SameKind
-pub mod Texts
