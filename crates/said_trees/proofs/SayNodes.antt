@@ -172,8 +172,12 @@ say_call_word sign k c rest =
 
 pub say_count_rows : {d : ℕ} → CanSay (suc d) (at l.Primary) e.CountRows
 say_count_rows rest =
-    record { signs = name (codes "count") ∷ mark m.Open ∷ mark m.Star ∷ mark m.Close ∷ rest; spoken = λ h.
-    (count_spoken, (tt, (tt, (tt, h)))); says = s.count_rows }
+    record {
+      signs = name (codes "count") ∷ mark m.Open ∷ mark m.Star ∷ mark m.Close ∷ rest;
+      spoken = λ h.
+          (count_spoken, (tt, (tt, (tt, h))));
+      says = s.count_rows;
+    }
 
 pub say_call_empty : {d : ℕ} {n : List ℕ} → Spoken (name n) → CanSay (suc d) (at l.Primary) (e.Call n [])
 say_call_empty {n = n} k rest = record { signs = name n ∷ mark m.Open ∷ mark m.Close ∷ rest; spoken = λ h. (k, (tt, (tt, h))); says = s.call_empty }

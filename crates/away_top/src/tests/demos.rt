@@ -24,7 +24,10 @@ fn show_agreement(rt: &impl Abort, run: &Run) {
     let function = behind(output, b"function ").unwrap_or(b"");
     assert!(rt; function.starts_with(b"value "));
     assert_eq!(rt; behind(output, b"query ").unwrap_or(b""), function);
-    assert_ne!(rt; behind(output, b"iterations ").unwrap_or(b"more"), b"more".as_slice());
+    assert_ne!(rt;
+        behind(output, b"iterations ").unwrap_or(b"more"),
+        b"more".as_slice()
+    );
 }
 
 #[test]
