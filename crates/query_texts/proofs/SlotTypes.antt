@@ -146,7 +146,7 @@ no_integers schema written f slots checked h =
     let all = (body_of schema written).slots in
     record {
       slots_are =
-        subst (Each SlotHasKind) (sym checked.slots_are)
-        (each_of (slots_of schema written) (every_append SlotHasKind all.shown all.hidden kinds.shown kinds.hidden));
+          subst (Each SlotHasKind) (sym checked.slots_are)
+          (each_of (slots_of schema written) (every_append SlotHasKind all.shown all.hidden kinds.shown kinds.hidden));
       result_is = subst (λ (f : Function). HasKind f.result) (sym checked.function) h.result;
     }
