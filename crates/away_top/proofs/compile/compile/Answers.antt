@@ -10,11 +10,13 @@ use Rattle.away_top.proofs.ReadTexts.{of_texts}
 use Rattle.query_texts.specs.Texts.{IsOfTexts}
 use Rattle.away_top.proofs.compile.compile.Goals as goal
 
-pub written-requires-clause-texts : goal.written-requires-clause-texts
-written-requires-clause-texts g c =
+pub written-requires : goal.written-requires
+written-requires g c =
     let tables = c.in_ok-tables.tables.schema in
-    subst (λ (f : CheckedFunction). IsOfTexts tables f.function f.slots) (sym c.get.ensures)
-    (of_texts g.F.Files c.args.files.now c.schema_of.new.files c.function_of.new.files c.args.schema.now c.args.func.now tables (as_callable c.in_ok-function.function) c.in_ok-tables.ensures c.in_ok-function.ensures)
+    record {
+      texts = subst (λ (f : CheckedFunction). IsOfTexts tables f.function f.slots) (sym c.get.ensures)
+          (of_texts g.F.Files c.args.files.now c.schema_of.new.files c.function_of.new.files c.args.schema.now c.args.func.now tables (as_callable c.in_ok-function.function) c.in_ok-tables.ensures c.in_ok-function.ensures);
+    }
 
 pub returns-in_err-tables : goal.returns-in_err-tables
 returns-in_err-tables g c =

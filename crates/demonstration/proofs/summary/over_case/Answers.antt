@@ -4,8 +4,10 @@ use Rattle.away_types.specs.declared.checked_schema.CheckedSchema.{CheckedSchema
 use Rattle.query_texts.specs.Texts.{IsOfTexts}
 use Rattle.demonstration.proofs.summary.over_case.Goals as goal
 
-pub told_of-requires-clause-texts : goal.told_of-requires-clause-texts
-told_of-requires-clause-texts c =
+pub told_of-requires : goal.told_of-requires
+told_of-requires c =
     let trial = c.args.trial.now in
-    subst (λ (s : CheckedSchema). IsOfTexts s.schema c.get-2.result.now.function c.get-2.result.now.slots) (sym c.get.ensures)
-    (subst (λ (f : CheckedFunction). IsOfTexts trial.schema.schema f.function f.slots) (sym c.get-2.ensures) c.requires.texts)
+    record {
+      texts = subst (λ (s : CheckedSchema). IsOfTexts s.schema c.get-2.result.now.function c.get-2.result.now.slots) (sym c.get.ensures)
+          (subst (λ (f : CheckedFunction). IsOfTexts trial.schema.schema f.function f.slots) (sym c.get-2.ensures) c.requires.texts);
+    }
