@@ -1,5 +1,5 @@
 -- The text of printed signs is UTF-8 without U+0000.
-use Rattle.std.proofs.Common.{◌≡◌, ◌<◌, ◌+◌, ℕ, zero, suc, Bool, true, false, not, ◌&&◌, eqb, nat_lt, if◌then◌else◌, List, [], ◌∷◌, ◌++◌, length, drop}
+use Rattle.std.proofs.Common.{◌≡◌, ◌<◌, ◌+◌, ℕ, zero, suc, Bool, true, false, not, ◌&&◌, eqb, nat_lt, if◌then◌else◌, List, [], ◌∷◌, ◌++◌, length}
 use Rattle.std.proofs.Common.{get_or, map, refl, sym, subst, inl, inr, arith, append_assoc}
 use Rattle.std.specs.Prelude.{decimal, encode_utf8_all, IsUtf8}
 use Rattle.std.specs.List.{list_all}
@@ -8,7 +8,7 @@ use Rattle.std.proofs.lemmas.Bool.{cases_Bool}
 use Rattle.std.proofs.lemmas.Bool.Decides.{nat_tests}
 use Rattle.std.proofs.lemmas.List.{length-append}
 use Rattle.std.proofs.lemmas.Str.{IsUtf8-append, IsUtf8-drop, IsUtf8-take, IsUtf8-from_ascii, IsCharBoundary-after_ascii, IsCharBoundary-before_ascii}
-use Rattle.std.proofs.Math.Seq.{take-append_seam}
+use Rattle.std.proofs.Math.Seq.{take-append_seam, get_or-append_seam, drop-append-add}
 use Rattle.away_grammar.specs.declared.grammar.Mark.{Mark}
 use Rattle.away_grammar.specs.declared.grammar.Mark.TheVariants as m
 use Rattle.away_values.specs.Words.{HasNoZero}
@@ -65,25 +65,17 @@ behind_tame b z h k = joined (b ∷ []) z (tame_textual (b ∷ []) (rw h refl)) 
 
 -- ---- strings
 
-at_seam : (a r : List ℕ) → get_or (a ++ 39 ∷ r) (length a) 0 ≡ 39
-at_seam [] r = refl
-at_seam (b ∷ a) r = at_seam a r
-
-drop_seam : (a r : List ℕ) → drop (length a + 1) (a ++ 39 ∷ r) ≡ r
-drop_seam [] r = refl
-drop_seam (b ∷ a) r = let n : length (b ∷ a) + 1 ≡ suc (length a + 1) = omega arith in rw n (drop_seam a r)
-
 before_quote : (a r : List ℕ) → IsUtf8 (a ++ 39 ∷ r) → IsUtf8 a
 before_quote a r u =
     let within : length a < length (a ++ 39 ∷ r) = omega (arith, length-append a (39 ∷ r)) in
-    let ascii : get_or (a ++ 39 ∷ r) (length a) 0 < 128 = omega (arith, at_seam a r) in
+    let ascii : get_or (a ++ 39 ∷ r) (length a) 0 < 128 = omega (arith, get_or-append_seam a 39 r 0) in
     subst IsUtf8 (take-append_seam a (39 ∷ r)) (IsUtf8-take (a ++ 39 ∷ r) (length a) u (IsCharBoundary-before_ascii (a ++ 39 ∷ r) (length a) within ascii))
 
 behind_quote : (a r : List ℕ) → IsUtf8 (a ++ 39 ∷ r) → IsUtf8 r
 behind_quote a r u =
     let within : length a < length (a ++ 39 ∷ r) = omega (arith, length-append a (39 ∷ r)) in
-    let ascii : get_or (a ++ 39 ∷ r) (length a) 0 < 128 = omega (arith, at_seam a r) in
-    subst IsUtf8 (drop_seam a r) (IsUtf8-drop (a ++ 39 ∷ r) (length a + 1) u (IsCharBoundary-after_ascii (a ++ 39 ∷ r) (length a) u within ascii))
+    let ascii : get_or (a ++ 39 ∷ r) (length a) 0 < 128 = omega (arith, get_or-append_seam a 39 r 0) in
+    subst IsUtf8 (drop-append-add a (39 ∷ r) 1) (IsUtf8-drop (a ++ 39 ∷ r) (length a + 1) u (IsCharBoundary-after_ascii (a ++ 39 ∷ r) (length a) u within ascii))
 
 quote_is : (b : ℕ) → eqb b 39 ≡ true → b ≡ 39
 quote_is b h = grind (arith, nat_tests)

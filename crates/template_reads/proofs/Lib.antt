@@ -2,7 +2,7 @@ pub mod OneByOne
 pub mod OneByOneWhere
 pub mod ListPlaces
 pub mod Lookups
-pub mod NamesFound
+pub mod FoundBehind
 pub mod KnownNames
 pub mod SlotColumns
 pub mod PutsAppend

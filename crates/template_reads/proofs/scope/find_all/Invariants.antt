@@ -1,6 +1,6 @@
 use Rattle.std.proofs.Common.{◌≡◌, drop}
 use Rattle.template_reads.specs.References as spec
-use Rattle.template_reads.proofs.NamesFound.{behind}
+use Rattle.template_reads.proofs.FoundBehind.{behind}
 use Rattle.template_reads.proofs.scope.find_all.Given as goal
 
 abbrev pub invariant-loop-n : goal.invariant-loop-n
