@@ -6,3 +6,4 @@ pub mod InSight
 pub mod Predecessors
 pub mod DefinitionsFirst
 pub mod NamedLaws
+pub mod JoinedNames

@@ -2,3 +2,4 @@ pub mod Naming
 pub mod Lockstep
 pub mod NamingBounds
 pub mod Definitions
+pub mod TrivialPhis

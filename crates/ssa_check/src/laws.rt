@@ -2,6 +2,7 @@
 
 ghost use Rattle.ssa_check.specs.Definitions.{NamesHaveOneDefinition, ParametersAreUnset, NamesAreReadInSight, DefinitionsComeFirst, EntryHasNoPhi, OperandsArePredecessors};
 ghost use Rattle.ssa_check.specs.Naming.{NamedRunsInLockstep};
+ghost use Rattle.ssa_check.specs.TrivialPhis.{TrivialPhis, OthersJoinTwoNames, FormsJoinTwoNames};
 
 /// A named SSA form runs in lockstep with its goto form.
 pub fn naming_keeps_answers()
@@ -16,4 +17,12 @@ pub fn names_have_one_definition()
     ensures paths { DefinitionsComeFirst }
     ensures entry { EntryHasNoPhi }
     ensures operands { OperandsArePredecessors }
+{}
+
+/// A φ is trivial where its operands other than itself are at most one name, none included. Each other φ joins two names, and in a named form these
+/// come from two blocks that lead to the φ's.
+pub fn phis_join_two_names()
+    ensures examples { TrivialPhis }
+    ensures others { OthersJoinTwoNames }
+    ensures forms { FormsJoinTwoNames }
 {}
