@@ -21,7 +21,7 @@ use Rattle.call_forms.specs.Columned.{Columned}
 use Rattle.call_forms.specs.Merged.{Merged}
 use Rattle.call_forms.specs.Templated.{Templated}
 use Rattle.call_forms.specs.Tight.{Tight}
-use Rattle.cte_template.specs.Making.{Making}
+use Rattle.cte_template.specs.Making.{Making, making_of}
 use Rattle.cte_template.specs.Numbers.{NumbersFit}
 use Rattle.cte_template.specs.Tree.{tree}
 use Rattle.cte_template.proofs.TreeIsTemplate.{tree_is_template}
@@ -38,7 +38,7 @@ use Rattle.template_laws.proofs.HasTrees.{labels_have_trees}
 use Rattle.template_names.specs.Laws as names
 use Rattle.template_names.proofs.NamedOnce.{table_named_once}
 use Rattle.template_names.proofs.TreesClear.{trees_clear}
-use Rattle.template_types.specs.Whole.{IsTypable, TreeBreaksNoRule, making_of}
+use Rattle.template_types.specs.Whole.{IsTypable, TreeBreaksNoRule}
 use Rattle.typed_forms.specs.Typed.{HasKind, NoIntegers}
 use Rattle.query_texts.specs.Texts.{IsOfTexts, ReadsAgain, TreesReadAgain}
 use Rattle.query_texts.proofs.FewLabels.{few_labels, few_parameters}

@@ -22,12 +22,12 @@ use Rattle.call_forms.specs.Called.{Called}
 use Rattle.call_forms.specs.Columned.{Columned}
 use Rattle.call_forms.specs.Merged.{Merged}
 use Rattle.call_forms.specs.Tight.{Tight}
+use Rattle.cte_template.specs.Making.{making_of}
 use Rattle.cte_template.specs.Numbers.{NumbersFit}
 use Rattle.cte_template.specs.Tree.{tree}
 use Rattle.dotted_names.specs.Trees.{dotted}
 use Rattle.plsql_parse.specs.Refusals as functions
 use Rattle.sql_text.specs.Refusals.{MayBeRead}
-use Rattle.template_types.specs.Whole.{making_of}
 use Rattle.typed_forms.specs.Typed.{HasKind}
 
 -- The function is that of a text within the limits, checked under the schema, which is that of a text.

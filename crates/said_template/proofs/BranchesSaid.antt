@@ -16,6 +16,7 @@ use Rattle.call_forms.specs.Scopes.{paired}
 use Rattle.call_forms.specs.Templated.{HasTree}
 use Rattle.call_law.proofs.Labels.{element_there}
 use Rattle.cte_template.specs.Making.{Making}
+use Rattle.cte_template.specs.Numbers.{walk_of, NumbersFit}
 use Rattle.cte_template.specs.Places.{nowhere, row_place}
 use Rattle.cte_template.specs.Tree.{at_label, branch, branches, label_rows}
 use Rattle.cte_template.specs.Walks.{keys_of}
@@ -26,7 +27,6 @@ use Rattle.sql_meaning.specs.Trees.{col}
 use Rattle.template_parts.specs.Names.{table_name, step_name, go_name, label_name, result_name, fault_name, value_names, row_names}
 use Rattle.template_parts.specs.Trees.{gate_as, lateral_as}
 use Rattle.placed_names.specs.Own.{SeesTables}
-use Rattle.template_names.specs.Laws.{walk_of, NumbersFit}
 use Rattle.template_names.proofs.BodiesClear.{TableClears, sees_inside}
 use Rattle.template_names.proofs.BranchesClear as clear
 use Rattle.template_names.proofs.BranchesClear.{KeysFit, keys_fit, under, row_of, row_own}

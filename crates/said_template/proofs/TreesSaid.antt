@@ -19,7 +19,7 @@ use Rattle.call_forms.specs.Forms.{params_of, label_of}
 use Rattle.call_forms.specs.TailRuns.{label_or}
 use Rattle.call_forms.specs.Templated.{HasTree, type_or_bigint, types_of}
 use Rattle.call_law.proofs.Labels.{place_found, placed}
-use Rattle.cte_template.specs.Making.{Making}
+use Rattle.cte_template.specs.Making.{Making, making_of}
 use Rattle.cte_template.specs.Tree.{label_rows}
 use Rattle.dotted_names.specs.Trees.{dotted_part}
 use Rattle.dotted_names.proofs.Gives.{Every}
@@ -27,7 +27,6 @@ use Rattle.said_trees.specs.CanSay.{CanSay}
 use Rattle.said_trees.proofs.SayNodes.{deepened}
 use Rattle.template_laws.proofs.FormTerms.{terms_fit, fails_fit}
 use Rattle.template_laws.proofs.HasTrees.{labels_have_trees}
-use Rattle.template_names.specs.Laws.{making_of}
 use Rattle.template_names.proofs.BodiesClear.{TableClears}
 use Rattle.template_names.proofs.BranchesClear.{row_of}
 use Rattle.template_names.proofs.FilesClear.{beside_working, sees_beside}

@@ -17,10 +17,11 @@ use Rattle.call_forms.specs.Called.{Called}
 use Rattle.call_forms.specs.Columned.{Columned}
 use Rattle.call_forms.specs.Merged.{Merged}
 use Rattle.call_forms.specs.Tight.{Tight}
+use Rattle.cte_template.specs.Making.{making_of}
+use Rattle.cte_template.specs.Numbers.{NumbersFit}
 use Rattle.cte_template.specs.Tree.{tree}
 use Rattle.dotted_names.specs.Trees.{dotted}
 use Rattle.said_trees.specs.CanSay.{CanSay}
-use Rattle.template_names.specs.Laws.{NumbersFit, making_of}
 use Rattle.typed_forms.specs.Typed.{HasKind, NoIntegers}
 use Rattle.said_template.specs.Sayable.{TableIsSaid}
 

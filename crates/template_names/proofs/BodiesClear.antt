@@ -1,5 +1,6 @@
 -- The select of a body is clear.
-use Rattle.std.proofs.Common.{◌≡◌, refl, ap, sym, subst, ℕ, zero, suc, ◌+◌, ◌-◌, ◌<◌, ◌≤◌, ◌^◌, true, false, pos, List, [], ◌∷◌, ◌++◌, map, length, get_or, Some, None, length-append, append_assoc, arith}
+use Rattle.std.proofs.Common.{◌≡◌, refl, ap, sym, subst, ℕ, zero, suc, ◌+◌, ◌-◌, ◌<◌, ◌≤◌, ◌^◌, true, false, pos, List}
+use Rattle.std.proofs.Common.{[], ◌∷◌, ◌++◌, map, length, get_or, Some, None, length-append, append_assoc, arith}
 use Rattle.away_trees.specs.declared.queries.Col.{Col}
 use Rattle.away_trees.specs.declared.queries.Expr.{Expr}
 use Rattle.away_trees.specs.declared.queries.Expr.TheVariants as expr
@@ -66,7 +67,10 @@ module _ (schema : Schema) (m : Making) (clears : TableClears schema m.table) (n
 
   end_clear : (s : Scope) (e class : Expr) → IsClear value s e → IsClear value s class
       → Clears s (truth false ∷ number (pos 0) ∷ (map null_of m.tail.columns ++ (e ∷ class ∷ [])))
-  end_clear s e class h k = (truth_clear s false, (number_clear s (pos 0), every_both (λ e. IsClear value s e) (map null_of m.tail.columns) (e ∷ class ∷ []) (nulls_clear s m.tail.columns) (h, (k, tt))))
+  end_clear s e class h k = (
+    truth_clear s false,
+    (number_clear s (pos 0), every_both (λ e. IsClear value s e) (map null_of m.tail.columns) (e ∷ class ∷ []) (nulls_clear s m.tail.columns) (h, (k, tt))),
+  )
 
   -- ---- what is in sight
 
@@ -77,14 +81,16 @@ module _ (schema : Schema) (m : Making) (clears : TableClears schema m.table) (n
 
     cell_clear : (t : Ty) (keys args : List ℕ) (i : ℕ) → Each (Among names) args → IsClear value (inside h.level s) (cell depth places t (beside keys args i))
     cell_clear t keys args i known =
-        beside_holds (λ o. IsClear value (inside h.level s) (cell depth places t o)) keys args i (null_clear (inside h.level s) t) (λ n a. own_at n (known a.place n a.there))
+        beside_holds (λ o. IsClear value (inside h.level s) (cell depth places t o)) keys args i (null_clear (inside h.level s) t)
+        (λ n a. own_at n (known a.place n a.there))
 
     cells_clear : (i : ℕ) (keys args : List ℕ) (ts : List Ty) → Each (Among names) args → Clears (inside h.level s) (cells_at i depth places keys args ts)
     cells_clear i keys args [] known = tt
     cells_clear i keys args (t ∷ ts) known = (cell_clear t keys args i known, cells_clear (suc i) keys args ts known)
 
     call_clear : (n : ℕ) (keys args : List ℕ) → Each (Among names) args
-        → Clears (inside h.level s) (truth true ∷ number (pos (suc n)) ∷ (cells_at 0 depth places keys args m.tail.columns ++ (null_of m.result ∷ null_of ty.Text ∷ [])))
+        → Clears (inside h.level s)
+        (truth true ∷ number (pos (suc n)) ∷ (cells_at 0 depth places keys args m.tail.columns ++ (null_of m.result ∷ null_of ty.Text ∷ [])))
     call_clear n keys args known = (
       truth_clear _ true,
       (
@@ -95,15 +101,18 @@ module _ (schema : Schema) (m : Making) (clears : TableClears schema m.table) (n
     )
 
     -- a term's expression, whose item sees the items before it
-    value_clear : (t : Ty) (u : Term) → SeesTables schema s → HasReferences m.table names u → IsClear value (inside [] (inside h.level s)) (value_at m depth places t u)
+    value_clear : (t : Ty) (u : Term) → SeesTables schema s → HasReferences m.table names u
+        → IsClear value (inside [] (inside h.level s)) (value_at m depth places t u)
     value_clear t u sees refers =
         let here : Scope = inside [] (inside h.level s) in
         let slots : List ℕ = slots_of (get_or m.table u.expr expr.Null) in
-        clears u.expr t here (column_beside slots (map (column_at (suc depth) places) u.names) (seen (suc depth) nowhere)) (sees_inside schema (inside h.level s) [] (sees_inside schema s h.level sees))
+        clears u.expr t here (column_beside slots (map (column_at (suc depth) places) u.names) (seen (suc depth) nowhere))
+        (sees_inside schema (inside h.level s) [] (sees_inside schema s h.level sees))
         (λ place slot there.
         slot_holds (IsOwn here.levels) (column_at (suc depth) places) (seen (suc depth) nowhere) slots u.names slot refers.as_many
         (λ n among. subst (IsOwn here.levels) (sym (deeper_is depth (places n) (h.shallow n)))
-        (is_own k here.levels (deeper (seen depth (places n))) (own_deeper k (h.level ∷ s.levels) (seen depth (places n)) (h.own n (refers.known among.place n among.there)))))
+        (is_own k here.levels (deeper (seen depth (places n)))
+        (own_deeper k (h.level ∷ s.levels) (seen depth (places n)) (h.own n (refers.known among.place n among.there)))))
         (record { place = place; there = there }))
 
     -- behind a term's item its value is in sight of the list
@@ -112,7 +121,9 @@ module _ (schema : Schema) (m : Making) (clears : TableClears schema m.table) (n
       let_query = one (tree.select (value_at m depth places t u ∷ []) [] None)
 
       pub with_let : Sighted (suc k) depth s (fs ++ let_at m depth places k t u ∷ []) names places
-      with_let = added k depth s fs names places fits h only_name [] let_query only_apart (let_clear (inside h.level s) (value_at m depth places t u) (value_clear t u sees refers))
+      with_let =
+          added k depth s fs names places fits h only_name [] let_query only_apart
+          (let_clear (inside h.level s) (value_at m depth places t u) (value_clear t u sees refers))
 
       abbrev pub let_column : Col
       let_column = record { level = 0; item = length fs; column = 0 }
@@ -143,11 +154,13 @@ module _ (schema : Schema) (m : Making) (clears : TableClears schema m.table) (n
       unfolding with_rows added
       row_own i lt =
           let there = column_there width i lt in
-          column_of k depth s fs names places fits h go_name (label_name ∷ value_names width ++ (result_name ∷ fault_name ∷ [])) rows_query i there.name (row_apart width narrow) there.kept there.there
+          column_of k depth s fs names places fits h go_name (label_name ∷ value_names width ++ (result_name ∷ fault_name ∷ [])) rows_query i there.name
+          (row_apart width narrow) there.kept there.there
 
       columns_from : (i n : ℕ) → i + n ≤ suc (suc (suc (suc width))) → Clears (inside with_rows.level s) (map (col 0 (length fs)) (count_from i n))
       columns_from i zero le = tt
-      columns_from i (suc n) le = (column_clear (suc k) (inside with_rows.level s) _ (row_own i (omega (arith, le))), columns_from (suc i) n (omega (arith, le)))
+      columns_from i (suc n) le =
+          (column_clear (suc k) (inside with_rows.level s) _ (row_own i (omega (arith, le))), columns_from (suc i) n (omega (arith, le)))
 
       all_clear : Clears (inside with_rows.level s) (all_columns m (length fs))
       all_clear = columns_from 0 (suc (suc (suc (suc width)))) (omega arith)
@@ -155,7 +168,8 @@ module _ (schema : Schema) (m : Making) (clears : TableClears schema m.table) (n
   -- ---- the arms of a test
 
   -- the column of the test, seen from a gate in a select further in
-  module _ (k j depth : ℕ) (s : Scope) (fs : List FromItem) (names : List ℕ) (places : scopes.Scope Place) (h : Sighted k depth s fs names places) (le : k ≤ j) (fits : j < 2 ^ 64)
+  module _ (k j depth : ℕ) (s : Scope) (fs : List FromItem) (names : List ℕ) (places : scopes.Scope Place) (h : Sighted k depth s fs names places)
+      (le : k ≤ j) (fits : j < 2 ^ 64)
       (col : Col) (own : Own k (h.level ∷ s.levels) col) where
     abbrev pub further : Scope
     further = inside h.level s
@@ -169,11 +183,13 @@ module _ (schema : Schema) (m : Making) (clears : TableClears schema m.table) (n
     pub behind_gate : (e : Expr) → IsClear value (inside [] (inside [] further)) e → Sighted (suc j) (suc depth) further (gate_as j e ∷ []) names places
     unfolding begun
     behind_gate e clear =
-        added j (suc depth) further [] names places fits arm only_name [] (one (tree.select (truth true ∷ []) [] (Some e))) only_apart (gate_clear (inside [] further) e clear)
+        added j (suc depth) further [] names places fits arm only_name [] (one (tree.select (truth true ∷ []) [] (Some e))) only_apart
+        (gate_clear (inside [] further) e clear)
 
   -- ---- bodies
 
-  pub body_clear : (x : Body) (k depth : ℕ) (s : Scope) (fs : List FromItem) (names : List ℕ) (places : scopes.Scope Place) → SeesTables schema s → HasTree m.table names x
+  pub body_clear : (x : Body) (k depth : ℕ) (s : Scope) (fs : List FromItem) (names : List ℕ) (places : scopes.Scope Place) → SeesTables schema s
+      → HasTree m.table names x
       → (walk m depth places fs k x).next ≤ 2 ^ 64 → Sighted k depth s fs names places → IsClear select s (selected (walk m depth places fs k x))
   body_clear (sets n u x) k depth s fs names places sees has fits h =
       let now : scopes.Scope Place = stands n (first_of depth (length fs)) places in
@@ -184,7 +200,8 @@ module _ (schema : Schema) (m : Making) (clears : TableClears schema m.table) (n
       let now : scopes.Scope Place = paired places nowhere params args in
       body_clear x k depth s fs params now sees has.1 fits
       (renamed k depth s fs names places h params now (shallow_paired depth places params args h.shallow)
-      (λ n among. paired_holds (λ p. Own k (h.level ∷ s.levels) (seen depth p)) places nowhere params args n has.0.as_many (λ a known. h.own a (has.0.known known.place a known.there)) among))
+      (λ n among. paired_holds (λ p. Own k (h.level ∷ s.levels) (seen depth p)) places nowhere params args n has.0.as_many
+      (λ a known. h.own a (has.0.known known.place a known.there)) among))
   body_clear (picks u x y) k depth s fs names places sees has fits h =
       let e : Expr = col 2 (length fs) 0 in
       let no : Expr = is_not_true e in
@@ -200,12 +217,14 @@ module _ (schema : Schema) (m : Making) (clears : TableClears schema m.table) (n
       let low_no : first.next < 2 ^ 64 = omega (arith, upper, fits) in
       let low_either : suc k < 2 ^ 64 = omega (arith, low_gate) in
       let with : Sighted (suc k) depth s (fs ++ (one ∷ [])) names places = with_let k depth s fs names places h low sees ty.Boolean u has.0 in
-      let own : Own (suc k) (with.level ∷ s.levels) (record { level = 0; item = length fs; column = 0 }) = let_own k depth s fs names places h low sees ty.Boolean u has.0 in
+      let own : Own (suc k) (with.level ∷ s.levels) (record { level = 0; item = length fs; column = 0 }) =
+      let_own k depth s fs names places h low sees ty.Boolean u has.0 in
       let here : Scope = inside with.level s in
       let seen_there : SeesTables schema here = sees_inside schema s with.level sees in
       let le : suc k ≤ suc (suc k) = omega arith in
       let le_no : suc k ≤ first.next = omega (arith, up) in
-      let is_e : IsClear value (inside [] (inside [] here)) e = test_clear (suc k) (suc (suc k)) depth s (fs ++ (one ∷ [])) names places with le low_gate _ own in
+      let is_e : IsClear value (inside [] (inside [] here)) e =
+      test_clear (suc k) (suc (suc k)) depth s (fs ++ (one ∷ [])) names places with le low_gate _ own in
       let yes : IsClear select here (selected first) =
       body_clear x (suc (suc (suc k))) (suc depth) here (gate ∷ []) names places seen_there has.1 low_first
       (behind_gate (suc k) (suc (suc k)) depth s (fs ++ (one ∷ [])) names places with le low_gate _ own e is_e) in
@@ -215,18 +234,24 @@ module _ (schema : Schema) (m : Making) (clears : TableClears schema m.table) (n
       let grown : length (fs ++ (one ∷ [])) ≡ suc (length fs) = omega (arith, length-append fs (one ∷ [])) in
       let rows : Sighted (suc (suc k)) depth s ((fs ++ (one ∷ [])) ++ (either_as (suc k) width (selected first) (selected second) ∷ [])) names places =
       with_rows (suc k) depth s (fs ++ (one ∷ [])) names places with low_either (selected first) (selected second) yes other in
-      subst (λ gs. IsClear select s (selected (ended gs (all_columns m (suc (length fs))) second.next))) (append_assoc fs (one ∷ []) (either_as (suc k) width (selected first) (selected second) ∷ []))
+      subst (λ gs. IsClear select s (selected (ended gs (all_columns m (suc (length fs))) second.next)))
+      (append_assoc fs (one ∷ []) (either_as (suc k) width (selected first) (selected second) ∷ []))
       (list_over (suc (suc k)) depth s _ names places (all_columns m (suc (length fs))) second.next rows
-      (subst (λ n. Clears (inside rows.level s) (all_columns m n)) grown (all_clear (suc k) depth s (fs ++ (one ∷ [])) names places with low_either (selected first) (selected second) yes other)))
+      (subst (λ n. Clears (inside rows.level s) (all_columns m n)) grown
+      (all_clear (suc k) depth s (fs ++ (one ∷ [])) names places with low_either (selected first) (selected second) yes other)))
   body_clear (returns u) k depth s fs names places sees has fits h =
       let low : k < 2 ^ 64 = omega (arith, fits) in
-      let with : Sighted (suc k) depth s (fs ++ (let_at m depth places k m.result u ∷ [])) names places = with_let k depth s fs names places h low sees m.result u has in
+      let with : Sighted (suc k) depth s (fs ++ (let_at m depth places k m.result u ∷ [])) names places =
+      with_let k depth s fs names places h low sees m.result u has in
       let here : Scope = inside with.level s in
       list_over (suc k) depth s (fs ++ (let_at m depth places k m.result u ∷ [])) names places (end_row m (col 0 (length fs) 0) (null_of ty.Text)) (suc k) with
-      (end_clear here (col 0 (length fs) 0) (null_of ty.Text) (column_clear (suc k) here _ (let_own k depth s fs names places h low sees m.result u has)) (null_clear here ty.Text))
+      (end_clear here (col 0 (length fs) 0) (null_of ty.Text) (column_clear (suc k) here _ (let_own k depth s fs names places h low sees m.result u has))
+      (null_clear here ty.Text))
   body_clear (fails class) k depth s fs names places sees has fits h =
-      list_over k depth s fs names places (end_row m (null_of m.result) (class_text m class)) k h (end_clear (inside h.level s) (null_of m.result) (class_text m class) (null_clear (inside h.level s) m.result) (c.cast ty.Text (c.str class.code)))
+      list_over k depth s fs names places (end_row m (null_of m.result) (class_text m class)) k h
+      (end_clear (inside h.level s) (null_of m.result) (class_text m class) (null_clear (inside h.level s) m.result) (c.cast ty.Text (c.str class.code)))
   body_clear (calls label keys args) k depth s fs names places sees has fits h =
       list_over k depth s fs names places (call_row m depth places label keys args) k h (call_clear k depth s fs names places h label keys args has.known)
   body_clear endless k depth s fs names places sees has fits h =
-      list_over k depth s fs names places (end_row m (null_of m.result) (null_of ty.Text)) k h (end_clear (inside h.level s) (null_of m.result) (null_of ty.Text) (null_clear (inside h.level s) m.result) (null_clear (inside h.level s) ty.Text))
+      list_over k depth s fs names places (end_row m (null_of m.result) (null_of ty.Text)) k h
+      (end_clear (inside h.level s) (null_of m.result) (null_of ty.Text) (null_clear (inside h.level s) m.result) (null_clear (inside h.level s) ty.Text))

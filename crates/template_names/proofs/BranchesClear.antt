@@ -1,5 +1,6 @@
 -- The branches of labels are clear, and so are the rows of the labels, beside the working table.
-use Rattle.std.proofs.Common.{◌≡◌, refl, ap, sym, ◌∙◌, subst, ℕ, suc, ◌+◌, ◌<◌, ◌≤◌, ◌^◌, true, pos, List, [], ◌∷◌, ◌++◌, length, Option, Some, None, option_map, arith}
+use Rattle.std.proofs.Common.{◌≡◌, refl, ap, sym, ◌∙◌, subst, ℕ, suc, ◌+◌, ◌<◌, ◌≤◌, ◌^◌, true, pos}
+use Rattle.std.proofs.Common.{List, [], ◌∷◌, ◌++◌, length, Option, Some, None, option_map, arith}
 use Rattle.std.specs.Prelude.{slice_get}
 use Rattle.std.proofs.lemmas.Option.{slice_get_within, slice_get-map}
 use Rattle.away_trees.specs.declared.queries.Expr.{Expr}
@@ -24,6 +25,7 @@ use Rattle.call_forms.specs.Template.{entry_place}
 use Rattle.call_forms.specs.Templated.{HasTree}
 use Rattle.call_law.proofs.Labels.{element_there}
 use Rattle.cte_template.specs.Making.{Making}
+use Rattle.cte_template.specs.Numbers.{walk_of, NumbersFit}
 use Rattle.cte_template.specs.Places.{nowhere, row_place, seen, beside}
 use Rattle.cte_template.specs.Tree.{at_label, branch, branches, start, label_rows}
 use Rattle.cte_template.specs.Walks.{keys_of, argument, arguments_at}
@@ -37,7 +39,6 @@ use Rattle.sql_meaning.specs.Trees as tree
 use Rattle.template_parts.specs.Names.{table_name, step_name, only_name, row_names, alias_name}
 use Rattle.template_parts.specs.Trees.{gate_as}
 use Rattle.placed_names.specs.Own.{SeesTables}
-use Rattle.template_names.specs.Laws.{walk_of, NumbersFit}
 use Rattle.template_names.proofs.BodiesClear.{TableClears, sees_inside, body_clear}
 use Rattle.template_names.proofs.Differences.{every_both, no_double, own_place}
 use Rattle.template_names.proofs.ItemsSeen.{seen_as}
@@ -63,7 +64,8 @@ unfoldable pub row_own : (k w i : ℕ) → w < 2 ^ 64 → i < suc (suc (suc (suc
 row_own k w i narrow lt =
     let there = column_there w i lt in
     own_last k [] [] (row_of w) there.name i table_kept there.kept (table_older k) tt
-    (slice_get-map (λ n. Some n) (row_names w) i ∙ ap (λ o. option_map (λ n. Some n) o) there.there) (own_place (row_names w) i there.name (row_apart w narrow) there.there)
+    (slice_get-map (λ n. Some n) (row_names w) i ∙ ap (λ o. option_map (λ n. Some n) o) there.there)
+    (own_place (row_names w) i there.name (row_apart w narrow) there.there)
 
 -- ---- the places of a label's parameters
 
@@ -75,7 +77,8 @@ typed_within : (columns : List Ty) (i : ℕ) (t : Option Ty) → HasType t (slic
 typed_within columns i None h = absurd h
 typed_within columns i (Some t) h = slice_get_within columns i t h
 
-pub keys_fit : (slots : List Slot) (names : List ℕ) (columns : List Ty) (x : Option AnfBlock) (keys : List ℕ) → PlacesAt slots names columns x keys → KeysFit (length columns) (params_of x) keys
+pub keys_fit : (slots : List Slot) (names : List ℕ) (columns : List Ty) (x : Option AnfBlock) (keys : List ℕ) → PlacesAt slots names columns x keys
+    → KeysFit (length columns) (params_of x) keys
 keys_fit slots names columns None keys h = absurd h
 keys_fit slots names columns (Some x) keys h = record {
   as_many = h.as_many;
@@ -106,7 +109,8 @@ module _ (schema : Schema) (m : Making) (clears : TableClears schema m.table) (n
     key_own : (n : ℕ) → Among keys n → Own 1 ([] ∷ (row_of width ∷ []) ∷ []) (seen 1 (row_place n))
     key_own n among =
         let lt : n < width = fit.within n among in
-        own_deeper 1 ((row_of width ∷ []) ∷ []) (record { level = 0; item = 0; column = suc (suc n) }) (row_own 1 width (suc (suc n)) narrow (omega (arith, lt)))
+        own_deeper 1 ((row_of width ∷ []) ∷ []) (record { level = 0; item = 0; column = suc (suc n) })
+        (row_own 1 width (suc (suc n)) narrow (omega (arith, lt)))
 
     pub nothing_yet : Sighted 1 1 here [] params places
     nothing_yet = record {
@@ -125,7 +129,8 @@ module _ (schema : Schema) (m : Making) (clears : TableClears schema m.table) (n
     label_clear n =
         c.compare cmp.Eq
         (column_clear 1 (inside [] (inside [] here)) (record { level = 2; item = 0; column = 1 })
-        (own_deeper 1 _ (record { level = 1; item = 0; column = 1 }) (own_deeper 1 ((row_of width ∷ []) ∷ []) (record { level = 0; item = 0; column = 1 }) (row_own 1 width 1 narrow (omega arith)))))
+        (own_deeper 1 _ (record { level = 1; item = 0; column = 1 })
+        (own_deeper 1 ((row_of width ∷ []) ∷ []) (record { level = 0; item = 0; column = 1 }) (row_own 1 width 1 narrow (omega arith)))))
         (number_clear (inside [] (inside [] here)) (pos n))
 
     pub behind_gate : (n : ℕ) → Sighted 2 1 here (gate_as 1 (at_label m n) ∷ []) params places
@@ -134,11 +139,13 @@ module _ (schema : Schema) (m : Making) (clears : TableClears schema m.table) (n
         added 1 1 here [] params places (omega arith) nothing_yet only_name [] (one (tree.select (truth true ∷ []) [] (Some (at_label m n)))) only_apart
         (gate_clear (inside [] here) (at_label m n) (label_clear n))
 
-  branch_clear : (i b : ℕ) → KeysFit width (params_of (slice_get m.anf.blocks b)) (keys_of m i) → HasTree m.table (params_of (slice_get m.anf.blocks b)) (body_of m.anf m.tail b)
+  branch_clear : (i b : ℕ) → KeysFit width (params_of (slice_get m.anf.blocks b)) (keys_of m i)
+      → HasTree m.table (params_of (slice_get m.anf.blocks b)) (body_of m.anf m.tail b)
       → (walk_of m i b).next ≤ 2 ^ 64 → IsClear select here (branch m i b)
   branch_clear i b fit has low =
       let params : List ℕ = params_of (slice_get m.anf.blocks b) in
-      body_clear schema m clears narrow (body_of m.anf m.tail b) 2 1 here (gate_as 1 (at_label m (suc i)) ∷ []) params (paired row_place nowhere params (keys_of m i))
+      body_clear schema m clears narrow (body_of m.anf m.tail b) 2 1 here (gate_as 1 (at_label m (suc i)) ∷ []) params
+      (paired row_place nowhere params (keys_of m i))
       (sees_inside schema outside (row_of width ∷ []) sees) has low (behind_gate params (keys_of m i) fit (suc i))
 
   -- ---- all branches
@@ -148,7 +155,8 @@ module _ (schema : Schema) (m : Making) (clears : TableClears schema m.table) (n
   from_there i (b ∷ bs) h =
       let first : i + 0 ≡ i = omega arith in
       c.one_select (subst (λ j. IsClear select here (branch m j b)) first (h 0 b refl))
-      (from_there (suc i) bs (λ j x there. let next : i + suc j ≡ suc i + j = omega arith in subst (λ j. IsClear select here (branch m j x)) next (h (suc j) x there)))
+      (from_there (suc i) bs
+      (λ j x there. let next : i + suc j ≡ suc i + j = omega arith in subst (λ j. IsClear select here (branch m j x)) next (h (suc j) x there)))
 
   module _ (slots : List Slot) (names : List ℕ) (as_many : length m.tail.places ≡ length m.tail.labels)
       (placed : EachPair (λ i b places. PlacesAt slots names m.tail.columns (slice_get m.anf.blocks b) places) m.tail.labels m.tail.places)
@@ -157,13 +165,16 @@ module _ (schema : Schema) (m : Making) (clears : TableClears schema m.table) (n
     each_branch i b there =
         let lt : i < length m.tail.labels = slice_get_within m.tail.labels i b there in
         let keys = element_there m.tail.places i (subst (λ l. i < l) (sym as_many) lt) in
-        let fit : KeysFit width (params_of (slice_get m.anf.blocks b)) keys.0 = keys_fit slots names m.tail.columns (slice_get m.anf.blocks b) keys.0 (placed i b keys.0 there keys.1) in
-        branch_clear i b (subst (KeysFit width (params_of (slice_get m.anf.blocks b))) (sym (found_or m.tail.places i keys.0 keys.1)) fit) (trees i b there) (fits.aliases i b there)
+        let fit : KeysFit width (params_of (slice_get m.anf.blocks b)) keys.0 =
+        keys_fit slots names m.tail.columns (slice_get m.anf.blocks b) keys.0 (placed i b keys.0 there keys.1) in
+        branch_clear i b (subst (KeysFit width (params_of (slice_get m.anf.blocks b))) (sym (found_or m.tail.places i keys.0 keys.1)) fit) (trees i b there)
+        (fits.aliases i b there)
 
     pub rows_clear : IsClear (from_item (row_of width ∷ [])) outside (label_rows m)
     rows_clear =
         c.subquery step_name (row_names width) true (no_double (row_names width) (row_apart width narrow))
-        (c.union (from_there 0 m.tail.labels (λ j b there. let same : j ≡ 0 + j = omega arith in subst (λ j. IsClear select here (branch m j b)) same (each_branch j b there))))
+        (c.union (from_there 0 m.tail.labels
+        (λ j b there. let same : j ≡ 0 + j = omega arith in subst (λ j. IsClear select here (branch m j b)) same (each_branch j b there))))
 
   -- ---- the first row
 
@@ -185,6 +196,7 @@ module _ (schema : Schema) (m : Making) (clears : TableClears schema m.table) (n
         (
           number_clear first (pos (suc place)),
           every_both (λ e. IsClear value first e) arguments (null_of m.result ∷ null_of ty.Text ∷ [])
-              (arguments_clear first 0 (keys_of m place) (params_of (slice_get m.anf.blocks entry)) m.tail.columns) (null_clear first m.result, (null_clear first ty.Text, tt)),
+              (arguments_clear first 0 (keys_of m place) (params_of (slice_get m.anf.blocks entry)) m.tail.columns)
+              (null_clear first m.result, (null_clear first ty.Text, tt)),
         ),
       )

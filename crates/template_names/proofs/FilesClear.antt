@@ -1,5 +1,6 @@
 -- The whole query is clear.
-use Rattle.std.proofs.Common.{◌≡◌, refl, ap, sym, ◌∙◌, subst, ℕ, zero, suc, ◌+◌, ◌<◌, ◌≤◌, ◌^◌, Bool, true, false, if◌then◌else◌, List, [], ◌∷◌, ◌++◌, map, length, decimal, Option, Some, None, option_map, arith}
+use Rattle.std.proofs.Common.{◌≡◌, refl, ap, sym, ◌∙◌, subst, ℕ, zero, suc, ◌+◌, ◌<◌, ◌≤◌, ◌^◌, Bool, true, false, if◌then◌else◌}
+use Rattle.std.proofs.Common.{List, [], ◌∷◌, ◌++◌, map, length, decimal, Option, Some, None, option_map, arith}
 use Rattle.std.specs.Prelude.{bytes_eq}
 use Rattle.std.proofs.lemmas.Option.{slice_get-map}
 use Rattle.std.proofs.lemmas.Slice.Eq.{bytes_eq-Decides}
@@ -45,7 +46,9 @@ Fields = Recursive-F Expr Source FromItem Item Key Query Recursive Select
 
 -- what the names of tables stand for beside the recursive one
 abbrev pub beside_working : Schema → List Name → Name → Option Listed
-beside_working schema columns = table_before (Some (record { name = table_name; table = record { written = decimal (length schema.tables) ∷ columns; recursive = true } })) (table_of schema)
+beside_working schema columns =
+    table_before (Some (record { name = table_name; table = record { written = decimal (length schema.tables) ∷ columns; recursive = true } }))
+    (table_of schema)
 
 -- the kept name hides no table of the function's
 pub sees_beside : (schema : Schema) (columns : List Name) → SeesTables schema (under schema (beside_working schema columns))
@@ -88,7 +91,8 @@ module _ (schema : Schema) (m : Making) (narrow : length m.tail.columns < 2 ^ 64
   rows_own i lt =
       let there = column_there width i lt in
       own_last 1 (row_of width ∷ []) [] rows_seen there.name i step_kept there.kept (step_older 1) (letter_apart step_name table_name refl, tt)
-      (slice_get-map (λ n. Some n) (row_names width) i ∙ ap (λ o. option_map (λ n. Some n) o) there.there) (own_place (row_names width) i there.name (row_apart width narrow) there.there)
+      (slice_get-map (λ n. Some n) (row_names width) i ∙ ap (λ o. option_map (λ n. Some n) o) there.there)
+      (own_place (row_names width) i there.name (row_apart width narrow) there.there)
 
   abbrev rest : List Name
   rest = label_name ∷ value_names width ++ (result_name ∷ fault_name ∷ [])
@@ -108,26 +112,31 @@ module _ (schema : Schema) (m : Making) (narrow : length m.tail.columns < 2 ^ 64
 
     columns_from : (i n : ℕ) → i + n ≤ suc (suc (suc (suc width))) → Clears above (map (col 0 1) (count_from i n))
     columns_from i zero le = tt
-    columns_from i (suc n) le = (column_clear 1 above (record { level = 0; item = 1; column = i }) (rows_own i (omega (arith, le))), columns_from (suc i) n (omega (arith, le)))
+    columns_from i (suc n) le =
+        (column_clear 1 above (record { level = 0; item = 1; column = i }) (rows_own i (omega (arith, le))), columns_from (suc i) n (omega (arith, le)))
 
     go_clear : IsClear value above (col 0 0 0)
     unfolding row_own own_last
     go_clear =
         column_clear 1 above (record { level = 0; item = 0; column = 0 })
-        (own_beside 1 (row_of width ∷ []) [] rows_seen (record { level = 0; item = 0; column = 0 }) (row_own 1 width 0 narrow (omega arith)) (letter_apart table_name step_name refl))
+        (own_beside 1 (row_of width ∷ []) [] rows_seen (record { level = 0; item = 0; column = 0 }) (row_own 1 width 0 narrow (omega arith))
+        (letter_apart table_name step_name refl))
 
     behind_both : (P : Scope → Type 0) → P above → P (inside (dotted_from [] (working tables width ∷ label_rows m ∷ [])).seen (under schema any))
     behind_both P h = subst (λ l. P (inside l (under schema any))) (sym seen_both) h
 
     pub step_list : IsClear items (inside (dotted_from [] (working tables width ∷ label_rows m ∷ [])).seen (under schema any)) (map item (all_columns m 1))
-    step_list = behind_both (λ s. IsClear items s (map item (all_columns m 1))) (list_clear above (all_columns m 1) (columns_from 0 (suc (suc (suc (suc width)))) (omega arith)))
+    step_list =
+        behind_both (λ s. IsClear items s (map item (all_columns m 1)))
+        (list_clear above (all_columns m 1) (columns_from 0 (suc (suc (suc (suc width)))) (omega arith)))
 
     pub step_filter : IsClear maybe (inside (dotted_from [] (working tables width ∷ label_rows m ∷ [])).seen (under schema any)) (Some (col 0 0 0))
     step_filter = behind_both (λ s. IsClear maybe s (Some (col 0 0 0))) (c.something go_clear)
 
   pub step_from : IsClear (from_item (row_of width ∷ [])) outside (label_rows m) → IsClear (from_items []) outside (working tables width ∷ label_rows m ∷ [])
   step_from rows =
-      c.one_from (working_clear []) (subst (λ o. IsClear (from_items (o ∷ [])) outside (label_rows m ∷ [])) (sym (working_seen tables width [] [])) (c.one_from rows c.no_from))
+      c.one_from (working_clear [])
+      (subst (λ o. IsClear (from_items (o ∷ [])) outside (label_rows m ∷ [])) (sym (working_seen tables width [] [])) (c.one_from rows c.no_from))
 
   step_clear : IsClear (from_item (row_of width ∷ [])) outside (label_rows m) → IsClear select outside (step m tables)
   step_clear rows =
@@ -150,7 +159,8 @@ module _ (schema : Schema) (m : Making) (narrow : length m.tail.columns < 2 ^ 64
   last_clear =
       let list : List Expr = col 0 0 (suc (suc width)) ∷ col 0 0 (suc (suc (suc width))) ∷ [] in
       c.whole (no_double (table_name ∷ []) (tt, tt)) (c.one_from (working_clear []) c.no_from)
-      (behind_one (λ s. IsClear items s (map item list)) (list_clear (inside alone outside) list (row_clear (suc (suc width)) (omega arith), (row_clear (suc (suc (suc width))) (omega arith), tt))))
+      (behind_one (λ s. IsClear items s (map item list))
+      (list_clear (inside alone outside) list (row_clear (suc (suc width)) (omega arith), (row_clear (suc (suc (suc width))) (omega arith), tt))))
       (behind_one (λ s. IsClear maybe s (Some (expr.Not (col 0 0 0)))) (c.something (c.not (row_clear 0 (omega arith))))) c.no_key c.nothing
 
   -- ---- the whole
@@ -158,7 +168,8 @@ module _ (schema : Schema) (m : Making) (narrow : length m.tail.columns < 2 ^ 64
   -- the terms of a recursive table and what stands behind it, by the table's fields
   abbrev ClearBehind : Fields → List Select → Type 0
   ClearBehind o xs =
-      let s : Scope = under schema (table_before (Some (record { name = o.name; table = record { written = decimal (length schema.tables) ∷ o.columns; recursive = true } })) (table_of schema)) in
+      let s : Scope = under schema (table_before
+      (Some (record { name = o.name; table = record { written = decimal (length schema.tables) ∷ o.columns; recursive = true } })) (table_of schema)) in
       (has_double o.columns ≡ false) × IsClear selects s o.first × IsClear select s o.second × IsClear selects s xs
 
   pub tree_clear : (entry : ℕ) → IsClear select outside (start m entry) → IsClear (from_item (row_of width ∷ [])) outside (label_rows m)

@@ -20,13 +20,16 @@ use Rattle.template_parts.specs.Trees.{lateral_as, working}
 abbrev pub seen_as : Name → List Name → Seen
 seen_as alias names = record { alias = alias; columns = plain_names names }
 
-pub lateral_seen : (alias n : Name) (ns : List Name) (q : Query) (s : Sight) (level : Level) → (dotted_part (lateral_as alias (n ∷ ns) q) s level).seen ≡ seen_as alias (n ∷ ns)
+pub lateral_seen : (alias n : Name) (ns : List Name) (q : Query) (s : Sight) (level : Level)
+    → (dotted_part (lateral_as alias (n ∷ ns) q) s level).seen ≡ seen_as alias (n ∷ ns)
 unfolding names_or
-lateral_seen alias n ns q s level = ap (λ (p : Part). p.seen) (part_rule (lateral_as alias (n ∷ ns) q) s level ∙ ap (shaped alias) (sub_is q true (n ∷ ns) s level))
+lateral_seen alias n ns q s level =
+    ap (λ (p : Part). p.seen) (part_rule (lateral_as alias (n ∷ ns) q) s level ∙ ap (shaped alias) (sub_is q true (n ∷ ns) s level))
 
 pub working_seen : (tables w : ℕ) (s : Sight) (level : Level) → (dotted_part (working tables w) s level).seen ≡ seen_as table_name (row_names w)
 working_seen tables w s level =
     ap (λ (p : Part). p.seen) (part_rule (working tables w) s level ∙ ap (shaped table_name) (table_is table_name (decimal tables ∷ row_names w) s level))
 
-pub seen_more : (s : Sight) (fs : List FromItem) (f : FromItem) → (dotted_from s (fs ++ f ∷ [])).seen ≡ (dotted_from s fs).seen ++ (dotted_part f s (dotted_from s fs).seen).seen ∷ []
+pub seen_more : (s : Sight) (fs : List FromItem) (f : FromItem)
+    → (dotted_from s (fs ++ f ∷ [])).seen ≡ (dotted_from s fs).seen ++ (dotted_part f s (dotted_from s fs).seen).seen ∷ []
 seen_more s fs f = ap (λ (a : Framed). a.seen) (fold-append (λ a f. with_part a (dotted_part f s a.seen)) no_part fs (f ∷ []))

@@ -12,7 +12,7 @@ use Rattle.away_names.specs.Lookups.{Name, Scope, inside}
 use Rattle.away_names.specs.NamingLists.{named_from, named_selects}
 use Rattle.away_names.specs.Notes.{clean, joined, summed}
 use Rattle.away_names.specs.Trees.{named_part, named_select}
-use Rattle.cte_template.specs.Making.{Making}
+use Rattle.cte_template.specs.Making.{Making, making_of}
 use Rattle.cte_template.specs.Tree.{start, label_rows, step, last, tree}
 use Rattle.cte_template.specs.Walks.{all_columns}
 use Rattle.dotted_names.specs.Trees.{dotted_part, dotted_from, dotted_select, dotted_selects}
@@ -22,7 +22,7 @@ use Rattle.dotted_names.proofs.ClearBack.{back}
 use Rattle.sql_meaning.specs.Trees.{col, item}
 use Rattle.template_parts.specs.Names.{table_name, row_names}
 use Rattle.template_parts.specs.Trees.{working}
-use Rattle.template_names.specs.Laws.{TableIsNamedOnce, NamesTableOnce, making_of}
+use Rattle.template_names.specs.Laws.{TableIsNamedOnce, NamesTableOnce}
 use Rattle.template_names.proofs.BodiesClear.{TableClears}
 use Rattle.template_names.proofs.BranchesClear.{under, row_of, rows_clear, start_clear}
 use Rattle.template_names.proofs.FilesClear.{Fields, beside_working, working_clear, step_from, step_list, step_filter}
@@ -92,7 +92,8 @@ module _ (schema : Schema) (m : Making) (narrow : length m.tail.columns < 2 ^ 64
   first_never : (entry : ℕ) → IsClear select plain (start m entry) → (named_selects outside (dotted_selects [] (start m entry ∷ [])).it).note.refers ≡ Never
   first_never entry first = selects_silent outside (start m entry ∷ []) (none_named many (extends_plain schema (row_names width)) refl first, tt)
 
-  named_once : (entry : ℕ) → IsClear select plain (start m entry) → IsClear (from_item (row_of width ∷ [])) plain (label_rows m) → NamesTableOnce schema (tree m entry tables)
+  named_once : (entry : ℕ) → IsClear select plain (start m entry) → IsClear (from_item (row_of width ∷ [])) plain (label_rows m)
+      → NamesTableOnce schema (tree m entry tables)
   named_once entry first rows =
       let o : Fields = record { name = table_name; columns = row_names width; first = start m entry ∷ []; second = step m tables } in
       record {

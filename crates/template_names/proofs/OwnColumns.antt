@@ -1,5 +1,6 @@
 -- Columns of the query's own: each is found by the alias of its item and its name, while more items and selects come into sight.
-use Rattle.std.proofs.Common.{◌≡◌, refl, ap, ◌∙◌, ℕ, zero, suc, ◌+◌, ◌<◌, ◌≤◌, ◌^◌, Bool, true, false, if◌then◌else◌, List, [], ◌∷◌, ◌++◌, length, Option, Some, None, option_map, arith}
+use Rattle.std.proofs.Common.{◌≡◌, refl, ap, ◌∙◌, ℕ, zero, suc, ◌+◌, ◌<◌, ◌≤◌, ◌^◌, Bool, true, false, if◌then◌else◌}
+use Rattle.std.proofs.Common.{List, [], ◌∷◌, ◌++◌, length, Option, Some, None, option_map, arith}
 use Rattle.std.specs.Prelude.{slice_get, bytes_eq}
 use Rattle.std.specs.Option.{option_and_then}
 use Rattle.std.proofs.lemmas.Option.{slice_get_within}
@@ -87,7 +88,8 @@ module _ (a n : Name) where
       (λ z. or_else (by (bytes_eq o.alias a) (place_of n o.columns) z) (item_deep d (i + 1) os z))
       ∙ both_deep (if bytes_eq o.alias a then option_map (hit_at d i false) (place_of n o.columns) else None) (in_item a n d (i + 1) os)
     where
-      by : (b : Bool) (p : Option ℕ) → (if b then option_map (hit_at (suc d) i false) p else None) ≡ option_map deep (if b then option_map (hit_at d i false) p else None)
+      by : (b : Bool) (p : Option ℕ)
+          → (if b then option_map (hit_at (suc d) i false) p else None) ≡ option_map deep (if b then option_map (hit_at d i false) p else None)
       by true None = refl
       by true (Some x) = refl
       by false p = refl
@@ -131,7 +133,8 @@ still_held : (l : Level) (ls : List Level) (o x : Seen) (level item : ℕ)
 still_held l ls o x zero item h = nth_left l (o ∷ []) item (slice_get_within l item x h) ∙ h
 still_held l ls o x (suc level) item h = h
 
-pub own_beside : (k : ℕ) (l : Level) (ls : List Level) (o : Seen) (col : Col) → (h : Own k (l ∷ ls) col) → Apart h.item.alias o.alias → Own k ((l ++ o ∷ []) ∷ ls) col
+pub own_beside : (k : ℕ) (l : Level) (ls : List Level) (o : Seen) (col : Col) → (h : Own k (l ∷ ls) col) → Apart h.item.alias o.alias
+    → Own k ((l ++ o ∷ []) ∷ ls) col
 own_beside k l ls o col h other = record {
   item = h.item;
   name = h.name;
@@ -149,10 +152,12 @@ item_last : (a n : Name) (d i : ℕ) (l : Level) (o : Seen) (j : ℕ) → o.alia
     → in_item a n d i (l ++ o ∷ []) ≡ Some (hit_at d (i + length l) false j)
 item_last a n d i [] o j same h p =
     let here : i ≡ i + 0 = omega arith in
-    (λ z. or_else (if (ap (λ x. bytes_eq x a) same ∙ same_true a) z then option_map (hit_at d i false) (p z) else None) None) ∙ ap (λ i. Some (hit_at d i false j)) here
+    (λ z. or_else (if (ap (λ x. bytes_eq x a) same ∙ same_true a) z then option_map (hit_at d i false) (p z) else None) None)
+    ∙ ap (λ i. Some (hit_at d i false j)) here
 item_last a n d i (x ∷ l) o j same h p =
     let further : i + 1 + length l ≡ i + suc (length l) = omega arith in
-    ap (λ b. or_else (if b then option_map (hit_at d i false) (place_of n x.columns) else None) (in_item a n d (i + 1) (l ++ o ∷ []))) (apart_false x.alias a h.0)
+    ap (λ b. or_else (if b then option_map (hit_at d i false) (place_of n x.columns) else None) (in_item a n d (i + 1) (l ++ o ∷ [])))
+    (apart_false x.alias a h.0)
     ∙ (item_last a n d (i + 1) l o j same h.1 p ∙ ap (λ i. Some (hit_at d i false j)) further)
 
 pub found_last : (l : Level) (ls : List Level) (o : Seen) (n : Name) (j : ℕ) → Every (λ x. Apart o.alias x.alias) l → place_of n o.columns ≡ Some j
@@ -160,9 +165,11 @@ pub found_last : (l : Level) (ls : List Level) (o : Seen) (n : Name) (j : ℕ) �
 unfolding column_dotted
 found_last l ls o n j h p =
     let here : 0 + length l ≡ length l = omega arith in
-    ap (λ r. or_else r (nearest (λ depth level. in_item o.alias n depth 0 level) (0 + 1) ls)) (item_last o.alias n 0 0 l o j refl h p) ∙ ap (λ i. Some (hit_at 0 i false j)) here
+    ap (λ r. or_else r (nearest (λ depth level. in_item o.alias n depth 0 level) (0 + 1) ls)) (item_last o.alias n 0 0 l o j refl h p)
+    ∙ ap (λ i. Some (hit_at 0 i false j)) here
 
-unfoldable pub own_last : (k : ℕ) (l : Level) (ls : List Level) (o : Seen) (n : Name) (j : ℕ) → is_kept o.alias ≡ true → is_kept n ≡ true → Older k o.alias → Every (λ x. Apart o.alias x.alias) l
+unfoldable pub own_last : (k : ℕ) (l : Level) (ls : List Level) (o : Seen) (n : Name) (j : ℕ) → is_kept o.alias ≡ true → is_kept n ≡ true → Older k o.alias
+    → Every (λ x. Apart o.alias x.alias) l
     → slice_get o.columns j ≡ Some (Some n) → place_of n o.columns ≡ Some j → Own k ((l ++ o ∷ []) ∷ ls) (record { level = 0; item = length l; column = j })
 own_last k l ls o n j kept own_name older h there p = record {
   item = o;

@@ -1,5 +1,6 @@
 -- The query's own names are kept and differ, as long as their numbers fit a word of the machine.
-use Rattle.std.proofs.Common.{◌≡◌, refl, ap, ℕ, zero, suc, ◌+◌, ◌<◌, ◌≤◌, ◌^◌, true, false, List, [], ◌∷◌, ◌++◌, map, length, get_or, Some, codes, decimal, arith, eq-eqb}
+use Rattle.std.proofs.Common.{◌≡◌, refl, ap, ℕ, zero, suc, ◌+◌, ◌<◌, ◌≤◌, ◌^◌, true, false, List}
+use Rattle.std.proofs.Common.{[], ◌∷◌, ◌++◌, map, length, get_or, Some, codes, decimal, arith, eq-eqb}
 use Rattle.std.specs.Prelude.{nat_eq, slice_get}
 use Rattle.std.proofs.lemmas.Fmt.{decimal_injective}
 use Rattle.std.proofs.lemmas.List.{append_cancel_left}
@@ -7,7 +8,8 @@ use Rattle.away_names.specs.Lookups.{Name, is_kept}
 use Rattle.call_law.proofs.Labels.{element_there}
 use Rattle.sql_meaning.specs.Template.{count_from}
 use Rattle.dotted_names.proofs.Gives.{Every}
-use Rattle.template_parts.specs.Names.{table_name, step_name, only_name, go_name, label_name, result_name, fault_name, alias_name, column_name, value_names, row_names}
+use Rattle.template_parts.specs.Names.{table_name, step_name, only_name, go_name, label_name, result_name}
+use Rattle.template_parts.specs.Names.{fault_name, alias_name, column_name, value_names, row_names}
 use Rattle.template_names.proofs.Differences.{Apart, AllApart, every_both, every_at}
 
 -- names with another sixth letter after `away_` differ

@@ -1,5 +1,6 @@
 -- What stands beside a key or a slot is what one of the passed names stands for.
-use Rattle.std.proofs.Common.{◌≡◌, refl, sym, subst, ℕ, zero, suc, Bool, true, false, cond, if◌then◌else◌, List, [], ◌∷◌, map, length, Option, Some, None, arith}
+use Rattle.std.proofs.Common.{◌≡◌, refl, sym, subst, ℕ, zero, suc, Bool, true, false, cond, if◌then◌else◌}
+use Rattle.std.proofs.Common.{List, [], ◌∷◌, map, length, Option, Some, None, arith}
 use Rattle.std.specs.Prelude.{nat_eq, slice_get}
 use Rattle.std.proofs.lemmas.Bool.{eqb-false, ne_eqb}
 use Rattle.std.proofs.lemmas.Option.{same_Some}
@@ -25,26 +26,31 @@ among_rest x xs n h other = by h.place h.there
     by zero e = absurd (eqb-false x n other (same_Some x n e))
     by (suc i) e = record { place = i; there = e }
 
-pub paired_holds : {A : Type 0} (P : A → Type 0) (f : Scope A) (d : A) (keys names : List ℕ) (n : ℕ) → length names ≡ length keys → ((m : ℕ) → Among names m → P (f m))
+pub paired_holds : {A : Type 0} (P : A → Type 0) (f : Scope A) (d : A) (keys names : List ℕ) (n : ℕ) → length names ≡ length keys
+    → ((m : ℕ) → Among names m → P (f m))
     → Among keys n → P (paired f d keys names n)
 paired_holds P f d [] names n long h among = absurd (let e : None ≡ Some n = among.there in cc)
 paired_holds P f d (k ∷ keys) [] n long h among = absurd (omega (arith, long))
 paired_holds P f d (k ∷ keys) (m ∷ names) n long h among =
-    by (nat_eq k n) refl (λ other. paired_holds P f d keys names n (omega (arith, long)) (λ x a. h x (among_more m names x a)) (among_rest k keys n among other))
+    by (nat_eq k n) refl
+    (λ other. paired_holds P f d keys names n (omega (arith, long)) (λ x a. h x (among_more m names x a)) (among_rest k keys n among other))
   where
     by : (b : Bool) → nat_eq k n ≡ b → (nat_eq k n ≡ false → P (paired f d keys names n)) → P (if nat_eq k n then f m else paired f d keys names n)
     by true e rest = subst (λ b. P (if b then f m else paired f d keys names n)) (sym e) (h m (among_first m names))
     by false e rest = subst (λ b. P (if b then f m else paired f d keys names n)) (sym e) (rest e)
 
-pub slot_holds : (P : Col → Type 0) (f : ℕ → Col) (other : Col) (slots names : List ℕ) (i : ℕ) → length names ≡ length slots → ((m : ℕ) → Among names m → P (f m))
+pub slot_holds : (P : Col → Type 0) (f : ℕ → Col) (other : Col) (slots names : List ℕ) (i : ℕ) → length names ≡ length slots
+    → ((m : ℕ) → Among names m → P (f m))
     → Among slots i → P (column_beside slots (map f names) other i)
 unfolding column_beside
 slot_holds P f other [] names i long h among = absurd (let e : None ≡ Some i = among.there in cc)
 slot_holds P f other (k ∷ slots) [] i long h among = absurd (omega (arith, long))
 slot_holds P f other (k ∷ slots) (m ∷ names) i long h among =
-    by (nat_eq k i) refl (λ apart. slot_holds P f other slots names i (omega (arith, long)) (λ x a. h x (among_more m names x a)) (among_rest k slots i among apart))
+    by (nat_eq k i) refl
+    (λ apart. slot_holds P f other slots names i (omega (arith, long)) (λ x a. h x (among_more m names x a)) (among_rest k slots i among apart))
   where
-    by : (b : Bool) → nat_eq k i ≡ b → (nat_eq k i ≡ false → P (column_beside slots (map f names) other i)) → P (if nat_eq k i then f m else column_beside slots (map f names) other i)
+    by : (b : Bool) → nat_eq k i ≡ b → (nat_eq k i ≡ false → P (column_beside slots (map f names) other i))
+        → P (if nat_eq k i then f m else column_beside slots (map f names) other i)
     by true e rest = subst (λ b. P (if b then f m else column_beside slots (map f names) other i)) (sym e) (h m (among_first m names))
     by false e rest = subst (λ b. P (if b then f m else column_beside slots (map f names) other i)) (sym e) (rest e)
 

@@ -1,5 +1,6 @@
 -- The items of a select while it is written: each is clear behind those before it, their aliases differ, and each name in use stands at a column in sight.
-use Rattle.std.proofs.Common.{◌≡◌, refl, ap, sym, ◌∙◌, subst, ℕ, suc, ◌+◌, ◌<◌, ◌≤◌, ◌^◌, true, List, [], ◌∷◌, ◌++◌, map, length, Some, option_map, length-append, append_assoc, append-nil, arith}
+use Rattle.std.proofs.Common.{◌≡◌, refl, ap, sym, ◌∙◌, subst, ℕ, suc, ◌+◌, ◌<◌, ◌≤◌, ◌^◌, true, List, [], ◌∷◌}
+use Rattle.std.proofs.Common.{◌++◌, map, length, Some, option_map, length-append, append_assoc, append-nil, arith}
 use Rattle.std.specs.Prelude.{slice_get}
 use Rattle.std.proofs.lemmas.List.{map-append}
 use Rattle.std.proofs.lemmas.Option.{slice_get-map}
@@ -78,7 +79,8 @@ pub every_later : (k j : ℕ) (level : Level) → k ≤ j → Every (λ (o : See
 every_later k j [] le h = tt
 every_later k j (o ∷ level) le h = (older_later k j o.alias le h.0, every_later k j level le h.1)
 
-unfoldable pub begun : (k j depth : ℕ) (s : Scope) (fs : List FromItem) (names : List ℕ) (places : scopes.Scope Place) → k ≤ j → (h : Sighted k depth s fs names places)
+unfoldable pub begun : (k j depth : ℕ) (s : Scope) (fs : List FromItem) (names : List ℕ) (places : scopes.Scope Place) → k ≤ j
+    → (h : Sighted k depth s fs names places)
     → Sighted j (suc depth) (inside h.level s) [] names places
 begun k j depth s fs names places le h = record {
   level = [];
@@ -96,7 +98,8 @@ begun k j depth s fs names places le h = record {
 
 -- ---- one more item
 
-module _ (k depth : ℕ) (s : Scope) (fs : List FromItem) (names : List ℕ) (places : scopes.Scope Place) (fits : k < 2 ^ 64) (h : Sighted k depth s fs names places)
+module _ (k depth : ℕ) (s : Scope) (fs : List FromItem) (names : List ℕ) (places : scopes.Scope Place) (fits : k < 2 ^ 64)
+    (h : Sighted k depth s fs names places)
     (x : Name) (xs : List Name) (q : Query) where
   abbrev new : FromItem
   new = lateral_as (alias_name k) (x ∷ xs) q
@@ -119,9 +122,11 @@ module _ (k depth : ℕ) (s : Scope) (fs : List FromItem) (names : List ℕ) (pl
     seen_is = seen_more s.levels fs new ∙ (λ i. h.seen_is i ++ lateral_seen (alias_name k) x xs q s.levels (dotted_from s.levels fs).seen i ∷ []);
     as_many = length-append h.level (as_seen ∷ []) ∙ (ap (λ n. n + 1) h.as_many ∙ sym (length-append fs (new ∷ [])));
     aliases_are =
-        map-append (λ f. (out-FromItem f).alias) fs (new ∷ []) ∙ (ap (λ ns. ns ++ alias_name k ∷ []) h.aliases_are ∙ sym (map-append (λ o. o.alias) h.level (as_seen ∷ [])));
+        map-append (λ f. (out-FromItem f).alias) fs (new ∷ [])
+        ∙ (ap (λ ns. ns ++ alias_name k ∷ []) h.aliases_are ∙ sym (map-append (λ o. o.alias) h.level (as_seen ∷ [])));
     apart = subst AllApart (sym (map-append (λ o. o.alias) h.level (as_seen ∷ [])))
-        (apart_more (aliases_of h.level) (alias_name k) h.apart (every_map (λ (o : Seen). Older k o.alias) (λ m. Apart m (alias_name k)) (λ o. o.alias) h.level apart_from h.older));
+        (apart_more (aliases_of h.level) (alias_name k) h.apart
+        (every_map (λ (o : Seen). Older k o.alias) (λ m. Apart m (alias_name k)) (λ o. o.alias) h.level apart_from h.older));
     older = every_both (λ (o : Seen). Older (suc k) o.alias) h.level (as_seen ∷ []) (every_later k (suc k) h.level (omega arith) h.older) (new_older, tt);
     clear = λ gs rest.
         subst (λ zs. IsClear (from_items []) s zs) (sym (append_assoc fs (new ∷ []) gs))

@@ -45,7 +45,8 @@ called_silent s n = both_silent (written s n) _ (written_silent s n) (breaks_sil
 
 pub part_silent : (s : Scope) (alias : Name) (columns : List Name) → IsSilent (part_note s alias columns)
 unfolding part_note
-part_silent s alias columns = both_silent (written s alias) _ (written_silent s alias) (both_silent (all_written s columns) _ (all_silent s columns) (breaks_silent 6 _))
+part_silent s alias columns =
+    both_silent (written s alias) _ (written_silent s alias) (both_silent (all_written s columns) _ (all_silent s columns) (breaks_silent 6 _))
 
 pub table_silent : IsSilent (once_where false)
 unfolding once_where
@@ -61,6 +62,7 @@ more_silent f g a (x ∷ xs) h e = more_silent f g (added a (f (g x))) xs (both_
 pub each_silent : {A B X : Type 0} (f : A → Named B) (g : X → A) (xs : List X) → Every (λ x. IsSilent (f (g x)).note) xs → IsSilent (each f (map g xs)).note
 each_silent f g xs e = more_silent f g (pure []) xs clean_silent e
 
-pub held_silent : {A B X : Type 0} (f : A → Named B) (g : X → A) (o : Option X) → EveryOption (λ x. IsSilent (f (g x)).note) o → IsSilent (held f (option_map g o)).note
+pub held_silent : {A B X : Type 0} (f : A → Named B) (g : X → A) (o : Option X) → EveryOption (λ x. IsSilent (f (g x)).note) o
+    → IsSilent (held f (option_map g o)).note
 held_silent f g None e = clean_silent
 held_silent f g (Some x) e = e

@@ -53,12 +53,14 @@ rows_silent s = by s _ _ _ (d.countrows_is s.levels) (r.countrows_is s) clean_si
 pub param_silent : (s : Scope) (i : ℕ) (t : Ty) → Silent s (expr.Param i t)
 param_silent s i t = by s _ _ _ (d.param_is i t s.levels) (r.param_is i t s) (breaks_silent 7 s.in_function)
 
-pub column_silent : (s : Scope) (c : Col) (a x : Name) → spoken s.levels c ≡ expr.Dotted a x → column_dotted a x s.levels ≡ Some (record { column = c; many = false }) → Silent s (expr.Column c)
+pub column_silent : (s : Scope) (c : Col) (a x : Name) → spoken s.levels c ≡ expr.Dotted a x
+    → column_dotted a x s.levels ≡ Some (record { column = c; many = false }) → Silent s (expr.Column c)
 unfolding n.dotted n.dotted_by
 column_silent s c a x is found =
     by s _ _ _ (d.column_is c s.levels ∙ is)
     (r.dotted_is a x s ∙ ap (λ (o : Option Hit). also (joined (n.written s a) (n.written s x)) (n.dotted_by a x o)) found)
-    (both_silent (joined (n.written s a) (n.written s x)) clean (both_silent (n.written s a) (n.written s x) (written_silent s a) (written_silent s x)) clean_silent)
+    (both_silent (joined (n.written s a) (n.written s x)) clean
+    (both_silent (n.written s a) (n.written s x) (written_silent s a) (written_silent s x)) clean_silent)
 
 -- ---- one part
 
@@ -83,28 +85,34 @@ every_link : (s : Scope) (ls : List (ChainOp × Expr)) → Every (λ l. Silent s
 every_link s [] h = tt
 every_link s (l ∷ ls) h = (h.0, every_link s ls h.1)
 
-every_arm : (s : Scope) (as_ : List (Expr × Expr)) → Every (λ a. Silent s a.0 × Silent s a.1) as_ → Every (λ a. IsSilent (named_arm s (dotted_arm s.levels a)).note) as_
+every_arm : (s : Scope) (as_ : List (Expr × Expr)) → Every (λ a. Silent s a.0 × Silent s a.1) as_
+    → Every (λ a. IsSilent (named_arm s (dotted_arm s.levels a)).note) as_
 every_arm s [] h = tt
-every_arm s (a ∷ as_) h = (both_silent (named_expr (dotted_expr a.0 s.levels) s).note (named_expr (dotted_expr a.1 s.levels) s).note h.0.0 h.0.1, every_arm s as_ h.1)
+every_arm s (a ∷ as_) h =
+    (both_silent (named_expr (dotted_expr a.0 s.levels) s).note (named_expr (dotted_expr a.1 s.levels) s).note h.0.0 h.0.1, every_arm s as_ h.1)
 
 abbrev note_of : Scope → Expr → Note
 note_of s x = (named_expr (dotted_expr x s.levels) s).note
 
 pub chain_silent : (s : Scope) (x : Expr) (ls : List (ChainOp × Expr)) → Silent s x → Every (λ l. Silent s l.1) ls → Silent s (expr.Chain x ls)
 chain_silent s x ls h k =
-    by s _ _ _ (d.chain_is x ls s.levels) (r.chain_is _ _ s) (both_silent (note_of s x) _ h (each_silent (named_link s) (dotted_link s.levels) ls (every_link s ls k)))
+    by s _ _ _ (d.chain_is x ls s.levels) (r.chain_is _ _ s)
+    (both_silent (note_of s x) _ h (each_silent (named_link s) (dotted_link s.levels) ls (every_link s ls k)))
 
 pub compare_silent : (s : Scope) (op : CmpOp) (x y : Expr) → Silent s x → Silent s y → Silent s (expr.Compare op x y)
 compare_silent s op x y h k = by s _ _ _ (d.compare_is op x y s.levels) (r.compare_is op _ _ s) (both_silent (note_of s x) (note_of s y) h k)
 
 pub between_silent : (s : Scope) (v : Bool) (x y z : Expr) → Silent s x → Silent s y → Silent s z → Silent s (expr.Between v x y z)
 between_silent s v x y z h k l =
-    by s _ _ _ (d.between_is v x y z s.levels) (r.between_is v _ _ _ s) (both_silent (note_of s x) (joined (note_of s y) (note_of s z)) h (both_silent (note_of s y) (note_of s z) k l))
+    by s _ _ _ (d.between_is v x y z s.levels) (r.between_is v _ _ _ s)
+    (both_silent (note_of s x) (joined (note_of s y) (note_of s z)) h (both_silent (note_of s y) (note_of s z) k l))
 
 pub oneof_silent : (s : Scope) (v : Bool) (x : Expr) (es : List Expr) → Silent s x → Every (Silent s) es → Silent s (expr.OneOf v x es)
-oneof_silent s v x es h k = by s _ _ _ (d.oneof_is v x es s.levels) (r.oneof_is v _ _ s) (both_silent (note_of s x) _ h (each_silent (named_in s) (dotted_in s.levels) es k))
+oneof_silent s v x es h k =
+    by s _ _ _ (d.oneof_is v x es s.levels) (r.oneof_is v _ _ s) (both_silent (note_of s x) _ h (each_silent (named_in s) (dotted_in s.levels) es k))
 
-pub cases_silent : (s : Scope) (as_ : List (Expr × Expr)) (o : Option Expr) → Every (λ a. Silent s a.0 × Silent s a.1) as_ → EveryOption (Silent s) o → Silent s (expr.Cases as_ o)
+pub cases_silent : (s : Scope) (as_ : List (Expr × Expr)) (o : Option Expr) → Every (λ a. Silent s a.0 × Silent s a.1) as_ → EveryOption (Silent s) o
+    → Silent s (expr.Cases as_ o)
 cases_silent s as_ o h k =
     by s _ _ _ (d.cases_is as_ o s.levels) (r.cases_is _ _ s)
     (both_silent (each (named_arm s) (map (dotted_arm s.levels) as_)).note (held (named_in s) (option_map (dotted_in s.levels) o)).note
@@ -113,7 +121,8 @@ cases_silent s as_ o h k =
 pub call_silent : (s : Scope) (name : Name) (es : List Expr) → Every (Silent s) es → Silent s (expr.Call name es)
 call_silent s name es k =
     by s _ _ _ (d.call_is name es s.levels) (r.call_is name _ s)
-    (both_silent (n.called s name) (each (named_in s) (map (dotted_in s.levels) es)).note (called_silent s name) (each_silent (named_in s) (dotted_in s.levels) es k))
+    (both_silent (n.called s name) (each (named_in s) (map (dotted_in s.levels) es)).note (called_silent s name)
+    (each_silent (named_in s) (dotted_in s.levels) es k))
 
 pub scalar_silent : (s : Scope) (q : Query) → SilentQuery s q → Silent s (expr.Scalar q)
 scalar_silent s q h = by s _ _ _ (d.scalar_is q s.levels) (r.scalar_is _ s) h

@@ -11,7 +11,8 @@ use Rattle.away_trees.specs.declared.queries.Select.{Select}
 use Rattle.away_trees.specs.declared.queries.Recursive.{Recursive}
 use Rattle.away_trees.specs.declared.queries.Query.{Query}
 use Rattle.away_trees.specs.declared.queries.Expr.TheOpen.{Select-F, Query-F}
-use Rattle.away_trees.specs.declared.queries.Expr.TheViews.{out-Item, out-FromItem, roll-Item, roll-FromItem, roll-Key, roll-Select, roll-Query, out-roll-Select, out-roll-Query}
+use Rattle.away_trees.specs.declared.queries.Expr.TheViews.{out-Item, out-FromItem, roll-Item, roll-FromItem, roll-Key}
+use Rattle.away_trees.specs.declared.queries.Expr.TheViews.{roll-Select, roll-Query, out-roll-Select, out-roll-Query}
 use Rattle.away_names.specs.declared.note.Note.{Note}
 use Rattle.away_names.specs.declared.note.Named.{Named}
 use Rattle.away_names.specs.declared.note.Shown.{Shown}
@@ -30,11 +31,13 @@ use Rattle.away_names.specs.NamingLists.{named_in, named_items, named_key_in, na
 use Rattle.away_names.proofs.NamingRules as r
 use Rattle.dotted_names.specs.Sight.{Sight}
 use Rattle.dotted_names.specs.Dotting as dot
-use Rattle.dotted_names.specs.Trees.{dotted_expr, dotted_in, dotted_item, dotted_items, dotted_key, dotted_keys, dotted_part, dotted_from, dotted_over, dotted_select, dotted_selects, dotted_shown, dotted_recursive}
+use Rattle.dotted_names.specs.Trees.{dotted_expr, dotted_in, dotted_item, dotted_items, dotted_key, dotted_keys, dotted_part}
+use Rattle.dotted_names.specs.Trees.{dotted_from, dotted_over, dotted_select, dotted_selects, dotted_shown, dotted_recursive}
 use Rattle.dotted_names.proofs.DottingRules as d
 use Rattle.dotted_names.proofs.Gives.{Every, EveryOption, clean_quiet}
 use Rattle.dotted_names.proofs.BackQueries.{BackPart, BackFrom, ReadsFrom, from_is, framed_so, parts, all_items}
-use Rattle.template_names.proofs.Silence.{IsSilent, clean_silent, both_silent, breaks_silent, written_silent, maybe_silent, part_silent, table_silent, each_silent, held_silent}
+use Rattle.template_names.proofs.Silence.{IsSilent, clean_silent, both_silent, breaks_silent, written_silent}
+use Rattle.template_names.proofs.Silence.{maybe_silent, part_silent, table_silent, each_silent, held_silent}
 use Rattle.template_names.proofs.SilentExpressions.{Silent, SilentQuery}
 
 -- ---- items of a list and keys
@@ -47,7 +50,8 @@ item_silent s x alias h =
     let w : Expr = dotted_expr x s.levels in
     let i : Item = roll-Item (record { expr = x; alias = alias }) in
     ap (λ (c : Column). (named_item c.it s).note.refers) (d.item_rule i s.levels)
-    ∙ (ap (λ (z : Named Column). z.note.refers) (r.item_rule (roll-Item (record { expr = w; alias = alias })) s) ∙ both_silent (n.maybe_written s alias) (named_expr w s).note (maybe_silent s alias) h)
+    ∙ (ap (λ (z : Named Column). z.note.refers) (r.item_rule (roll-Item (record { expr = w; alias = alias })) s)
+    ∙ both_silent (n.maybe_written s alias) (named_expr w s).note (maybe_silent s alias) h)
 
 more_items : (s : Scope) (a : Named (Shown (List Item))) (list : List Item) → IsSilent a.note → Every (SilentItem s) list
     → IsSilent (fold (λ a i. n.with_item a (named_item i s)) a (map (λ c. c.it) (map (λ i. dotted_item i s.levels) list))).note
@@ -69,7 +73,8 @@ key_silent s x descending h aliases =
     ∙ (ap (λ (z : Named Key). z.note.refers) (r.key_rule (roll-Key (record { expr = w; descending = descending })) aliases s)
     ∙ both_silent (breaks 8 (n.is_alias aliases (alone_of w))) (named_expr w s).note (breaks_silent 8 _) h)
 
-keys_silent : (s : Scope) (aliases : List (Option Name)) (ks : List Key) → Every (SilentKey s) ks → IsSilent (each (named_key_in aliases s) (dotted_keys s.levels ks)).note
+keys_silent : (s : Scope) (aliases : List (Option Name)) (ks : List Key) → Every (SilentKey s) ks
+    → IsSilent (each (named_key_in aliases s) (dotted_keys s.levels ks)).note
 keys_silent s aliases ks e = each_silent (named_key_in aliases s) (λ k. dotted_key k s.levels) ks (every ks e)
   where
     every : (ks : List Key) → Every (SilentKey s) ks → Every (λ k. IsSilent (named_key (dotted_key k s.levels) aliases s).note) ks
@@ -81,7 +86,8 @@ keys_silent s aliases ks e = each_silent (named_key_in aliases s) (λ k. dotted_
 abbrev pub SilentPart : Scope → Level → FromItem → Type 0
 SilentPart s level f = IsSilent (named_part (dotted_part f s.levels level).item s level).note
 
-pub table_part_silent : (s : Scope) (level : Level) (name alias : Name) (columns : List Name) (recursive : Bool) → s.table name ≡ Some (record { written = columns; recursive = recursive }) → recursive ≡ false
+pub table_part_silent : (s : Scope) (level : Level) (name alias : Name) (columns : List Name) (recursive : Bool)
+    → s.table name ≡ Some (record { written = columns; recursive = recursive }) → recursive ≡ false
     → SilentPart s level (roll-FromItem (record { source = source.Table name; alias = alias; columns = columns }))
 unfolding n.of_table
 table_part_silent s level name alias columns recursive found plain =
@@ -98,7 +104,8 @@ table_part_silent s level name alias columns recursive found plain =
     (both_silent (n.written s name) (n.once_where false) (written_silent s name) table_silent))
 
 pub sub_silent : (s : Scope) (level : Level) (q : Query) (alias : Name) (columns : List Name) (lateral : Bool)
-    → SilentQuery (inside (n.before lateral level) s) q → SilentPart s level (roll-FromItem (record { source = source.Sub q lateral; alias = alias; columns = columns }))
+    → SilentQuery (inside (n.before lateral level) s) q
+    → SilentPart s level (roll-FromItem (record { source = source.Sub q lateral; alias = alias; columns = columns }))
 sub_silent s level q alias columns lateral h =
     let f : FromItem = roll-FromItem (record { source = source.Sub q lateral; alias = alias; columns = columns }) in
     let x : Shown Query = dotted_shown q (n.before lateral level ∷ s.levels) in
@@ -136,15 +143,19 @@ aliases from = map (λ f. (out-FromItem f).alias) from
 
 -- a select by its parts
 abbrev pub read_so : Fields → Scope → Named (Shown Select)
-read_so x s = also (joined (breaks 6 (has_double (aliases x.from))) (named_from s x.from).note) (named_over x (inside (named_from s x.from).it.seen s) (named_from s x.from).it.items)
+read_so x s =
+    also (joined (breaks 6 (has_double (aliases x.from))) (named_from s x.from).note)
+    (named_over x (inside (named_from s x.from).it.seen s) (named_from s x.from).it.items)
 
 pub named_fields : (x : Fields) (s : Scope) → named_select (roll-Select x) s ≡ read_so x s
 named_fields x s = r.select_rule (roll-Select x) s ∙ ap (λ (x : Fields). read_so x s) (out-roll-Select x)
 
 pub dotted_fields : (x : Fields) (s : Sight) → dotted_select (roll-Select x) s ≡ dotted_over x ((dotted_from s x.from).seen ∷ s) (dotted_from s x.from).items
-dotted_fields x s = d.select_rule (roll-Select x) s ∙ ap (λ (x : Fields). dotted_over x ((dotted_from s x.from).seen ∷ s) (dotted_from s x.from).items) (out-roll-Select x)
+dotted_fields x s =
+    d.select_rule (roll-Select x) s ∙ ap (λ (x : Fields). dotted_over x ((dotted_from s x.from).seen ∷ s) (dotted_from s x.from).items) (out-roll-Select x)
 
-pub from_read : (s : Scope) (from : List FromItem) → BackFrom s [] from → ReadsFrom (named_from s (dotted_from s.levels from).items) from (dotted_from s.levels from).seen
+pub from_read : (s : Scope) (from : List FromItem) → BackFrom s [] from
+    → ReadsFrom (named_from s (dotted_from s.levels from).items) from (dotted_from s.levels from).seen
 from_read s from h = subst (λ (a : Framed). ReadsFrom (named_from s a.items) from a.seen) (sym (from_is s.levels from)) (h.reads [] clean clean_quiet)
 
 abbrev pub SilentSelect : Scope → Select → Type 0
@@ -157,25 +168,41 @@ pub record SilentOver (s : Scope) (list : List Item) (filter limit : Option Expr
   pub order_is : Every (SilentKey s) order
   pub limit_is : EveryOption (Silent s) limit
 
-pub over_silent : (s : Scope) (list : List Item) (from items : List FromItem) (filter limit : Option Expr) (order : List Key) → SilentOver s list filter limit order
-    → IsSilent (named_over (record { list = (dotted_items s.levels list).it; from = items; filter = option_map (dotted_in s.levels) filter; order = dotted_keys s.levels order; limit = option_map (dotted_in s.levels) limit }) s from).note
+pub over_silent : (s : Scope) (list : List Item) (from items : List FromItem) (filter limit : Option Expr) (order : List Key)
+    → SilentOver s list filter limit order
+    → IsSilent (named_over (record {
+      list = (dotted_items s.levels list).it;
+      from = items;
+      filter = option_map (dotted_in s.levels) filter;
+      order = dotted_keys s.levels order;
+      limit = option_map (dotted_in s.levels) limit;
+    }) s from).note
 over_silent s list from items filter limit order h =
     both_silent (joined (named_items s (dotted_items s.levels list).it).note (held (named_in s) (option_map (dotted_in s.levels) filter)).note) _
-    (both_silent (named_items s (dotted_items s.levels list).it).note _ (items_silent s list h.list_is) (held_silent (named_in s) (dotted_in s.levels) filter h.filter_is))
+    (both_silent (named_items s (dotted_items s.levels list).it).note _ (items_silent s list h.list_is)
+    (held_silent (named_in s) (dotted_in s.levels) filter h.filter_is))
     (both_silent (each (named_key_in (map (λ i. (out-Item i).alias) (dotted_items s.levels list).it) s) (dotted_keys s.levels order)).note _
-    (keys_silent s (map (λ i. (out-Item i).alias) (dotted_items s.levels list).it) order h.order_is) (held_silent (named_in s) (dotted_in s.levels) limit h.limit_is))
+    (keys_silent s (map (λ i. (out-Item i).alias) (dotted_items s.levels list).it) order h.order_is)
+    (held_silent (named_in s) (dotted_in s.levels) limit h.limit_is))
 
 -- the note of a select: that of its FROM, and that of what stands over it
 pub select_refers : (s : Scope) (list : List Item) (from : List FromItem) (filter limit : Option Expr) (order : List Key) → BackFrom s [] from
     → SilentOver (inside (dotted_from s.levels from).seen s) list filter limit order
-    → (named_select (dotted_select (roll-Select (record { list = list; from = from; filter = filter; order = order; limit = limit })) s.levels).it s).note.refers
+    → (named_select
+    (dotted_select (roll-Select (record { list = list; from = from; filter = filter; order = order; limit = limit })) s.levels).it s).note.refers
     ≡ (named_from s (dotted_from s.levels from).items).note.refers
 unfolding joined summed breaks
 select_refers s list from filter limit order f over =
     let fr : Framed = dotted_from s.levels from in
     let here : Scope = inside fr.seen s in
     let x : Fields = record { list = list; from = from; filter = filter; order = order; limit = limit } in
-    let y : Fields = record { list = (dotted_items here.levels list).it; from = fr.items; filter = option_map (dotted_in here.levels) filter; order = dotted_keys here.levels order; limit = option_map (dotted_in here.levels) limit } in
+    let y : Fields = record {
+      list = (dotted_items here.levels list).it;
+      from = fr.items;
+      filter = option_map (dotted_in here.levels) filter;
+      order = dotted_keys here.levels order;
+      limit = option_map (dotted_in here.levels) limit;
+    } in
     let found : Named Framed = named_from s fr.items in
     let head : Note = joined (breaks 6 (has_double (aliases fr.items))) found.note in
     let is : ReadsFrom found from fr.seen = from_read s from f in
@@ -190,7 +217,8 @@ select_refers s list from filter limit order f over =
     none_more Once = refl
     none_more Often = refl
 
-pub select_silent : (s : Scope) (list : List Item) (from : List FromItem) (filter limit : Option Expr) (order : List Key) → BackFrom s [] from → SilentFrom s [] from
+pub select_silent : (s : Scope) (list : List Item) (from : List FromItem) (filter limit : Option Expr) (order : List Key) → BackFrom s [] from
+    → SilentFrom s [] from
     → SilentOver (inside (dotted_from s.levels from).seen s) list filter limit order
     → SilentSelect s (roll-Select (record { list = list; from = from; filter = filter; order = order; limit = limit }))
 select_silent s list from filter limit order f silent over =
@@ -218,8 +246,12 @@ query_silent s xs e =
     let ys : Shown (List Select) = dotted_selects s.levels xs in
     let w : Query = roll-Query (record { recursive = None; selects = ys.it }) in
     let dotted : dotted_shown q s.levels ≡ record { it = w; names = ys.names } =
-    d.query_rule q s.levels ∙ ap (λ (x : QueryFields). dot.query_of (option_map (λ r. dotted_recursive r s.levels) x.recursive) (dotted_selects s.levels x.selects)) (out-roll-Query (record { recursive = None; selects = xs })) in
+    d.query_rule q s.levels
+    ∙ ap (λ (x : QueryFields). dot.query_of (option_map (λ r. dotted_recursive r s.levels) x.recursive) (dotted_selects s.levels x.selects))
+    (out-roll-Query (record { recursive = None; selects = xs })) in
     let read : named_query (dotted_shown q s.levels).it s ≡ also (breaks 13 false) (mapped n.query_with (named_selects s ys.it)) =
     ap (λ (x : Shown Query). named_query x.it s) dotted
-    ∙ (r.query_rule w s ∙ ap (λ (x : QueryFields). also (breaks 13 (is_some x.recursive)) (mapped n.query_with (named_selects s x.selects))) (out-roll-Query (record { recursive = None; selects = ys.it }))) in
-    ap (λ (z : Named (Shown Query)). z.note.refers) read ∙ both_silent (breaks 13 false) (named_selects s ys.it).note (breaks_silent 13 false) (selects_silent s xs e)
+    ∙ (r.query_rule w s ∙ ap (λ (x : QueryFields). also (breaks 13 (is_some x.recursive)) (mapped n.query_with (named_selects s x.selects)))
+    (out-roll-Query (record { recursive = None; selects = ys.it }))) in
+    ap (λ (z : Named (Shown Query)). z.note.refers) read
+    ∙ both_silent (breaks 13 false) (named_selects s ys.it).note (breaks_silent 13 false) (selects_silent s xs e)

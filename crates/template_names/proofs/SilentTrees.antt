@@ -80,7 +80,8 @@ NamesNone selects s xs = Every (SilentSelect s) xs
 NamesNone query s q = SilentQuery s q
 
 -- outside a function
-pub none_named : {n : Sort} {s : Scope} {t : Tree n} → (tables : Tables) → Extends s.table tables → s.in_function ≡ false → IsClear n s t → NamesNone n (wide tables s) t
+pub none_named : {n : Sort} {s : Scope} {t : Tree n} → (tables : Tables) → Extends s.table tables → s.in_function ≡ false → IsClear n s t
+    → NamesNone n (wide tables s) t
 none_named ts h out (c.int x) = e.int_silent _ x
 none_named ts h out (c.str x) = e.str_silent _ x
 none_named ts h out (c.bool x) = e.bool_silent _ x
@@ -113,10 +114,12 @@ none_named ts h out c.no_item = tt
 none_named ts h out (c.one_item alias k l) = (q.item_silent _ _ alias (none_named ts h out k), none_named ts h out l)
 none_named ts h out c.no_key = tt
 none_named ts h out (c.one_key descending k l) = (q.key_silent _ _ descending (none_named ts h out k), none_named ts h out l)
-none_named ts h out (c.table name alias columns recursive found) = q.table_part_silent _ _ name alias columns recursive (h.same name _ found) (h.plain name _ found)
+none_named ts h out (c.table name alias columns recursive found) =
+    q.table_part_silent _ _ name alias columns recursive (h.same name _ found) (h.plain name _ found)
 none_named ts h out (c.subquery alias columns lateral differ k) = q.sub_silent _ _ _ alias columns lateral (none_named ts h out k)
 none_named ts h out c.no_from = λ before note silent. silent
-none_named ts h out (c.one_from {level = level} {f = f} {fs = fs} k l) = q.one_from_silent _ level f fs (back out (widened ts h k)) (none_named ts h out k) (none_named ts h out l)
+none_named ts h out (c.one_from {level = level} {f = f} {fs = fs} k l) =
+    q.one_from_silent _ level f fs (back out (widened ts h k)) (none_named ts h out k) (none_named ts h out l)
 none_named ts h out (c.whole differ f l w o m) =
     q.select_silent _ _ _ _ _ _ (back out (widened ts h f)) (none_named ts h out f)
     (record { list_is = none_named ts h out l; filter_is = none_named ts h out w; order_is = none_named ts h out o; limit_is = none_named ts h out m })

@@ -12,7 +12,8 @@ use Rattle.away_trees.specs.declared.queries.Select.{Select}
 use Rattle.away_trees.specs.declared.queries.Recursive.{Recursive}
 use Rattle.away_trees.specs.declared.queries.Query.{Query}
 use Rattle.away_trees.specs.declared.queries.Expr.TheOpen.{Recursive-F, Query-F}
-use Rattle.away_trees.specs.declared.queries.Expr.TheViews.{out-Recursive, out-Query, roll-FromItem, roll-Recursive, roll-Query, out-roll-Recursive, out-roll-Query}
+use Rattle.away_trees.specs.declared.queries.Expr.TheViews.{out-Recursive, out-Query, roll-FromItem, roll-Recursive}
+use Rattle.away_trees.specs.declared.queries.Expr.TheViews.{roll-Query, out-roll-Recursive, out-roll-Query}
 use Rattle.away_trees.specs.declared.schemas.Schema.{Schema}
 use Rattle.away_trees.specs.declared.schemas.TableSchema.{TableSchema}
 use Rattle.away_names.specs.declared.note.File.{File}
@@ -53,7 +54,8 @@ sees_plain schema = record { tables = λ n free. ap (λ b. if b then None else t
 none_recursive : (n : Name) (place : ℕ) (before : Option Listed) (ts : List TableSchema) (x : Listed) → ((y : Listed) → before ≡ Some y → y.recursive ≡ false)
     → found_from n place before ts ≡ Some x → x.recursive ≡ false
 none_recursive n place before [] x h e = h x e
-none_recursive n place before (t ∷ ts) x h e = none_recursive n (place + 1) (if bytes_eq t.name n then Some (listed place t) else before) ts x (by (bytes_eq t.name n)) e
+none_recursive n place before (t ∷ ts) x h e =
+    none_recursive n (place + 1) (if bytes_eq t.name n then Some (listed place t) else before) ts x (by (bytes_eq t.name n)) e
   where
     by : (b : Bool) (y : Listed) → (if b then Some (listed place t) else before) ≡ Some y → y.recursive ≡ false
     by true y e = ap (λ (y : Listed). y.recursive) (sym (same_Some (listed place t) y e))
@@ -91,7 +93,8 @@ module _ (schema : Schema) (w : ℕ) where
       let columns : List Name = decimal tables ∷ row_names w in
       let bare : FromItem = roll-FromItem (record { source = source.Table table_name; alias = table_name; columns = [] }) in
       let note = n.part_note outside table_name [] in
-      ap (λ (p : Part). (named_part p.item outside level).note.refers) (d.part_rule (working tables w) [] level ∙ ap (n.shaped table_name) (d.table_is table_name columns [] level))
+      ap (λ (p : Part). (named_part p.item outside level).note.refers)
+      (d.part_rule (working tables w) [] level ∙ ap (n.shaped table_name) (d.table_is table_name columns [] level))
       ∙ (ap (λ (z : Named Part). z.note.refers)
       (r.part_rule bare outside level ∙ ap (λ (o : Named Origin). also note (mapped (n.shaped table_name) o)) (r.table_is table_name [] outside level))
       ∙ (λ i. summed (part_silent outside table_name [] i) (summed (written_silent outside table_name i) Once)))
@@ -106,7 +109,9 @@ QueryFields = Query-F Expr Source FromItem Item Key Query Recursive Select
 
 module _ (schema : Schema) (part : File → Times) where
   abbrev sees : Fields → Scope
-  sees o = under schema (table_before (Some (record { name = o.name; table = record { written = decimal (length schema.tables) ∷ o.columns; recursive = true } })) (table_of schema))
+  sees o =
+      under schema (table_before (Some (record { name = o.name; table = record { written = decimal (length schema.tables) ∷ o.columns; recursive = true } }))
+      (table_of schema))
 
   -- a query behind the terms of a recursive table, by their parts
   abbrev filed : List Select → Fields → File
@@ -115,7 +120,11 @@ module _ (schema : Schema) (part : File → Times) where
       let second = named_select o.second (sees o) in
       let selects = named_selects (sees o) ys in
       record {
-        query = roll-Query (record { recursive = Some (roll-Recursive (record { name = o.name; columns = o.columns; first = first.it.it; second = second.it.it })); selects = selects.it.it });
+        query =
+            roll-Query (record {
+              recursive = Some (roll-Recursive (record { name = o.name; columns = o.columns; first = first.it.it; second = second.it.it }));
+              selects = selects.it.it;
+            });
         first = first.note;
         second = second.note;
         note = joined (joined (breaks 6 (has_double o.columns)) (joined first.note second.note)) selects.note;
@@ -128,7 +137,8 @@ module _ (schema : Schema) (part : File → Times) where
   query_with_names x = record { recursive = option_map (λ r. dotted_recursive r []) x.recursive; selects = (dotted_selects [] x.selects).it }
 
   pub terms_of_file : (o : Fields) (xs : List Select)
-      → part (file schema (dotted (roll-Query (record { recursive = Some (roll-Recursive o); selects = xs })))) ≡ part (filed (dotted_selects [] xs).it (with_names o))
+      → part (file schema (dotted (roll-Query (record { recursive = Some (roll-Recursive o); selects = xs }))))
+      ≡ part (filed (dotted_selects [] xs).it (with_names o))
   unfolding file
   terms_of_file o xs =
       let x : QueryFields = record { recursive = Some (roll-Recursive o); selects = xs } in

@@ -5,10 +5,10 @@ use Rattle.away_trees.specs.declared.statements.Function.{Function}
 use Rattle.away_types.specs.CheckedFunctions.{IsChecked}
 use Rattle.away_types.specs.declared.slots.Slot.{Slot}
 use Rattle.block_forms.specs.Expressions.{expressions}
-use Rattle.cte_template.specs.Making.{Making}
+use Rattle.cte_template.specs.Making.{Making, making_of}
 use Rattle.template_parts.specs.Names.{row_names}
 use Rattle.placed_names.proofs.Entries.{placed_are_clear}
-use Rattle.template_names.specs.Laws.{TreeIsClear, making_of}
+use Rattle.template_names.specs.Laws.{TreeIsClear}
 use Rattle.template_names.proofs.BodiesClear.{TableClears}
 use Rattle.template_names.proofs.BranchesClear.{rows_clear, start_clear}
 use Rattle.template_names.proofs.FilesClear.{beside_working, sees_beside, tree_clear}

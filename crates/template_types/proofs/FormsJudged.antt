@@ -33,13 +33,12 @@ use Rattle.call_forms.specs.Template.{entry_place}
 use Rattle.call_forms.specs.TailRuns.{label_or}
 use Rattle.call_forms.specs.Templated.{HasTree, types_of, type_or_bigint}
 use Rattle.call_law.proofs.Labels.{place_found, placed}
-use Rattle.cte_template.specs.Making.{Making}
+use Rattle.cte_template.specs.Making.{Making, making_of}
 use Rattle.cte_template.specs.Tree.{tree}
 use Rattle.cte_template.specs.Walks.{keys_of}
 use Rattle.typed_forms.specs.Typed.{HasKind, NoIntegers, BlockHasTypes, BlockKeepsTypes}
 use Rattle.template_types.specs.Laws.{HasNoParameter}
 use Rattle.template_types.specs.Linked.{IsLinked}
-use Rattle.template_types.specs.Whole.{making_of}
 use Rattle.template_types.proofs.BodyTypes.{FillsCells, LabelFits, at_label_fits, own_cells, body_typed}
 use Rattle.typed_values.specs.Sorts.{Every}
 use Rattle.template_types.proofs.JudgedTree.{judged_clean}

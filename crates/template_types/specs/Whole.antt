@@ -19,15 +19,10 @@ use Rattle.call_forms.specs.declared.forms.Tail.{Tail}
 use Rattle.call_forms.specs.Called.{Called}
 use Rattle.call_forms.specs.Columned.{Columned}
 use Rattle.call_forms.specs.Merged.{Merged}
-use Rattle.call_forms.specs.Templated.{types_of}
-use Rattle.cte_template.specs.Making.{Making}
+use Rattle.cte_template.specs.Making.{making_of}
 use Rattle.cte_template.specs.Tree.{tree}
 use Rattle.typed_forms.specs.Typed.{HasKind, NoIntegers}
 use Rattle.template_types.specs.Linked.{IsLinked}
-
--- what the query of a function's forms is made of
-abbrev pub making_of : Function → List Slot → Ssa → Anf → Tail → Making
-making_of f slots z a r = record { table = expressions f; types = types_of slots z; result = f.result; anf = a; tail = r }
 
 -- What is asked of a function and its columns beside their relations: no integers of 32 bits and no chain without links, which no reader makes, and tables
 -- whose number fits a place.
