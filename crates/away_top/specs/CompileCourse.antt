@@ -1,12 +1,12 @@
 -- `compile SCHEMA FUNC` and `certify SCHEMA FUNC`: the query of a function is written, alone or behind a certificate.
-use Rattle.std.specs.Prelude.{◌≡◌, ◌≢◌, ℕ, List, ◌∷◌, ◌++◌, codes}
+use Rattle.std.specs.Prelude.{◌≡◌, ℕ, List, ◌∷◌, ◌++◌, codes}
 use Rattle.away_trees.specs.declared.queries.Query.{Query as QueryTree}
 use Rattle.away_trees.specs.declared.schemas.Schema.{Schema}
 use Rattle.away_trees.specs.declared.statements.Function.{Function}
 use Rattle.away_types.specs.CheckedFunctions.{IsChecked}
 use Rattle.away_types.specs.CheckedQueries.{resolved_query}
-use Rattle.block_forms.specs.Places.{Each}
 use Rattle.cert_json.specs.Certificates.{Reads}
+use Rattle.cert_json.specs.Lines.{IsLine}
 use Rattle.cert_json.specs.declared.cert.Cert.{Cert}
 use Rattle.compiling.specs.Compiled.{IsCompiled}
 use Rattle.equivalence.specs.Accepted.{EquivalentWith}
@@ -16,10 +16,6 @@ use Rattle.away_top.specs.declared.status.Status.{Status}
 use Rattle.away_top.specs.declared.status.Status.TheVariants.{Done}
 use Rattle.away_top.specs.Course.{Course, and_then, ends, Exactly}
 use Rattle.away_top.specs.Files.{Callable, function_course, schema_course}
-
--- no byte ends a line
-abbrev pub IsLine : List ℕ → Type 0
-IsLine bytes = Each (λ b. b ≢ 10) bytes
 
 -- The output is the text alone. Or it is a line that reads as the certificate, and behind it the text.
 abbrev pub IsOutput : Wanted → Cert → List ℕ → List ℕ → Type 0

@@ -1,7 +1,7 @@
 //! `compile SCHEMA FUNC` and `certify SCHEMA FUNC`.
 
-ghost use Rattle.std.specs.Prelude.{◌≡◌, ◌++◌, ◌∷◌, ◌↔◌, IfOk, IsTrue, List, string_bytes, ℕ};
-ghost use Rattle.away_top.specs.CompileCourse.{compile_course, Compiles, IsLine, IsOutput};
+ghost use Rattle.std.specs.Prelude.{◌≡◌, ◌++◌, ◌∷◌, IfOk, List, string_bytes, ℕ};
+ghost use Rattle.away_top.specs.CompileCourse.{compile_course, Compiles, IsOutput};
 ghost use Rattle.away_top.specs.declared.compile.Wanted.TheVariants as made;
 ghost use Rattle.away_top.specs.Files.{as_callable};
 ghost use Rattle.away_top.specs.Runs.{IsEnd, Runs};
@@ -69,22 +69,12 @@ fn output_of(alloc: Global, wanted: Wanted, compiled: Compiled) -> Result<Vec<u8
     }
 }
 
-/// The certificate of a compiled function, a line, and behind it the query. A certificate of several lines stands for want of memory.
+/// The certificate of a compiled function, a line, and behind it the query.
 fn certified(alloc: Global, compiled: &Compiled) -> Result<Vec<u8>, NoMemory>
     ensures { IfOk result (λ output. HasSpelling compiled.now.cert → IsOutput made.Certificate compiled.now.cert (string_bytes compiled.now.text) output.items) }
 {
     let cert = write_cert(alloc, &compiled.cert)?;
-    if !is_line(&cert) {
-        return Err(NoMemory);
-    }
     Ok(line_before(cert, compiled.text.as_str())?)
-}
-
-/// Whether no byte ends a line.
-fn is_line(bytes: &[u8]) -> bool
-    ensures { IsTrue result ↔ IsLine bytes.now }
-{
-    bytes.iter().all(|byte| *byte != b'\n')
 }
 
 /// A line, and a text behind it.

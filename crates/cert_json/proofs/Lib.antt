@@ -5,3 +5,4 @@ pub mod Again
 pub mod FormsAgain
 pub mod Flat
 pub mod FieldByField
+pub mod OneLine

@@ -7,3 +7,4 @@ pub mod Given
 pub mod Written
 pub mod Writable
 pub mod FirstLaws
+pub mod Lines

@@ -5,6 +5,7 @@ ghost use Rattle.std.specs.List.{AllByRecursion};
 ghost use Rattle.serde_json.specs.View.{view};
 ghost use Rattle.serde_json.specs.Written.{compact_text};
 ghost use Rattle.cert_json.specs.Certificates.{Reads, anf_in, cert_in, goto_in, ssa_in};
+ghost use Rattle.cert_json.specs.Lines.{IsLine};
 ghost use Rattle.cert_json.specs.Writable.{CallEndHasCode, EndHasCode, HasSpelling};
 ghost use Rattle.cert_json.specs.Written.{anf_data, cert_data, goto_data, ssa_data};
 
@@ -61,11 +62,12 @@ fn cert_value(alloc: Global, cert: &Cert) -> Result<Value, AllocError>
     json!(in alloc; {"anf": anf, "columns": columns, "goto": goto, "labels": labels, "places": places, "ssa": ssa})
 }
 
-/// The text of a certificate, without spaces. It reads as the certificate again, where each class is five digits or upper-case letters
-/// and no column has 32 bits.
-#[tactic(auto, using(crate::proofs::Flat::cert_has_no_float, crate::proofs::Flat::cert_is_shallow))]
+/// The text of a certificate: one line, without spaces. It reads as the certificate again, where each class is five digits or upper-case
+/// letters and no column has 32 bits.
+#[tactic(auto, using(crate::proofs::Flat::cert_has_no_float, crate::proofs::Flat::cert_is_shallow, crate::proofs::OneLine::compact_text_is_line))]
 pub fn write_cert(alloc: Global, cert: &Cert) -> Result<Vec<u8>, NoMemory>
     ensures text { IfOk result (λ bytes. bytes.items ≡ compact_text (cert_data cert.now)) }
+    ensures line { IfOk result (λ bytes. IsLine bytes.items) }
     ensures reads { IfOk result (λ bytes. HasSpelling cert.now → Reads bytes.items cert.now) }
 {
     Ok(cert_value(alloc, cert)?.to_vec(alloc)?)
