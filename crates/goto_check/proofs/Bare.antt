@@ -1,5 +1,5 @@
 -- Who has a block is told by where parts are, whatever stands there: not by what follows a statement, and not by what is around it.
-use Rattle.std.proofs.Common.{◌≡◌, ℕ, ◌+◌, Bool, true, false, List, [], ◌∷◌, ◌++◌, length, slice_get, Option, Some, None, refl, sym, ap, ◌∙◌}
+use Rattle.std.proofs.Common.{◌≡◌, ℕ, ◌+◌, Bool, true, false, List, [], ◌∷◌, ◌++◌, length, slice_get, Option, Some, None, cond, nat_eq, refl, sym, ap, subst, ◌∙◌}
 use Rattle.away_values.specs.declared.types.Ty.{Ty}
 use Rattle.away_values.specs.declared.values.Class.{Class}
 use Rattle.away_trees.specs.declared.queries.Expr.{Expr}
@@ -15,14 +15,13 @@ use Rattle.block_forms.specs.declared.places.Place.{Place}
 use Rattle.block_forms.specs.declared.forms.Block.{Block}
 use Rattle.block_forms.specs.declared.forms.Term.{Term}
 use Rattle.block_forms.specs.Around.{Around}
-use Rattle.block_forms.specs.Lowered.{one_of}
 use Rattle.block_forms.specs.Patterns.{Part, own, shared, same, never, jumps, node, no_of, slot_parts, set_parts, leave_parts}
 use Rattle.block_forms.specs.Laid.{Setting, Laid, LaidArm, laying, laid, laid_row, after, a_node, with_expr, decl_size, kind_size, row_size, first_block, lack_parts, lack, inside_of, arms_size, else_parts, row_parts, arms_parts, decl_parts, decls_parts, assign_parts, kind_parts, again_of}
 use Rattle.goto_check.specs.declared.asking.Asking.{Asking}
 use Rattle.goto_check.specs.declared.asking.Question.{Question}
 use Rattle.goto_check.specs.declared.asking.Question.TheVariants as question
-use Rattle.goto_check.specs.Asking.{says}
-use Rattle.goto_check.specs.Counted.{tally, capped, counted}
+use Rattle.goto_check.specs.Runs.{run_of}
+use Rattle.goto_check.specs.Told.{numbers_told, told}
 
 -- ---- parts without what stands there
 
@@ -43,35 +42,41 @@ bare_append (x ∷ xs) ys = ap (λ z. bare_part x ∷ z) (bare_append xs ys)
 bare_both : (xs ys xs' ys' : List Part) → bare xs ≡ bare xs' → bare ys ≡ bare ys' → bare (xs ++ ys) ≡ bare (xs' ++ ys')
 bare_both xs ys xs' ys' e f = bare_append xs ys ∙ ((λ i. e i ++ f i) ∙ sym (bare_append xs' ys'))
 
-owned_bare : (blocks : List Block) (c : ℕ) (ps : List Part) → tally blocks (question.Owns c) ps ≡ tally blocks (question.Owns c) (bare ps)
+owned_bare : (blocks : List Block) (c : ℕ) (ps : List Part) → numbers_told blocks (question.Owns c) ps ≡ numbers_told blocks (question.Owns c) (bare ps)
 owned_bare blocks c [] = refl
-owned_bare blocks c (own b x ∷ ps) = ap (λ n. one_of (says blocks (question.Owns c) (own b x)) + n) (owned_bare blocks c ps)
-owned_bare blocks c (shared b x ∷ ps) = ap (λ n. 0 + n) (owned_bare blocks c ps)
-owned_bare blocks c (same a b ∷ ps) = ap (λ n. 0 + n) (owned_bare blocks c ps)
-owned_bare blocks c (never ∷ ps) = ap (λ n. 0 + n) (owned_bare blocks c ps)
+owned_bare blocks c (own b x ∷ ps) = ap (λ l. cond (nat_eq b c) (b ∷ l) l) (owned_bare blocks c ps)
+owned_bare blocks c (shared b x ∷ ps) = owned_bare blocks c ps
+owned_bare blocks c (same a b ∷ ps) = owned_bare blocks c ps
+owned_bare blocks c (never ∷ ps) = owned_bare blocks c ps
 
-shared_bare : (blocks : List Block) (c : ℕ) (ps : List Part) → tally blocks (question.Shares c) ps ≡ tally blocks (question.Shares c) (bare ps)
+shared_bare : (blocks : List Block) (c : ℕ) (ps : List Part) → numbers_told blocks (question.Shares c) ps ≡ numbers_told blocks (question.Shares c) (bare ps)
 shared_bare blocks c [] = refl
-shared_bare blocks c (own b x ∷ ps) = ap (λ n. 0 + n) (shared_bare blocks c ps)
-shared_bare blocks c (shared b x ∷ ps) = ap (λ n. one_of (says blocks (question.Shares c) (shared b x)) + n) (shared_bare blocks c ps)
-shared_bare blocks c (same a b ∷ ps) = ap (λ n. 0 + n) (shared_bare blocks c ps)
-shared_bare blocks c (never ∷ ps) = ap (λ n. 0 + n) (shared_bare blocks c ps)
+shared_bare blocks c (own b x ∷ ps) = shared_bare blocks c ps
+shared_bare blocks c (shared b x ∷ ps) = ap (λ l. cond (nat_eq b c) (b ∷ l) l) (shared_bare blocks c ps)
+shared_bare blocks c (same a b ∷ ps) = shared_bare blocks c ps
+shared_bare blocks c (never ∷ ps) = shared_bare blocks c ps
 
--- parts that are the same where a part that fails is asked for, and are at the same blocks, count the same
-pub counted_bare : (a : Asking) (xs ys : List Part) → (a.question ≡ question.Fails → xs ≡ ys) → bare xs ≡ bare ys → counted a xs ≡ counted a ys
-unfolding counted
-counted_bare a xs ys equal e = by a.question refl
+which_bare : (blocks : List Block) (ps : List Part) → numbers_told blocks question.Which ps ≡ numbers_told blocks question.Which (bare ps)
+which_bare blocks [] = refl
+which_bare blocks (own b x ∷ ps) = ap (λ l. b ∷ l) (which_bare blocks ps)
+which_bare blocks (shared b x ∷ ps) = ap (λ l. b ∷ l) (which_bare blocks ps)
+which_bare blocks (same a b ∷ ps) = which_bare blocks ps
+which_bare blocks (never ∷ ps) = which_bare blocks ps
+
+-- what is told without what stands there
+same_told : (blocks : List Block) (q : Question) (xs ys : List Part) → ((ps : List Part) → numbers_told blocks q ps ≡ numbers_told blocks q (bare ps)) → bare xs ≡ bare ys → numbers_told blocks q xs ≡ numbers_told blocks q ys
+same_told blocks q xs ys told e = told xs ∙ (ap (λ ps. numbers_told blocks q ps) e ∙ sym (told ys))
+
+-- parts that are the same where a part that fails is asked for, and are at the same blocks, answer the same
+pub told_bare : (a : Asking) (xs ys : List Part) → (a.question ≡ question.Fails → xs ≡ ys) → bare xs ≡ bare ys → told a xs ≡ told a ys
+unfolding told
+told_bare a xs ys equal e = ap run_of (by a.question refl)
   where
-    by : (q : Question) → a.question ≡ q → capped (tally a.goto.now.blocks a.question xs) ≡ capped (tally a.goto.now.blocks a.question ys)
-    by question.Fails is = ap (λ ps. capped (tally a.goto.now.blocks a.question ps)) (equal is)
-    by (question.Owns c) is =
-        ap (λ q. capped (tally a.goto.now.blocks q xs)) is
-        ∙ (ap capped (owned_bare a.goto.now.blocks c xs ∙ (ap (λ ps. tally a.goto.now.blocks (question.Owns c) ps) e ∙ sym (owned_bare a.goto.now.blocks c ys)))
-        ∙ ap (λ q. capped (tally a.goto.now.blocks q ys)) (sym is))
-    by (question.Shares c) is =
-        ap (λ q. capped (tally a.goto.now.blocks q xs)) is
-        ∙ (ap capped (shared_bare a.goto.now.blocks c xs ∙ (ap (λ ps. tally a.goto.now.blocks (question.Shares c) ps) e ∙ sym (shared_bare a.goto.now.blocks c ys)))
-        ∙ ap (λ q. capped (tally a.goto.now.blocks q ys)) (sym is))
+    by : (q : Question) → a.question ≡ q → numbers_told a.goto.now.blocks a.question xs ≡ numbers_told a.goto.now.blocks a.question ys
+    by question.Fails is = ap (λ ps. numbers_told a.goto.now.blocks a.question ps) (equal is)
+    by (question.Owns c) is = subst (λ q. numbers_told a.goto.now.blocks q xs ≡ numbers_told a.goto.now.blocks q ys) (sym is) (same_told a.goto.now.blocks (question.Owns c) xs ys (owned_bare a.goto.now.blocks c) e)
+    by (question.Shares c) is = subst (λ q. numbers_told a.goto.now.blocks q xs ≡ numbers_told a.goto.now.blocks q ys) (sym is) (same_told a.goto.now.blocks (question.Shares c) xs ys (shared_bare a.goto.now.blocks c) e)
+    by question.Which is = subst (λ q. numbers_told a.goto.now.blocks q xs ≡ numbers_told a.goto.now.blocks q ys) (sym is) (same_told a.goto.now.blocks question.Which xs ys (which_bare a.goto.now.blocks) e)
 
 -- ---- the patterns
 

@@ -22,22 +22,21 @@ pub are_same : (a b : ℕ) → IsTrue (nat_eq a b) ↔ (a ≡ b)
 are_same a b = same_number a b (nat_eq a b) refl
 
 -- the form is that of the function where the parts stand that are laid out by the function's numbers
-pub decided : (f : Function) (slots : List Slot) (g : Goto) (n : Numbers) (fails : ℕ) (e w b : Bool) → n ≡ numbers_of f → length g.nodes ≡ length f.params + (laid f.body).size.node →
-    (fails ≡ 0) ↔ AllStand g.blocks (parts_in (setting_of g slots n) f) →
+pub decided : (f : Function) (slots : List Slot) (g : Goto) (n : Numbers) (stands e w b : Bool) → n ≡ numbers_of f → length g.nodes ≡ length f.params + (laid f.body).size.node →
+    IsTrue stands ↔ AllStand g.blocks (parts_in (setting_of g slots n) f) →
     IsTrue e ↔ EachOnce (parts_in (setting_of g slots n) f) g.blocks →
     IsTrue w ↔ Each (NoWayTo g.entry) g.blocks →
     IsTrue b ↔ Each (BlockBelow (length slots)) g.blocks →
-    IsTrue (((nat_eq fails 0 && e) && w) && b) ↔ Lowered f slots g
-decided f slots g n fails e w b at_n as_many stand once way below =
+    IsTrue (((stands && e) && w) && b) ↔ Lowered f slots g
+decided f slots g n stands e w b at_n as_many stand once way below =
     let at : parts_in (setting_of g slots n) f ≡ all_parts f slots g = ap (λ n. parts_in (setting_of g slots n) f) at_n in
-    let zero = are_same fails 0 in
-    let all = both ((nat_eq fails 0 && e) && w) b (both (nat_eq fails 0 && e) w (both (nat_eq fails 0) e zero once) way) below in (
+    let all = both ((stands && e) && w) b (both (stands && e) w (both stands e stand once) way) below in (
       λ t. let h = all.0 t in record {
         as_many = as_many;
-        stand = subst (λ ps. AllStand g.blocks ps) at (stand.0 h.0.0.0);
+        stand = subst (λ ps. AllStand g.blocks ps) at h.0.0.0;
         each_once = subst (λ ps. EachOnce ps g.blocks) at h.0.0.1;
         no_way_in = h.0.1;
         slots_below = h.1;
       },
-      λ l. all.1 (((stand.1 (subst (λ ps. AllStand g.blocks ps) (sym at) l.stand), subst (λ ps. EachOnce ps g.blocks) (sym at) l.each_once), l.no_way_in), l.slots_below),
+      λ l. all.1 (((subst (λ ps. AllStand g.blocks ps) (sym at) l.stand, subst (λ ps. EachOnce ps g.blocks) (sym at) l.each_once), l.no_way_in), l.slots_below),
     )

@@ -1,7 +1,8 @@
 pub mod Rooms
 pub mod Equations
 pub mod Blocks
-pub mod Counting
+pub mod JoinedRuns
+pub mod Telling
 pub mod Questions
 pub mod Lists
 pub mod Occurrences
@@ -11,3 +12,5 @@ pub mod ClassTexts
 pub mod Bare
 pub mod Walk
 pub mod Deciding
+pub mod InOrder
+pub mod Owned

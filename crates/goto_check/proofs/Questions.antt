@@ -1,69 +1,64 @@
--- What the count of each question tells.
-use Rattle.std.proofs.Common.{◌≡◌, ℕ, ◌+◌, Bool, true, false, not, List, [], ◌∷◌, ◌↔◌, refl, sym, ap, ◌∙◌, nat_eq, slice_get, arith}
+-- What the answer to each question tells.
+use Rattle.std.proofs.Common.{◌≡◌, ℕ, suc, ◌+◌, Bool, true, false, not, List, [], ◌∷◌, ◌↔◌, cond, refl, sym, ap, ◌∙◌, nat_eq, slice_get, arith}
 use Rattle.std.proofs.lemmas.Bool.{eqb-true, eq-eqb}
-use Rattle.std.proofs.lemmas.Bool.Decides.{nat_tests}
 use Rattle.block_forms.specs.declared.forms.Block.{Block}
 use Rattle.block_forms.specs.Lowered.{one_of, Stands, AllStand, owners, sharers}
 use Rattle.block_forms.specs.Patterns.{Part, own, shared, same, never}
 use Rattle.goto_check.specs.declared.asking.Question.TheVariants as question
 use Rattle.goto_check.specs.declared.asking.Asking.{Asking}
+use Rattle.goto_check.specs.declared.runs.Run.TheVariants.{Empty}
 use Rattle.goto_check.specs.Asking.{is_found, says}
-use Rattle.goto_check.specs.Counted.{tally, capped, counted}
+use Rattle.goto_check.specs.Runs.{run_of, repeated}
+use Rattle.goto_check.specs.Told.{numbers_told, told, blocks_in}
 use Rattle.goto_check.proofs.Blocks.{same_found}
+use Rattle.goto_check.proofs.JoinedRuns.{run_none, run_empty, run_more}
 
 -- ---- whether all parts stand
 
-holds : {P : Type 0} (b : Bool) → ((b ≡ true → P) × (P → b ≡ true)) → (one_of (not b) ≡ 0) ↔ P
-holds true t = (λ e. t.0 refl, λ p. refl)
-holds false t = (λ e. absurd (omega arith), λ p. absurd (let e = t.1 p in cc))
+both_stand : {P Q : Type 0} (b : Bool) (n : ℕ) (rest : List ℕ) → ((b ≡ true → P) × (P → b ≡ true)) → (rest ≡ []) ↔ Q → (cond (not b) (n ∷ rest) rest ≡ []) ↔ (P × Q)
+both_stand true n rest t r = (λ e. (t.0 refl, r.0 e), λ x. r.1 x.1)
+both_stand false n rest t r = (λ e. absurd (cc), λ x. absurd (let e = t.1 x.0 in cc))
 
-part_stands : (blocks : List Block) (p : Part) → (one_of (says blocks question.Fails p) ≡ 0) ↔ Stands blocks p
-part_stands blocks (own b x) = holds (is_found (slice_get blocks b) x) (same_found (slice_get blocks b) x)
-part_stands blocks (shared b x) = holds (is_found (slice_get blocks b) x) (same_found (slice_get blocks b) x)
-part_stands blocks (same a b) = holds (nat_eq a b) (eqb-true a b, eq-eqb a b)
-part_stands blocks never = (λ e. absurd (omega arith), λ p. absurd p)
-
-parts_stand : (blocks : List Block) (ps : List Part) → (tally blocks question.Fails ps ≡ 0) ↔ AllStand blocks ps
+parts_stand : (blocks : List Block) (ps : List Part) → (numbers_told blocks question.Fails ps ≡ []) ↔ AllStand blocks ps
 parts_stand blocks [] = (λ e. tt, λ t. refl)
-parts_stand blocks (p ∷ ps) =
-    let h = part_stands blocks p in
-    let r = parts_stand blocks ps in (
-      λ e. (h.0 (omega (arith, e)), r.0 (omega (arith, e))),
-      λ t. let x = h.1 t.0 in let y = r.1 t.1 in omega (arith, x, y),
-    )
+parts_stand blocks (own b x ∷ ps) = both_stand (is_found (slice_get blocks b) x) b _ (same_found (slice_get blocks b) x) (parts_stand blocks ps)
+parts_stand blocks (shared b x ∷ ps) = both_stand (is_found (slice_get blocks b) x) b _ (same_found (slice_get blocks b) x) (parts_stand blocks ps)
+parts_stand blocks (same a b ∷ ps) = both_stand (nat_eq a b) a _ (eqb-true a b, eq-eqb a b) (parts_stand blocks ps)
+parts_stand blocks (never ∷ ps) = (λ e. absurd (cc), λ x. absurd x.0)
 
-capped_zero : (n : ℕ) → capped n ≡ 0 → n ≡ 0
-capped_zero n e = grind (arith, nat_tests)
-
-pub none_fails : (a : Asking) (ps : List Part) → a.question ≡ question.Fails → (counted a ps ≡ 0) ↔ AllStand a.goto.now.blocks ps
-unfolding counted
+pub none_fails : (a : Asking) (ps : List Part) → a.question ≡ question.Fails → (told a ps ≡ Empty) ↔ AllStand a.goto.now.blocks ps
+unfolding told
 none_fails a ps e =
     let r = parts_stand a.goto.now.blocks ps in
-    let same : tally a.goto.now.blocks a.question ps ≡ tally a.goto.now.blocks question.Fails ps = ap (λ q. tally a.goto.now.blocks q ps) e in (
-      λ h. r.0 (sym same ∙ capped_zero _ h),
-      λ t. ap capped (same ∙ r.1 t),
-    )
+    let n = run_empty (numbers_told a.goto.now.blocks a.question ps) in
+    let same : numbers_told a.goto.now.blocks a.question ps ≡ numbers_told a.goto.now.blocks question.Fails ps = ap (λ q. numbers_told a.goto.now.blocks q ps) e in
+    (λ h. r.0 (sym same ∙ n.0 h), λ t. n.1 (same ∙ r.1 t))
 
 -- ---- how many have a block
 
-tally_owns : (blocks : List Block) (b : ℕ) (ps : List Part) → tally blocks (question.Owns b) ps ≡ owners b ps
-tally_owns blocks b [] = refl
-tally_owns blocks b (own c x ∷ ps) = ap (λ n. one_of (nat_eq c b) + n) (tally_owns blocks b ps)
-tally_owns blocks b (shared c x ∷ ps) = let r = tally_owns blocks b ps in omega (arith, r)
-tally_owns blocks b (same c d ∷ ps) = let r = tally_owns blocks b ps in omega (arith, r)
-tally_owns blocks b (never ∷ ps) = let r = tally_owns blocks b ps in omega (arith, r)
+counted : (b : Bool) (c d k : ℕ) (xs : List ℕ) → (b ≡ true → d ≡ c) → run_of xs ≡ repeated k c → run_of (cond b (d ∷ xs) xs) ≡ repeated (one_of b + k) c
+counted true c d k xs is e = ap (λ d. run_of (d ∷ xs)) (is refl) ∙ (run_more k c xs e ∙ ap (λ j. repeated j c) (let q : suc k ≡ 1 + k = omega arith in q))
+counted false c d k xs is e = e ∙ ap (λ j. repeated j c) (let q : k ≡ 0 + k = omega arith in q)
 
-tally_shares : (blocks : List Block) (b : ℕ) (ps : List Part) → tally blocks (question.Shares b) ps ≡ sharers b ps
-tally_shares blocks b [] = refl
-tally_shares blocks b (own c x ∷ ps) = let r = tally_shares blocks b ps in omega (arith, r)
-tally_shares blocks b (shared c x ∷ ps) = ap (λ n. one_of (nat_eq c b) + n) (tally_shares blocks b ps)
-tally_shares blocks b (same c d ∷ ps) = let r = tally_shares blocks b ps in omega (arith, r)
-tally_shares blocks b (never ∷ ps) = let r = tally_shares blocks b ps in omega (arith, r)
+pub owners_told : (blocks : List Block) (b : ℕ) (ps : List Part) → run_of (numbers_told blocks (question.Owns b) ps) ≡ repeated (owners b ps) b
+owners_told blocks b [] = run_none
+owners_told blocks b (own c x ∷ ps) = counted (nat_eq c b) b c (owners b ps) _ (eqb-true c b) (owners_told blocks b ps)
+owners_told blocks b (shared c x ∷ ps) = owners_told blocks b ps
+owners_told blocks b (same c d ∷ ps) = owners_told blocks b ps
+owners_told blocks b (never ∷ ps) = owners_told blocks b ps
 
-pub owners_counted : (a : Asking) (b : ℕ) (ps : List Part) → a.question ≡ question.Owns b → counted a ps ≡ capped (owners b ps)
-unfolding counted
-owners_counted a b ps e = ap capped (ap (λ q. tally a.goto.now.blocks q ps) e ∙ tally_owns a.goto.now.blocks b ps)
+pub sharers_told : (blocks : List Block) (b : ℕ) (ps : List Part) → run_of (numbers_told blocks (question.Shares b) ps) ≡ repeated (sharers b ps) b
+sharers_told blocks b [] = run_none
+sharers_told blocks b (own c x ∷ ps) = sharers_told blocks b ps
+sharers_told blocks b (shared c x ∷ ps) = counted (nat_eq c b) b c (sharers b ps) _ (eqb-true c b) (sharers_told blocks b ps)
+sharers_told blocks b (same c d ∷ ps) = sharers_told blocks b ps
+sharers_told blocks b (never ∷ ps) = sharers_told blocks b ps
 
-pub sharers_counted : (a : Asking) (b : ℕ) (ps : List Part) → a.question ≡ question.Shares b → counted a ps ≡ capped (sharers b ps)
-unfolding counted
-sharers_counted a b ps e = ap capped (ap (λ q. tally a.goto.now.blocks q ps) e ∙ tally_shares a.goto.now.blocks b ps)
+-- ---- which blocks they have
+
+pub which_told : (blocks : List Block) (ps : List Part) → numbers_told blocks question.Which ps ≡ blocks_in ps
+which_told blocks [] = refl
+which_told blocks (own b x ∷ ps) = ap (λ l. b ∷ l) (which_told blocks ps)
+which_told blocks (shared b x ∷ ps) = ap (λ l. b ∷ l) (which_told blocks ps)
+which_told blocks (same a b ∷ ps) = which_told blocks ps
+which_told blocks (never ∷ ps) = which_told blocks ps

@@ -1,4 +1,4 @@
--- What the walk over statements counts, from what it counts in their parts.
+-- What the walk over statements tells, from what it tells in their parts.
 use Rattle.std.proofs.Common.{◌≡◌, ℕ, ◌+◌, false, List, [], ◌∷◌, ◌++◌, length, Option, Some, None, sym, ap, ◌∙◌, subst}
 use Rattle.std.proofs.lemmas.List.{length-map}
 use Rattle.away_values.specs.declared.values.Class.{Class}
@@ -16,12 +16,15 @@ use Rattle.block_forms.specs.Laid.{Laid, Setting, block_parts, loop_parts, else_
 use Rattle.goto_check.specs.declared.asking.Asking.{Asking}
 use Rattle.goto_check.specs.declared.asking.Question.TheVariants as question
 use Rattle.goto_check.specs.Asking.{IsAsked, setting_in}
-use Rattle.goto_check.specs.Counted.{capped, counted}
+use Rattle.goto_check.specs.Told.{told}
+use Rattle.goto_check.specs.declared.runs.Run.{Run}
 use Rattle.goto_check.specs.Room.{Room}
-use Rattle.goto_check.proofs.Counting.{two, joined, capped_turn}
+use Rattle.goto_check.specs.Runs.{join}
+use Rattle.goto_check.proofs.Telling.{two, joined}
+use Rattle.goto_check.proofs.JoinedRuns.{join_turn}
 use Rattle.goto_check.proofs.Equations.{laid_block, laid_loop, laid_if, laid_cases}
 use Rattle.goto_check.proofs.Rooms.{room_first, room_rest, after_after}
-use Rattle.goto_check.proofs.Bare.{counted_bare, bare_statement, bare_body, bare_kind}
+use Rattle.goto_check.proofs.Bare.{told_bare, bare_statement, bare_body, bare_kind}
 
 -- ---- rows
 
@@ -29,18 +32,18 @@ module _ (a : Asking) (around : Around) (next : ℕ) where
   abbrev Row : List Stmt → Place → List Part
   Row xs p = row_parts (setting_in a) (laid_row xs) p around next
 
-  pub row_next : (p q : Place) (xs rest : List Stmt) (x : Stmt) (to count here then W : ℕ) → xs ≡ x ∷ rest → q ≡ after p (laid x).size → IsAsked a to (first_block (setting_in a) (length rest) (after p (laid x).size).node next) →
-      here ≡ counted a ((laid x).parts (setting_in a) p around to) → then ≡ capped (count + here) → capped (count + counted a (Row xs p)) ≡ W → capped (then + counted a (Row rest q)) ≡ W
-  row_next p q xs rest x to count here then W e at_q asked counts sums so_far =
+  pub row_next : (p q : Place) (xs rest : List Stmt) (x : Stmt) (to : ℕ) (run here then W : Run) → xs ≡ x ∷ rest → q ≡ after p (laid x).size → IsAsked a to (first_block (setting_in a) (length rest) (after p (laid x).size).node next) →
+      here ≡ told a ((laid x).parts (setting_in a) p around to) → then ≡ join run here → join run (told a (Row xs p)) ≡ W → join then (told a (Row rest q)) ≡ W
+  row_next p q xs rest x to run here then W e at_q asked tells sums so_far =
       let right = first_block (setting_in a) (length (laid_row rest)) (p.node + (laid x).size.node) next in
       let to_is : a.question ≡ question.Fails → to ≡ right = λ h. asked h ∙ ap (λ k. first_block (setting_in a) k (p.node + (laid x).size.node) next) (sym (length-map rest laid)) in
-      let exact : here ≡ counted a ((laid x).parts (setting_in a) p around right) =
-      counts ∙ counted_bare a ((laid x).parts (setting_in a) p around to) ((laid x).parts (setting_in a) p around right) (λ h. ap (λ b. (laid x).parts (setting_in a) p around b) (to_is h)) (bare_statement (setting_in a) x p around around to right) in
-      let whole : counted a (Row xs p) ≡ capped (here + counted a (Row rest q)) =
-      ap (λ xs. counted a (Row xs p)) e
-      ∙ (ap (λ q. counted a ((laid x).parts (setting_in a) p around right ++ Row rest q)) (sym at_q)
-      ∙ (joined a ((laid x).parts (setting_in a) p around right) (Row rest q) ∙ ap (λ n. capped (n + counted a (Row rest q))) (sym exact))) in
-      ap (λ n. capped (n + counted a (Row rest q))) sums ∙ (capped_turn count here (counted a (Row rest q)) ∙ (ap (λ n. capped (count + n)) (sym whole) ∙ so_far))
+      let exact : here ≡ told a ((laid x).parts (setting_in a) p around right) =
+      tells ∙ told_bare a ((laid x).parts (setting_in a) p around to) ((laid x).parts (setting_in a) p around right) (λ h. ap (λ b. (laid x).parts (setting_in a) p around b) (to_is h)) (bare_statement (setting_in a) x p around around to right) in
+      let whole : told a (Row xs p) ≡ join here (told a (Row rest q)) =
+      ap (λ xs. told a (Row xs p)) e
+      ∙ (ap (λ q. told a ((laid x).parts (setting_in a) p around right ++ Row rest q)) (sym at_q)
+      ∙ (joined a ((laid x).parts (setting_in a) p around right) (Row rest q) ∙ ap (λ n. join n (told a (Row rest q))) (sym exact))) in
+      ap (λ n. join n (told a (Row rest q))) sums ∙ (join_turn run here (told a (Row rest q)) ∙ (ap (λ n. join run n) (sym whole) ∙ so_far))
 
 pub row_end : (p q : Place) (xs rest : List Stmt) (x : Stmt) → xs ≡ x ∷ rest → q ≡ after p (laid x).size → after q (row_size (laid_row rest)) ≡ after p (row_size (laid_row xs))
 row_end p q xs rest x e at_q = ap (λ q. after q (row_size (laid_row rest))) at_q ∙ (after_after p (laid x).size (row_size (laid_row rest)) ∙ ap (λ xs. after p (row_size (laid_row xs))) (sym e))
@@ -54,29 +57,29 @@ module _ (a : Asking) (around : Around) (next : ℕ) where
   abbrev Arms : List Arm → Place → ℕ → List Part
   Arms xs p b = arms_parts (setting_in a) (laid_arms xs) p around next b
 
-  pub arms_next : (p q r : Place) (xs rest : List Arm) (x : Arm) (b c body count is branch here row all then W : ℕ) → xs ≡ x ∷ rest →
+  pub arms_next : (p q r : Place) (xs rest : List Arm) (x : Arm) (b c body : ℕ) (run is branch here row all then W : Run) → xs ≡ x ∷ rest →
       c ≡ no_of a.goto.now b → body ≡ first_block (setting_in a) (length x.body) (p.node + 1) next → q ≡ after p with_expr → r ≡ after p (laid_arm x).size →
-      is ≡ counted a (same b (node a.goto.now p.node) ∷ []) →
-      branch ≡ counted a (own b (branches false (source_term p.expr x.test) body c) ∷ []) →
-      here ≡ capped (is + branch) →
-      row ≡ counted a (row_parts (setting_in a) (laid_row x.body) q around next) →
-      all ≡ capped (here + row) → then ≡ capped (count + all) →
-      capped (count + counted a (Arms xs p b)) ≡ W → capped (then + counted a (Arms rest r c)) ≡ W
+      is ≡ told a (same b (node a.goto.now p.node) ∷ []) →
+      branch ≡ told a (own b (branches false (source_term p.expr x.test) body c) ∷ []) →
+      here ≡ join is branch →
+      row ≡ told a (row_parts (setting_in a) (laid_row x.body) q around next) →
+      all ≡ join here row → then ≡ join run all →
+      join run (told a (Arms xs p b)) ≡ W → join then (told a (Arms rest r c)) ≡ W
   unfolding laid laid_arm
-  arms_next p q r xs rest x b c body count is branch here row all then W e at_c at_body at_q at_r counts1 counts2 sums1 counts3 sums2 sums3 so_far =
+  arms_next p q r xs rest x b c body run is branch here row all then W e at_c at_body at_q at_r tells1 tells2 sums1 tells3 sums2 sums3 so_far =
       let body_is : body ≡ first_block (setting_in a) (length (laid_row x.body)) (p.node + 1) next = at_body ∙ ap (λ k. first_block (setting_in a) k (p.node + 1) next) (sym (length-map x.body laid)) in
       let head = same b (node a.goto.now p.node) ∷ own b (branches false (source_term p.expr x.test) body c) ∷ [] in
       let inside = row_parts (setting_in a) (laid_row x.body) q around next in
-      let n = counted a (Arms rest r c) in
-      let here_is : here ≡ counted a head = two a (same b (node a.goto.now p.node) ∷ []) (own b (branches false (source_term p.expr x.test) body c) ∷ []) is branch here counts1 counts2 sums1 in
-      let whole : counted a (Arms xs p b) ≡ capped (here + capped (row + n)) =
-      ap (λ xs. counted a (Arms xs p b)) e
-      ∙ ((λ i. counted a (same b (node a.goto.now p.node) ∷ own b (branches false (source_term p.expr x.test) (sym body_is i) (sym at_c i)) ∷ (row_parts (setting_in a) (laid_row x.body) (sym at_q i) around next ++ Arms rest (sym at_r i) (sym at_c i))))
+      let n = told a (Arms rest r c) in
+      let here_is : here ≡ told a head = two a (same b (node a.goto.now p.node) ∷ []) (own b (branches false (source_term p.expr x.test) body c) ∷ []) is branch here tells1 tells2 sums1 in
+      let whole : told a (Arms xs p b) ≡ join here (join row n) =
+      ap (λ xs. told a (Arms xs p b)) e
+      ∙ ((λ i. told a (same b (node a.goto.now p.node) ∷ own b (branches false (source_term p.expr x.test) (sym body_is i) (sym at_c i)) ∷ (row_parts (setting_in a) (laid_row x.body) (sym at_q i) around next ++ Arms rest (sym at_r i) (sym at_c i))))
       ∙ (joined a head (inside ++ Arms rest r c)
-      ∙ ((λ i. capped (sym here_is i + joined a inside (Arms rest r c) i)) ∙ ap (λ k. capped (here + capped (k + n))) (sym counts3)))) in
-      ap (λ k. capped (k + n)) (sums3 ∙ ap (λ k. capped (count + k)) sums2)
-      ∙ (capped_turn count (capped (here + row)) n
-      ∙ (ap (λ k. capped (count + k)) (capped_turn here row n) ∙ (ap (λ k. capped (count + k)) (sym whole) ∙ so_far)))
+      ∙ ((λ i. join (sym here_is i) (joined a inside (Arms rest r c) i)) ∙ ap (λ k. join here (join k n)) (sym tells3)))) in
+      ap (λ k. join k n) (sums3 ∙ ap (λ k. join run k) sums2)
+      ∙ (join_turn run (join here row) n
+      ∙ (ap (λ k. join run k) (join_turn here row n) ∙ (ap (λ k. join run k) (sym whole) ∙ so_far)))
 
 pub arms_lack : (s : Setting) (xs rest : List Arm) (x : Arm) (b c : ℕ) → xs ≡ x ∷ rest → c ≡ no_of s.goto b → lack s (laid_arms rest) c ≡ lack s (laid_arms xs) b
 arms_lack s xs rest x b c e at_c = ap (λ c. lack s (laid_arms rest) c) at_c ∙ ap (λ xs. lack s (laid_arms xs) b) (sym e)
@@ -102,67 +105,67 @@ arm_room n p q xs rest x e at_q room =
 -- ---- statements
 
 module _ (a : Asking) (p : Place) (around : Around) (next : ℕ) where
-  pub loop_counts : (label : Label) (k : LoopKind) (body : List Stmt) (r s t again first : ℕ) (q : Place) (inner : Around) →
+  pub loop_tells : (label : Label) (k : LoopKind) (body : List Stmt) (r s t : Run) (again first : ℕ) (q : Place) (inner : Around) →
       IsAsked a again (again_of (setting_in a) k p) → first ≡ first_block (setting_in a) (length body) (p.node + 1) again → q ≡ after p (kind_size k) →
       inner ≡ record { label = label; exit = next; again = Some again } ∷ around →
-      r ≡ counted a (kind_parts (setting_in a) k p first next) → s ≡ counted a (row_parts (setting_in a) (laid_row body) q inner again) → t ≡ capped (r + s) →
-      t ≡ counted a (loop_parts (setting_in a) label k (laid_row body) p around next)
-  loop_counts label k body r s t again first q inner asked at_first at_q at_inner c1 c2 sums =
+      r ≡ told a (kind_parts (setting_in a) k p first next) → s ≡ told a (row_parts (setting_in a) (laid_row body) q inner again) → t ≡ join r s →
+      t ≡ told a (loop_parts (setting_in a) label k (laid_row body) p around next)
+  loop_tells label k body r s t again first q inner asked at_first at_q at_inner c1 c2 sums =
       let S = setting_in a in
       let to = again_of S k p in
       let begin = first_block S (length (laid_row body)) (p.node + 1) to in
       let outer : Around = record { label = label; exit = next; again = Some to } ∷ around in
       let first_is : a.question ≡ question.Fails → first ≡ begin = λ h. at_first ∙ (λ i. first_block S (sym (length-map body laid) i) (p.node + 1) (asked h i)) in
       let inner_is : a.question ≡ question.Fails → inner ≡ outer = λ h. at_inner ∙ ap (λ z. record { label = label; exit = next; again = Some z } ∷ around) (asked h) in
-      let exact1 : r ≡ counted a (kind_parts S k p begin next) =
-      c1 ∙ counted_bare a (kind_parts S k p first next) (kind_parts S k p begin next) (λ h. ap (λ b. kind_parts S k p b next) (first_is h)) (bare_kind S k p first next begin next) in
-      let exact2 : s ≡ counted a (row_parts S (laid_row body) (after p (kind_size k)) outer to) =
+      let exact1 : r ≡ told a (kind_parts S k p begin next) =
+      c1 ∙ told_bare a (kind_parts S k p first next) (kind_parts S k p begin next) (λ h. ap (λ b. kind_parts S k p b next) (first_is h)) (bare_kind S k p first next begin next) in
+      let exact2 : s ≡ told a (row_parts S (laid_row body) (after p (kind_size k)) outer to) =
       c2
-      ∙ (counted_bare a (row_parts S (laid_row body) q inner again) (row_parts S (laid_row body) q outer to) (λ h. λ i. row_parts S (laid_row body) q (inner_is h i) (asked h i)) (bare_body S body q inner outer again to)
-      ∙ ap (λ q. counted a (row_parts S (laid_row body) q outer to)) at_q) in
+      ∙ (told_bare a (row_parts S (laid_row body) q inner again) (row_parts S (laid_row body) q outer to) (λ h. λ i. row_parts S (laid_row body) q (inner_is h i) (asked h i)) (bare_body S body q inner outer again to)
+      ∙ ap (λ q. told a (row_parts S (laid_row body) q outer to)) at_q) in
       two a (kind_parts S k p begin next) (row_parts S (laid_row body) (after p (kind_size k)) outer to) r s t exact1 exact2 sums
 
-  pub block_counts : (label : Label) (decls : List Decl) (body : List Stmt) (r s u t w first then : ℕ) (one inside : Place) (inner : Around) →
+  pub block_tells : (label : Label) (decls : List Decl) (body : List Stmt) (r s u t w : Run) (first then : ℕ) (one inside : Place) (inner : Around) →
       one ≡ after p a_node → inside ≡ inside_of (setting_in a) decls p → then ≡ first_block (setting_in a) (length body) inside.node next → first ≡ first_block (setting_in a) (length decls) (p.node + 1) then →
       inner ≡ record { label = label; exit = next; again = None } ∷ around →
-      r ≡ counted a (same (node a.goto.now p.node) first ∷ []) → s ≡ counted a (decls_parts (setting_in a) decls one then) → u ≡ counted a (row_parts (setting_in a) (laid_row body) inside inner next) →
-      t ≡ capped (s + u) → w ≡ capped (r + t) → w ≡ counted a (block_parts (setting_in a) label decls (laid_row body) p around next)
-  block_counts label decls body r s u t w first then one inside inner at_one at_inside at_then at_first at_inner c1 c2 c3 sums1 sums2 =
+      r ≡ told a (same (node a.goto.now p.node) first ∷ []) → s ≡ told a (decls_parts (setting_in a) decls one then) → u ≡ told a (row_parts (setting_in a) (laid_row body) inside inner next) →
+      t ≡ join s u → w ≡ join r t → w ≡ told a (block_parts (setting_in a) label decls (laid_row body) p around next)
+  block_tells label decls body r s u t w first then one inside inner at_one at_inside at_then at_first at_inner c1 c2 c3 sums1 sums2 =
       let then_is : then ≡ first_block (setting_in a) (length (laid_row body)) (inside_of (setting_in a) decls p).node next = at_then ∙ (λ i. first_block (setting_in a) (sym (length-map body laid) i) (at_inside i).node next) in
       let first_is : first ≡ first_block (setting_in a) (length decls) (p.node + 1) (first_block (setting_in a) (length (laid_row body)) (inside_of (setting_in a) decls p).node next) = at_first ∙ ap (λ k. first_block (setting_in a) (length decls) (p.node + 1) k) then_is in
       let D = decls_parts (setting_in a) decls one then in
       let R = row_parts (setting_in a) (laid_row body) inside inner next in
       two a (same (node a.goto.now p.node) first ∷ []) (D ++ R) r t w c1 (two a D R s u t c2 c3 sums1) sums2
-      ∙ (λ i. counted a (same (node a.goto.now p.node) (first_is i) ∷ (decls_parts (setting_in a) decls (at_one i) (then_is i) ++ row_parts (setting_in a) (laid_row body) (at_inside i) (at_inner i) next)))
+      ∙ (λ i. told a (same (node a.goto.now p.node) (first_is i) ∷ (decls_parts (setting_in a) decls (at_one i) (then_is i) ++ row_parts (setting_in a) (laid_row body) (at_inside i) (at_inner i) next)))
 
 -- an ELSE, after so many of the arms, where no arm is taken at a block
-pub else_counts : (a : Asking) (z : Place) (around : Around) (next none : ℕ) (body : List Stmt) (first : ℕ) (inside : Place) (k s u w t1 t2 t : ℕ) →
+pub else_tells : (a : Asking) (z : Place) (around : Around) (next none : ℕ) (body : List Stmt) (first : ℕ) (inside : Place) (k s u w t1 t2 t : Run) →
     first ≡ first_block (setting_in a) (length body) (z.node + 1) next → inside ≡ after z a_node →
-    s ≡ counted a (same none (node a.goto.now z.node) ∷ []) → u ≡ counted a (same none first ∷ []) → w ≡ counted a (row_parts (setting_in a) (laid_row body) inside around next) →
-    t1 ≡ capped (u + w) → t2 ≡ capped (s + t1) → t ≡ capped (k + t2) → t ≡ capped (k + counted a (else_parts (setting_in a) (Some (laid_row body)) None z around next none))
-else_counts a z around next none body first inside k s u w t1 t2 t at_first at_inside c2 c3 c4 sums1 sums2 sums3 =
+    s ≡ told a (same none (node a.goto.now z.node) ∷ []) → u ≡ told a (same none first ∷ []) → w ≡ told a (row_parts (setting_in a) (laid_row body) inside around next) →
+    t1 ≡ join u w → t2 ≡ join s t1 → t ≡ join k t2 → t ≡ join k (told a (else_parts (setting_in a) (Some (laid_row body)) None z around next none))
+else_tells a z around next none body first inside k s u w t1 t2 t at_first at_inside c2 c3 c4 sums1 sums2 sums3 =
     let S = setting_in a in
     let first_is : first ≡ first_block S (length (laid_row body)) (z.node + 1) next = at_first ∙ ap (λ k. first_block S k (z.node + 1) next) (sym (length-map body laid)) in
     let R = row_parts S (laid_row body) inside around next in
     let other = two a (same none (node a.goto.now z.node) ∷ []) (same none first ∷ R) s t1 t2 c2 (two a (same none first ∷ []) R u w t1 c3 c4 sums1) sums2 in
-    sums3 ∙ ap (λ n. capped (k + n)) (other ∙ (λ i. counted a (same none (node a.goto.now z.node) ∷ same none (first_is i) ∷ row_parts S (laid_row body) (at_inside i) around next)))
+    sums3 ∙ ap (λ n. join k n) (other ∙ (λ i. told a (same none (node a.goto.now z.node) ∷ same none (first_is i) ∷ row_parts S (laid_row body) (at_inside i) around next)))
 
 module _ (a : Asking) (p : Place) (around : Around) (next : ℕ) (x : Stmt) where
-  abbrev Whole : ℕ → Type 0
-  Whole r = r ≡ counted a ((laid x).parts (setting_in a) p around next)
+  abbrev Whole : Run → Type 0
+  Whole r = r ≡ told a ((laid x).parts (setting_in a) p around next)
 
-  abbrev From : Laid → ℕ
-  From l = counted a (l.parts (setting_in a) p around next)
+  abbrev From : Laid → Run
+  From l = told a (l.parts (setting_in a) p around next)
 
-  pub whole_block : (label : Label) (decls : List Decl) (body : List Stmt) (closing : Label) (t : ℕ) → x ≡ stmt.Block label decls body closing → t ≡ counted a (block_parts (setting_in a) label decls (laid_row body) p around next) → Whole t
-  whole_block label decls body closing t e counts = counts ∙ sym (ap From (ap laid e ∙ laid_block label decls body closing))
+  pub whole_block : (label : Label) (decls : List Decl) (body : List Stmt) (closing : Label) (t : Run) → x ≡ stmt.Block label decls body closing → t ≡ told a (block_parts (setting_in a) label decls (laid_row body) p around next) → Whole t
+  whole_block label decls body closing t e tells = tells ∙ sym (ap From (ap laid e ∙ laid_block label decls body closing))
 
-  pub whole_loop : (label : Label) (k : LoopKind) (body : List Stmt) (closing : Label) (t : ℕ) → x ≡ stmt.Loop label k body closing → t ≡ counted a (loop_parts (setting_in a) label k (laid_row body) p around next) → Whole t
-  whole_loop label k body closing t e counts = counts ∙ sym (ap From (ap laid e ∙ laid_loop label k body closing))
+  pub whole_loop : (label : Label) (k : LoopKind) (body : List Stmt) (closing : Label) (t : Run) → x ≡ stmt.Loop label k body closing → t ≡ told a (loop_parts (setting_in a) label k (laid_row body) p around next) → Whole t
+  whole_loop label k body closing t e tells = tells ∙ sym (ap From (ap laid e ∙ laid_loop label k body closing))
 
   -- a branch, which is an IF or a CASE
   abbrev BranchOf : List Arm → Option (List Stmt) → Option Class → Type 0
-  BranchOf arms other without = counted a (branch_parts (setting_in a) (laid_arms arms) (laid_else other) without p around next) ≡ From (laid x)
+  BranchOf arms other without = told a (branch_parts (setting_in a) (laid_arms arms) (laid_else other) without p around next) ≡ From (laid x)
 
   pub if_is : (arms : List Arm) (other : Option (List Stmt)) → x ≡ stmt.If arms other → BranchOf arms other None
   if_is arms other e = sym (ap From (ap laid e ∙ laid_if arms other))
@@ -170,14 +173,14 @@ module _ (a : Asking) (p : Place) (around : Around) (next : ℕ) (x : Stmt) wher
   pub cases_is : (arms : List Arm) (other : Option (List Stmt)) → x ≡ stmt.Cases arms other → BranchOf arms other (Some case_not_found)
   cases_is arms other e = sym (ap From (ap laid e ∙ laid_cases arms other))
 
-  pub whole_branch : (arms : List Arm) (without : Option Class) (body : List Stmt) (k none t : ℕ) (z : Place) → BranchOf arms (Some body) without →
-      k ≡ counted a (arms_parts (setting_in a) (laid_arms arms) (after p a_node) around next (node a.goto.now p.node)) → z ≡ after p (after a_node (arms_size (laid_arms arms))) → none ≡ lack (setting_in a) (laid_arms arms) (node a.goto.now p.node) →
-      t ≡ capped (k + counted a (else_parts (setting_in a) (Some (laid_row body)) None z around next none)) → Whole t
-  whole_branch arms without body k none t z is c1 at_z at_none counts =
+  pub whole_branch : (arms : List Arm) (without : Option Class) (body : List Stmt) (k : Run) (none : ℕ) (t : Run) (z : Place) → BranchOf arms (Some body) without →
+      k ≡ told a (arms_parts (setting_in a) (laid_arms arms) (after p a_node) around next (node a.goto.now p.node)) → z ≡ after p (after a_node (arms_size (laid_arms arms))) → none ≡ lack (setting_in a) (laid_arms arms) (node a.goto.now p.node) →
+      t ≡ join k (told a (else_parts (setting_in a) (Some (laid_row body)) None z around next none)) → Whole t
+  whole_branch arms without body k none t z is c1 at_z at_none tells =
       let S = setting_in a in
       let A = arms_parts S (laid_arms arms) (after p a_node) around next (node a.goto.now p.node) in
       let E = else_parts S (Some (laid_row body)) None (after p (after a_node (arms_size (laid_arms arms)))) around next (lack S (laid_arms arms) (node a.goto.now p.node)) in
-      counts ∙ ((λ i. capped (c1 i + counted a (else_parts S (Some (laid_row body)) None (at_z i) around next (at_none i)))) ∙ (sym (joined a A E) ∙ is))
+      tells ∙ ((λ i. join (c1 i) (told a (else_parts S (Some (laid_row body)) None (at_z i) around next (at_none i)))) ∙ (sym (joined a A E) ∙ is))
 
 -- ---- room in the parts of a statement
 

@@ -54,7 +54,7 @@ is_found (Some x) y = is_block x y
 
 -- ---- answers
 
--- whether a part fails to stand, whether a block is its own, or whether it is one that the part may share
+-- whether a part fails to stand, whether a block is its own, whether it is one that the part may share, or whether the part has a block
 abbrev pub says : List Block → Question → Part → Bool
 says blocks question.Fails (own b x) = not (is_found (slice_get blocks b) x)
 says blocks question.Fails (shared b x) = not (is_found (slice_get blocks b) x)
@@ -68,6 +68,10 @@ says blocks (question.Shares c) (own b x) = false
 says blocks (question.Shares c) (shared b x) = nat_eq b c
 says blocks (question.Shares c) (same a b) = false
 says blocks (question.Shares c) never = false
+says blocks question.Which (own b x) = true
+says blocks question.Which (shared b x) = true
+says blocks question.Which (same a b) = false
+says blocks question.Which never = false
 
 -- ---- where it is asked
 

@@ -1,7 +1,8 @@
 pub mod Asking
 pub mod Enclosing
 pub mod Wanted
-pub mod Counted
+pub mod Runs
+pub mod Told
 pub mod Room
 pub mod Passing
 pub mod Below

@@ -1,22 +1,23 @@
-//! What is asked of the parts of the patterns, and how many of them answer yes.
+//! What is asked of the parts of the patterns, and what they answer.
 
-ghost use Rattle.std.specs.Prelude.{◌≡◌, ◌+◌, [], ◌∷◌};
-ghost use Rattle.block_forms.specs.Lowered.{one_of};
+ghost use Rattle.std.specs.Prelude.{◌≡◌, [], ◌∷◌};
 ghost use Rattle.block_forms.specs.Patterns.{own, shared, same, never};
-ghost use Rattle.goto_check.specs.Counted.{capped, counted};
+ghost use Rattle.goto_check.specs.Told.{told};
 ghost use Rattle.goto_check.specs.Wanted.{shape};
 
+use crate::runs::{Run, only};
 use crate::shapes::{Shape, is_shape};
 use crate::spots::Spot;
 use away_types::Slot;
 use block_forms::Goto;
 
-/// What is asked of each part: whether it fails to stand, whether the block is its own, or whether it may share the block.
+/// What is asked of each part: whether it fails to stand, whether the block is its own, whether it may share the block, or which block it has.
 #[derive(Clone, Copy)]
 pub(crate) enum Question {
     Fails,
     Owns(usize),
     Shares(usize),
+    Which,
 }
 
 /// A question about a form, with the function's slots, the first number of the fixed list and the first hidden slot.
@@ -29,70 +30,61 @@ pub(crate) struct Asking<'a> {
     pub(crate) question: Question,
 }
 
-/// How many parts of a text answer yes, and where the text behind it begins.
+/// The numbers that the parts of a text answer, and where the text behind it begins.
 #[derive(Clone, Copy)]
 pub(crate) struct Answer {
-    pub(crate) count: u8,
+    pub(crate) run: Run,
     pub(crate) end: Spot,
 }
 
-/// Two counts together.
-pub(crate) fn plus(a: u8, b: u8) -> u8
-    ensures { result ≡ capped (a + b) }
-{
-    if a > 1 || b > 1 { 2 } else { a + b }
-}
-
-fn one_if(yes: bool) -> u8
-    ensures { result ≡ one_of yes }
-{
-    if yes { 1 } else { 0 }
-}
-
 /// A part with a block of its own.
-#[tactic(auto, using(crate::proofs::Counting::one_part))]
-pub(crate) fn ask_own(a: &Asking<'_>, at: usize, want: &Shape<'_>) -> u8
-    ensures { result ≡ counted a.now (own at (shape want.now) ∷ []) }
+#[tactic(auto, using(crate::proofs::Telling::one_part))]
+pub(crate) fn ask_own(a: &Asking<'_>, at: usize, want: &Shape<'_>) -> Run
+    ensures { result ≡ told a.now (own at (shape want.now) ∷ []) }
 {
     match a.question {
-        Question::Fails => one_if(!is_shape(a.goto, at, want)),
-        Question::Owns(b) => one_if(at == b),
-        Question::Shares(_) => 0,
+        Question::Fails => only(!is_shape(a.goto, at, want), at),
+        Question::Owns(b) => only(at == b, at),
+        Question::Shares(_) => Run::Empty,
+        Question::Which => Run::FromTo(at, at),
     }
 }
 
 /// A part with a block that others may share.
-#[tactic(auto, using(crate::proofs::Counting::one_part))]
-pub(crate) fn ask_shared(a: &Asking<'_>, at: usize, want: &Shape<'_>) -> u8
-    ensures { result ≡ counted a.now (shared at (shape want.now) ∷ []) }
+#[tactic(auto, using(crate::proofs::Telling::one_part))]
+pub(crate) fn ask_shared(a: &Asking<'_>, at: usize, want: &Shape<'_>) -> Run
+    ensures { result ≡ told a.now (shared at (shape want.now) ∷ []) }
 {
     match a.question {
-        Question::Fails => one_if(!is_shape(a.goto, at, want)),
-        Question::Owns(_) => 0,
-        Question::Shares(b) => one_if(at == b),
+        Question::Fails => only(!is_shape(a.goto, at, want), at),
+        Question::Owns(_) => Run::Empty,
+        Question::Shares(b) => only(at == b, at),
+        Question::Which => Run::FromTo(at, at),
     }
 }
 
 /// Two blocks that are to be one.
-#[tactic(auto, using(crate::proofs::Counting::one_part))]
-pub(crate) fn ask_same(a: &Asking<'_>, x: usize, y: usize) -> u8
-    ensures { result ≡ counted a.now (same x y ∷ []) }
+#[tactic(auto, using(crate::proofs::Telling::one_part))]
+pub(crate) fn ask_same(a: &Asking<'_>, x: usize, y: usize) -> Run
+    ensures { result ≡ told a.now (same x y ∷ []) }
 {
     match a.question {
-        Question::Fails => one_if(x != y),
-        Question::Owns(_) => 0,
-        Question::Shares(_) => 0,
+        Question::Fails => only(x != y, x),
+        Question::Owns(_) => Run::Empty,
+        Question::Shares(_) => Run::Empty,
+        Question::Which => Run::Empty,
     }
 }
 
 /// What no form has.
-#[tactic(auto, using(crate::proofs::Counting::one_part))]
-pub(crate) fn ask_never(a: &Asking<'_>) -> u8
-    ensures { result ≡ counted a.now (never ∷ []) }
+#[tactic(auto, using(crate::proofs::Telling::one_part))]
+pub(crate) fn ask_never(a: &Asking<'_>) -> Run
+    ensures { result ≡ told a.now (never ∷ []) }
 {
     match a.question {
-        Question::Fails => 1,
-        Question::Owns(_) => 0,
-        Question::Shares(_) => 0,
+        Question::Fails => Run::FromTo(0, 0),
+        Question::Owns(_) => Run::Empty,
+        Question::Shares(_) => Run::Empty,
+        Question::Which => Run::Empty,
     }
 }

@@ -8,6 +8,7 @@ use crate::asking::{Asking, Question};
 use crate::below::{no_way_to, slots_below};
 use crate::once::each_once;
 use crate::parameters::ask_function;
+use crate::runs::is_empty;
 use crate::sizes::size_of;
 use away_trees::{Function, node_count};
 use away_types::{CheckedFunction, Slot};
@@ -47,7 +48,7 @@ pub(crate) fn is_lowered(f: &Function, slots: &[Slot], g: &Goto) -> bool
         question: Question::Fails,
     };
     let fails = ask_function(&asking, f);
-    (fails == 0)
+    is_empty(fails)
         & each_once(&asking, f)
         & no_way_to(g.entry as usize, g.blocks.as_slice())
         & slots_below(g.blocks.as_slice(), slots.len())

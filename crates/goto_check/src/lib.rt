@@ -12,6 +12,7 @@ mod parameters;
 mod patterns;
 mod read;
 mod reads;
+mod runs;
 mod shapes;
 mod sizes;
 mod spots;

@@ -4,13 +4,14 @@ ghost use Rattle.std.specs.Prelude.{◌≡◌, ◌+◌, ◌*◌, ◌<◌, ◌^�
 ghost use Rattle.block_forms.specs.Laid.{after, kind_size, again_of, kind_parts};
 ghost use Rattle.block_forms.specs.Patterns.{by_way, bound_parts, step_parts, turn_parts, for_parts, head_after, for_test};
 ghost use Rattle.goto_check.specs.Asking.{IsAsked, numbers_in, setting_in};
-ghost use Rattle.goto_check.specs.Counted.{counted};
+ghost use Rattle.goto_check.specs.Told.{told};
 ghost use Rattle.goto_check.specs.Room.{here, Room};
 ghost use Rattle.goto_check.specs.Wanted.{wanted};
 
-use crate::asking::{Asking, Question, ask_own, ask_shared, plus};
+use crate::asking::{Asking, Question, ask_own, ask_shared};
 use crate::patterns::{NULL_NOT_ALLOWED, is_null, source_term};
 use crate::read::{after_bound, first_test, jump_of, no_of, node, yes_of};
+use crate::runs::{Run, join};
 use crate::shapes::{Reads, Shape, Wanted};
 use crate::spots::Spot;
 use away_trees::{Expr, LoopKind};
@@ -28,17 +29,17 @@ fn by_way(reverse: bool, down: usize, up: usize) -> usize
 }
 
 /// A bound is set, and is not NULL.
-#[tactic(auto, using(crate::proofs::Counting::count_rules))]
-fn ask_bound(a: &Asking<'_>, b: usize, slot: usize, want: &Wanted<'_>, next: usize) -> u8
+#[tactic(auto, using(crate::proofs::Telling::told_rules))]
+fn ask_bound(a: &Asking<'_>, b: usize, slot: usize, want: &Wanted<'_>, next: usize) -> Run
     requires { a.now.fixed + 16 < 2 ^ 64 }
-    ensures { result ≡ counted a.now (bound_parts a.now.goto.now (numbers_in a.now) b slot (wanted want.now) next) }
+    ensures { result ≡ told a.now (bound_parts a.now.goto.now (numbers_in a.now) b slot (wanted want.now) next) }
 {
     let test = jump_of(a.goto, b);
     let fault = yes_of(a.goto, test);
     let null = is_null(a.fixed, Ty::Bigint, slot);
-    plus(
+    join(
         ask_own(a, b, &Shape::Sets(slot, want, test)),
-        plus(
+        join(
             ask_own(a, test, &Shape::Branch(false, &null, fault, next)),
             ask_shared(a, fault, &Shape::Fail(NULL_NOT_ALLOWED)),
         ),
@@ -54,7 +55,7 @@ fn head_after(g: &Goto, step: &Option<Expr>, b: usize) -> usize
     }
 }
 
-#[tactic(auto, using(crate::proofs::Counting::count_rules))]
+#[tactic(auto, using(crate::proofs::Telling::told_rules))]
 fn ask_step(
     a: &Asking<'_>,
     by: &Option<Expr>,
@@ -62,9 +63,9 @@ fn ask_step(
     b: usize,
     step: usize,
     head: usize,
-) -> u8
+) -> Run
     requires { a.now.fixed + 16 < 2 ^ 64 }
-    ensures { result ≡ counted a.now (step_parts a.now.goto.now (numbers_in a.now) by.now expr b step head) }
+    ensures { result ≡ told a.now (step_parts a.now.goto.now (numbers_in a.now) by.now expr b step head) }
 {
     match by {
         None => {
@@ -81,9 +82,9 @@ fn ask_step(
                 expr: a.fixed + 6,
                 reads: Reads::One(step),
             };
-            plus(
+            join(
                 ask_bound(a, b, step, &source_term(expr, e), test),
-                plus(
+                join(
                     ask_own(a, test, &Shape::Branch(false, &not_positive, fault, head)),
                     ask_shared(a, fault, &Shape::Fail(INVALID_PARAMETER)),
                 ),
@@ -101,7 +102,7 @@ struct Counter {
     step: usize,
 }
 
-#[tactic(auto, using(crate::proofs::Counting::count_rules))]
+#[tactic(auto, using(crate::proofs::Telling::told_rules))]
 fn ask_turn(
     a: &Asking<'_>,
     reverse: bool,
@@ -110,9 +111,9 @@ fn ask_turn(
     test: usize,
     body: usize,
     next: usize,
-) -> u8
+) -> Run
     requires { a.now.fixed + 16 < 2 ^ 64 }
-    ensures { result ≡ counted a.now (turn_parts a.now.goto.now (numbers_in a.now) reverse c.var c.cur c.last c.step head test body next) }
+    ensures { result ≡ told a.now (turn_parts a.now.goto.now (numbers_in a.now) reverse c.var c.cur c.last c.step head test body next) }
 {
     let in_range = Wanted {
         expr: a.fixed + by_way(reverse, 8, 7),
@@ -132,11 +133,11 @@ fn ask_turn(
     };
     let turn = yes_of(a.goto, head);
     let back = no_of(a.goto, test);
-    plus(
+    join(
         ask_own(a, head, &Shape::Branch(true, &in_range, turn, next)),
-        plus(
+        join(
             ask_own(a, turn, &Shape::Sets(c.var, &copy, body)),
-            plus(
+            join(
                 ask_own(a, test, &Shape::Branch(false, &leaves_range, next, back)),
                 ask_own(a, back, &Shape::Sets(c.cur, &moved, head)),
             ),
@@ -153,7 +154,7 @@ fn for_test(a: &Asking<'_>, reverse: bool, p: Spot) -> usize
     first_test(leaves_range, cur + 2, cur, a.goto.blocks.as_slice())
 }
 
-#[tactic(auto, using(crate::proofs::Counting::count_rules))]
+#[tactic(auto, using(crate::proofs::Telling::told_rules))]
 fn ask_for(
     a: &Asking<'_>,
     reverse: bool,
@@ -163,10 +164,10 @@ fn ask_for(
     p: Spot,
     body: usize,
     next: usize,
-) -> u8
+) -> Run
     requires room { Room (numbers_in a.now) (here p) }
     requires more { p.expr + 2 < 2 ^ 64 }
-    ensures { result ≡ counted a.now (for_parts a.now.goto.now (numbers_in a.now) reverse first.now last.now by.now (here p) body next) }
+    ensures { result ≡ told a.now (for_parts a.now.goto.now (numbers_in a.now) reverse first.now last.now by.now (here p) body next) }
 {
     let cur = a.counters + 3 * p.fors;
     let counter = Counter {
@@ -182,11 +183,11 @@ fn ask_for(
     let test = for_test(a, reverse, p);
     let from = source_term(p.expr, first);
     let to = source_term(p.expr + 1, last);
-    plus(
+    join(
         ask_bound(a, set_first, counter.cur, &from, set_last),
-        plus(
+        join(
             ask_bound(a, set_last, counter.last, &to, set_step),
-            plus(
+            join(
                 ask_step(a, by, p.expr + 2, set_step, counter.step, head),
                 ask_turn(a, reverse, counter, head, test, body, next),
             ),
@@ -214,13 +215,14 @@ pub(crate) fn turns_to(a: &Asking<'_>, kind: &LoopKind, p: Spot) -> usize
         Question::Fails => again_of(a, kind, p),
         Question::Owns(_) => 0,
         Question::Shares(_) => 0,
+        Question::Which => 0,
     }
 }
 
 /// The blocks of a loop, but its body's.
-pub(crate) fn ask_kind(a: &Asking<'_>, kind: &LoopKind, p: Spot, body: usize, next: usize) -> u8
+pub(crate) fn ask_kind(a: &Asking<'_>, kind: &LoopKind, p: Spot, body: usize, next: usize) -> Run
     requires { Room (numbers_in a.now) (after (here p) (kind_size kind.now)) }
-    ensures { result ≡ counted a.now (kind_parts (setting_in a.now) kind.now (here p) body next) }
+    ensures { result ≡ told a.now (kind_parts (setting_in a.now) kind.now (here p) body next) }
 {
     match kind {
         LoopKind::Plain => ask_own(a, node(a.goto, p.node), &Shape::Jump(true, body)),

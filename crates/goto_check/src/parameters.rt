@@ -4,13 +4,14 @@ ghost use Rattle.std.specs.Prelude.{◌≡◌, ◌+◌, ◌<◌, ◌^◌, length
 ghost use Rattle.block_forms.specs.Laid.{after, laid};
 ghost use Rattle.block_forms.specs.Lowered.{param_parts, params_parts, parts_in, body_place};
 ghost use Rattle.goto_check.specs.Asking.{numbers_in, setting_in};
-ghost use Rattle.goto_check.specs.Counted.{counted};
+ghost use Rattle.goto_check.specs.Told.{told};
 ghost use Rattle.goto_check.specs.Room.{Room};
 
-use crate::asking::{Asking, ask_own, ask_same, ask_shared, plus};
+use crate::asking::{Asking, ask_own, ask_same, ask_shared};
 use crate::enclosing::Enclosing;
 use crate::patterns::{is_null, null_of};
 use crate::read::{node, yes_of};
+use crate::runs::{Run, join};
 use crate::shapes::Shape;
 use crate::spots::spot_of;
 use crate::stand::ask_statement;
@@ -20,11 +21,11 @@ use away_values::{Class, Name, Ty};
 /// no_return: a function ends without RETURN
 const NO_RETURN: Class = Class { code: *b"2F005" };
 
-#[tactic(auto, using(crate::proofs::Counting::count_rules))]
-fn ask_param(a: &Asking<'_>, strict: bool, result_type: Ty, k: usize, ty: Ty) -> u8
+#[tactic(auto, using(crate::proofs::Telling::told_rules))]
+fn ask_param(a: &Asking<'_>, strict: bool, result_type: Ty, k: usize, ty: Ty) -> Run
     requires fixed { a.now.fixed + 16 < 2 ^ 64 }
     requires more { k + 1 < 2 ^ 64 }
-    ensures { result ≡ counted a.now (param_parts (setting_in a.now) strict result_type k ty) }
+    ensures { result ≡ told a.now (param_parts (setting_in a.now) strict result_type k ty) }
 {
     let b = node(a.goto, k);
     let next = node(a.goto, k + 1);
@@ -32,7 +33,7 @@ fn ask_param(a: &Asking<'_>, strict: bool, result_type: Ty, k: usize, ty: Ty) ->
         let null = yes_of(a.goto, b);
         let test = is_null(a.fixed, ty, k);
         let none = null_of(a.fixed, result_type);
-        plus(
+        join(
             ask_own(a, b, &Shape::Branch(false, &test, null, next)),
             ask_shared(a, null, &Shape::Return(&none)),
         )
@@ -41,15 +42,15 @@ fn ask_param(a: &Asking<'_>, strict: bool, result_type: Ty, k: usize, ty: Ty) ->
     }
 }
 
-#[tactic(auto, using(crate::proofs::Counting::count_rules))]
-fn ask_params(a: &Asking<'_>, strict: bool, result_type: Ty, k: usize, params: &[(Name, Ty)]) -> u8
+#[tactic(auto, using(crate::proofs::Telling::told_rules))]
+fn ask_params(a: &Asking<'_>, strict: bool, result_type: Ty, k: usize, params: &[(Name, Ty)]) -> Run
     requires fixed { a.now.fixed + 16 < 2 ^ 64 }
     requires more { k + length params.now < 2 ^ 64 }
-    ensures { result ≡ counted a.now (params_parts (setting_in a.now) strict result_type k params.now) }
+    ensures { result ≡ told a.now (params_parts (setting_in a.now) strict result_type k params.now) }
 {
     match params {
-        [] => 0,
-        [p, rest @ ..] => plus(
+        [] => Run::Empty,
+        [p, rest @ ..] => join(
             ask_param(a, strict, result_type, k, p.1),
             ask_params(a, strict, result_type, k + 1, rest),
         ),
@@ -57,10 +58,10 @@ fn ask_params(a: &Asking<'_>, strict: bool, result_type: Ty, k: usize, params: &
 }
 
 /// All parts of a function.
-#[tactic(auto, using(crate::proofs::Counting::count_rules))]
-pub(crate) fn ask_function(a: &Asking<'_>, f: &Function) -> u8
+#[tactic(auto, using(crate::proofs::Telling::told_rules))]
+pub(crate) fn ask_function(a: &Asking<'_>, f: &Function) -> Run
     requires { Room (numbers_in a.now) (after (body_place f.now) (laid f.now.body).size) }
-    ensures { result ≡ counted a.now (parts_in (setting_in a.now) f.now) }
+    ensures { result ≡ told a.now (parts_in (setting_in a.now) f.now) }
 {
     let many = f.params.len();
     let body = spot_of(many, 0, many, 0);
@@ -70,5 +71,5 @@ pub(crate) fn ask_function(a: &Asking<'_>, f: &Function) -> u8
     let end = ask_shared(a, finish, &Shape::Fail(NO_RETURN));
     let params = ask_params(a, f.strict, f.result, 0, f.params.as_slice());
     let inside = ask_statement(a, &f.body, body, &Enclosing::Outside, finish);
-    plus(entry, plus(end, plus(params, inside.count)))
+    join(entry, join(end, join(params, inside.run)))
 }

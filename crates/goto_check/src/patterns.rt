@@ -3,11 +3,12 @@
 ghost use Rattle.std.specs.Prelude.{◌≡◌, ◌+◌, ◌<◌, ◌^◌};
 ghost use Rattle.block_forms.specs.Patterns.{null_entry, is_null_entry, null_of, is_null, source_term, set_parts, slot_parts, leave_parts};
 ghost use Rattle.goto_check.specs.Asking.{numbers_in};
-ghost use Rattle.goto_check.specs.Counted.{counted};
+ghost use Rattle.goto_check.specs.Told.{told};
 ghost use Rattle.goto_check.specs.Wanted.{wanted};
 
-use crate::asking::{Asking, ask_own, ask_shared, plus};
+use crate::asking::{Asking, ask_own, ask_shared};
 use crate::read::{jump_of, yes_of};
+use crate::runs::{Run, join};
 use crate::shapes::{Reads, Shape, Wanted};
 use away_trees::Expr;
 use away_types::Slot;
@@ -68,7 +69,7 @@ pub(crate) fn source_term<'a>(expr: usize, e: &'a Expr) -> Wanted<'a>
     }
 }
 
-#[tactic(auto, using(crate::proofs::Counting::count_rules))]
+#[tactic(auto, using(crate::proofs::Telling::told_rules))]
 fn ask_set(
     a: &Asking<'_>,
     not_null: bool,
@@ -77,17 +78,17 @@ fn ask_set(
     slot: usize,
     want: &Wanted<'_>,
     next: usize,
-) -> u8
+) -> Run
     requires { a.now.fixed + 16 < 2 ^ 64 }
-    ensures { result ≡ counted a.now (set_parts a.now.goto.now (numbers_in a.now) not_null ty b slot (wanted want.now) next) }
+    ensures { result ≡ told a.now (set_parts a.now.goto.now (numbers_in a.now) not_null ty b slot (wanted want.now) next) }
 {
     if not_null {
         let test = jump_of(a.goto, b);
         let fault = yes_of(a.goto, test);
         let null = is_null(a.fixed, ty, slot);
-        plus(
+        join(
             ask_own(a, b, &Shape::Sets(slot, want, test)),
-            plus(
+            join(
                 ask_own(a, test, &Shape::Branch(false, &null, fault, next)),
                 ask_shared(a, fault, &Shape::Fail(NULL_NOT_ALLOWED)),
             ),
@@ -105,9 +106,9 @@ pub(crate) fn ask_slot(
     slot: usize,
     want: &Wanted<'_>,
     next: usize,
-) -> u8
+) -> Run
     requires { a.now.fixed + 16 < 2 ^ 64 }
-    ensures { result ≡ counted a.now (slot_parts a.now.goto.now (numbers_in a.now) s b slot (wanted want.now) next) }
+    ensures { result ≡ told a.now (slot_parts a.now.goto.now (numbers_in a.now) s b slot (wanted want.now) next) }
 {
     match s {
         None => ask_set(a, false, Ty::Bigint, b, slot, want, next),
@@ -123,8 +124,8 @@ pub(crate) fn ask_leave(
     b: usize,
     to: usize,
     next: usize,
-) -> u8
-    ensures { result ≡ counted a.now (leave_parts a.now.goto.now (numbers_in a.now) when.now expr b to next) }
+) -> Run
+    ensures { result ≡ told a.now (leave_parts a.now.goto.now (numbers_in a.now) when.now expr b to next) }
 {
     match when {
         None => ask_own(a, b, &Shape::Jump(false, to)),

@@ -6,17 +6,19 @@ ghost use Rattle.block_forms.specs.Patterns as form;
 ghost use Rattle.plsql_meaning.specs.Statements as meaning;
 ghost use Rattle.block_forms.specs.Laid.{a_node, after, laid, laid_row, laid_arms, row_size, arms_size, decls_size, kind_size, row_parts, arms_parts, decls_parts};
 ghost use Rattle.goto_check.specs.Asking.{IsAsked, numbers_in, setting_in};
-ghost use Rattle.goto_check.specs.Counted.{capped, counted};
+ghost use Rattle.goto_check.specs.Told.{told};
 ghost use Rattle.goto_check.specs.Enclosing.{around_of};
 ghost use Rattle.goto_check.specs.Room.{here, Room, Small};
+ghost use Rattle.goto_check.specs.Runs.{join};
 ghost use Rattle.goto_check.specs.Wanted.{wanted};
 
-use crate::asking::{Answer, Asking, Question, ask_never, ask_own, ask_same, ask_shared, plus};
+use crate::asking::{Answer, Asking, Question, ask_never, ask_own, ask_same, ask_shared};
 use crate::classes::class_of;
 use crate::enclosing::{Enclosing, again_to, exit_to};
 use crate::loops::{ask_kind, turns_to};
 use crate::patterns::{ask_leave, ask_slot, null_of, source_term};
 use crate::read::{no_of, node};
+use crate::runs::{Run, join};
 use crate::shapes::{Shape, Wanted};
 use crate::sizes::{decl_size, decls_size, kind_size, size_of};
 use crate::spots::{Spot, after, spot_of};
@@ -51,9 +53,9 @@ fn default_term<'a>(a: &Asking<'_>, default: &'a Option<Expr>, ty: Ty, expr: usi
     }
 }
 
-fn ask_decl(a: &Asking<'_>, d: &Decl, p: Spot, next: usize) -> u8
+fn ask_decl(a: &Asking<'_>, d: &Decl, p: Spot, next: usize) -> Run
     requires { Room (numbers_in a.now) (here p) }
-    ensures { result ≡ counted a.now (l.decl_parts (setting_in a.now) d.now (here p) next) }
+    ensures { result ≡ told a.now (l.decl_parts (setting_in a.now) d.now (here p) next) }
 {
     let default = default_term(a, &d.default, d.ty, p.expr);
     ask_slot(
@@ -66,23 +68,23 @@ fn ask_decl(a: &Asking<'_>, d: &Decl, p: Spot, next: usize) -> u8
     )
 }
 
-#[tactic(auto, using(crate::proofs::Counting::count_rules, crate::proofs::Rooms::room_rules))]
-fn ask_decls(a: &Asking<'_>, decls: &[Decl], p: Spot, next: usize) -> u8
+#[tactic(auto, using(crate::proofs::Telling::told_rules, crate::proofs::Rooms::room_rules))]
+fn ask_decls(a: &Asking<'_>, decls: &[Decl], p: Spot, next: usize) -> Run
     requires { Room (numbers_in a.now) (after (here p) (decls_size decls.now)) }
-    ensures { result ≡ counted a.now (decls_parts (setting_in a.now) decls.now (here p) next) }
+    ensures { result ≡ told a.now (decls_parts (setting_in a.now) decls.now (here p) next) }
 {
     match decls {
-        [] => 0,
-        [d, rest @ ..] => plus(
+        [] => Run::Empty,
+        [d, rest @ ..] => join(
             ask_decl(a, d, p, first_block(a, rest.len(), p.node + 1, next)),
             ask_decls(a, rest, after(p, decl_size(d)), next),
         ),
     }
 }
 
-fn ask_assign(a: &Asking<'_>, slot: Option<u32>, e: &Expr, p: Spot, next: usize) -> u8
+fn ask_assign(a: &Asking<'_>, slot: Option<u32>, e: &Expr, p: Spot, next: usize) -> Run
     requires { Room (numbers_in a.now) (here p) }
-    ensures { result ≡ counted a.now (l.assign_parts (setting_in a.now) slot e.now (here p) next) }
+    ensures { result ≡ told a.now (l.assign_parts (setting_in a.now) slot e.now (here p) next) }
 {
     match slot {
         None => ask_own(a, node(a.goto, p.node), &Shape::Jump(false, next)),
@@ -104,35 +106,35 @@ fn ask_assign(a: &Asking<'_>, slot: Option<u32>, e: &Expr, p: Spot, next: usize)
 /// What the node and the arms of an IF or a CASE answer, where the text behind them begins, and the block where no arm is taken.
 #[derive(Clone, Copy)]
 struct Tested {
-    count: u8,
+    run: Run,
     end: Spot,
     lack: usize,
 }
 
 /// What follows where no arm is taken and there is no ELSE.
-#[tactic(auto, using(crate::proofs::Counting::count_rules))]
+#[tactic(auto, using(crate::proofs::Telling::told_rules))]
 fn ask_lack(a: &Asking<'_>, tested: Tested, without: Option<Class>, next: usize) -> Answer
-    ensures count { result.count ≡ capped (tested.count + counted a.now (l.lack_parts (setting_in a.now) without tested.lack next)) }
+    ensures run { result.run ≡ join tested.run (told a.now (l.lack_parts (setting_in a.now) without tested.lack next)) }
     ensures end { result.end ≡ tested.end }
 {
-    let count = match without {
+    let run = match without {
         None => ask_same(a, tested.lack, next),
         Some(c) => ask_shared(a, tested.lack, &Shape::Fail(c)),
     };
     Answer {
-        count: plus(tested.count, count),
+        run: join(tested.run, run),
         end: tested.end,
     }
 }
 
 /// What a statement without statements inside answers, which ends with itself.
-fn behind(count: u8, s: &Stmt, p: Spot) -> Answer
+fn behind(run: Run, s: &Stmt, p: Spot) -> Answer
     requires { Small (after (here p) (laid s.now).size) }
-    ensures count { result.count ≡ count }
+    ensures run { result.run ≡ run }
     ensures end { here result.end ≡ after (here p) (laid s.now).size }
 {
     Answer {
-        count,
+        run,
         end: after(p, size_of(s)),
     }
 }
@@ -150,24 +152,25 @@ fn follows(a: &Asking<'_>, s: &Stmt, p: Spot, many: usize, next: usize) -> usize
         Question::Fails => first_block(a, many, after(p, size_of(s)).node, next),
         Question::Owns(_) => next,
         Question::Shares(_) => next,
+        Question::Which => next,
     }
 }
 
-fn ask_return(a: &Asking<'_>, e: &Expr, p: Spot) -> u8
-    ensures { result ≡ counted a.now (form.own (form.node a.now.goto.now p.node) (form.returns (form.source_term p.expr e.now)) ∷ []) }
+fn ask_return(a: &Asking<'_>, e: &Expr, p: Spot) -> Run
+    ensures { result ≡ told a.now (form.own (form.node a.now.goto.now p.node) (form.returns (form.source_term p.expr e.now)) ∷ []) }
 {
     let term = source_term(p.expr, e);
     ask_own(a, node(a.goto, p.node), &Shape::Return(&term))
 }
 
-fn ask_raise(a: &Asking<'_>, raised: &Raised, p: Spot) -> u8
-    ensures { result ≡ counted a.now (form.shared (form.node a.now.goto.now p.node) (form.fails (meaning.class_of raised.now)) ∷ []) }
+fn ask_raise(a: &Asking<'_>, raised: &Raised, p: Spot) -> Run
+    ensures { result ≡ told a.now (form.shared (form.node a.now.goto.now p.node) (form.fails (meaning.class_of raised.now)) ∷ []) }
 {
     ask_shared(a, node(a.goto, p.node), &Shape::Fail(class_of(raised)))
 }
 
 #[cycle(stand)]
-#[tactic(auto, using(crate::proofs::Counting::count_rules, crate::proofs::Equations::laid_rules, crate::proofs::Rooms::room_rules))]
+#[tactic(auto, using(crate::proofs::Telling::told_rules, crate::proofs::Equations::laid_rules, crate::proofs::Rooms::room_rules))]
 pub(crate) fn ask_statement(
     a: &Asking<'_>,
     s: &Stmt,
@@ -176,7 +179,7 @@ pub(crate) fn ask_statement(
     next: usize,
 ) -> Answer
     requires { Room (numbers_in a.now) (after (here p) (laid s.now).size) }
-    ensures count { result.count ≡ counted a.now ((laid s.now).parts (setting_in a.now) (here p) (around_of around.now) next) }
+    ensures run { result.run ≡ told a.now ((laid s.now).parts (setting_in a.now) (here p) (around_of around.now) next) }
     ensures end { here result.end ≡ after (here p) (laid s.now).size }
 {
     match s {
@@ -235,26 +238,26 @@ pub(crate) fn ask_statement(
 }
 
 #[cycle(stand)]
-#[tactic(auto, using(crate::proofs::Counting::count_rules, crate::proofs::Rooms::room_rules))]
+#[tactic(auto, using(crate::proofs::Telling::told_rules, crate::proofs::Rooms::room_rules))]
 fn ask_row(a: &Asking<'_>, list: &[Stmt], p: Spot, around: &Enclosing<'_>, next: usize) -> Answer
     requires { Room (numbers_in a.now) (after (here p) (row_size (laid_row list.now))) }
-    ensures count { result.count ≡ counted a.now (row_parts (setting_in a.now) (laid_row list.now) (here p) (around_of around.now) next) }
+    ensures run { result.run ≡ told a.now (row_parts (setting_in a.now) (laid_row list.now) (here p) (around_of around.now) next) }
     ensures end { here result.end ≡ after (here p) (row_size (laid_row list.now)) }
 {
-    let mut count = 0;
+    let mut run = Run::Empty;
     let mut at = p;
     for i in 0..list.len() {
         let s = &list[i];
         let to = follows(a, s, at, list.len() - (i + 1), next);
         let answer = ask_statement(a, s, at, around, to);
-        count = plus(count, answer.count);
+        run = join(run, answer.run);
         at = answer.end;
     }
-    Answer { count, end: at }
+    Answer { run, end: at }
 }
 
 #[cycle(stand)]
-#[tactic(auto, using(crate::proofs::Counting::count_rules, crate::proofs::Rooms::room_rules))]
+#[tactic(auto, using(crate::proofs::Telling::told_rules, crate::proofs::Rooms::room_rules))]
 fn ask_block(
     a: &Asking<'_>,
     label: &Option<Name>,
@@ -265,7 +268,7 @@ fn ask_block(
     next: usize,
 ) -> Answer
     requires { Room (numbers_in a.now) (after (here p) (after (after a_node (decls_size decls.now)) (row_size (laid_row body.now)))) }
-    ensures count { result.count ≡ counted a.now (l.block_parts (setting_in a.now) label.now decls.now (laid_row body.now) (here p) (around_of around.now) next) }
+    ensures run { result.run ≡ told a.now (l.block_parts (setting_in a.now) label.now decls.now (laid_row body.now) (here p) (around_of around.now) next) }
     ensures end { here result.end ≡ after (here p) (after (after a_node (decls_size decls.now)) (row_size (laid_row body.now))) }
 {
     let one = spot_of(1, 0, 0, 0);
@@ -277,13 +280,13 @@ fn ask_block(
     let inner = Enclosing::Block(label.as_ref(), next, &*around);
     let inside = ask_row(a, body, begin, &inner, next);
     Answer {
-        count: plus(begins, plus(declared, inside.count)),
+        run: join(begins, join(declared, inside.run)),
         end: inside.end,
     }
 }
 
 #[cycle(stand)]
-#[tactic(auto, using(crate::proofs::Counting::count_rules, crate::proofs::Rooms::room_rules))]
+#[tactic(auto, using(crate::proofs::Telling::told_rules, crate::proofs::Rooms::room_rules))]
 fn ask_loop(
     a: &Asking<'_>,
     label: &Option<Name>,
@@ -294,7 +297,7 @@ fn ask_loop(
     next: usize,
 ) -> Answer
     requires { Room (numbers_in a.now) (after (here p) (after (kind_size kind.now) (row_size (laid_row body.now)))) }
-    ensures count { result.count ≡ counted a.now (l.loop_parts (setting_in a.now) label.now kind.now (laid_row body.now) (here p) (around_of around.now) next) }
+    ensures run { result.run ≡ told a.now (l.loop_parts (setting_in a.now) label.now kind.now (laid_row body.now) (here p) (around_of around.now) next) }
     ensures end { here result.end ≡ after (here p) (after (kind_size kind.now) (row_size (laid_row body.now))) }
 {
     let again = turns_to(a, kind, p);
@@ -303,13 +306,13 @@ fn ask_loop(
     let inner = Enclosing::Loop(label.as_ref(), next, again, &*around);
     let inside = ask_row(a, body, after(p, kind_size(kind)), &inner, again);
     Answer {
-        count: plus(around_body, inside.count),
+        run: join(around_body, inside.run),
         end: inside.end,
     }
 }
 
 #[cycle(stand)]
-#[tactic(auto, using(crate::proofs::Counting::count_rules, crate::proofs::Rooms::room_rules, crate::proofs::Equations::laid_arm_is))]
+#[tactic(auto, using(crate::proofs::Telling::told_rules, crate::proofs::Rooms::room_rules, crate::proofs::Equations::laid_arm_is))]
 fn ask_arms(
     a: &Asking<'_>,
     arms: &[Arm],
@@ -319,11 +322,11 @@ fn ask_arms(
     b: usize,
 ) -> Tested
     requires { Room (numbers_in a.now) (after (here p) (arms_size (laid_arms arms.now))) }
-    ensures count { result.count ≡ counted a.now (arms_parts (setting_in a.now) (laid_arms arms.now) (here p) (around_of around.now) next b) }
+    ensures run { result.run ≡ told a.now (arms_parts (setting_in a.now) (laid_arms arms.now) (here p) (around_of around.now) next b) }
     ensures end { here result.end ≡ after (here p) (arms_size (laid_arms arms.now)) }
     ensures lack { result.lack ≡ l.lack (setting_in a.now) (laid_arms arms.now) b }
 {
-    let mut count = 0;
+    let mut run = Run::Empty;
     let mut at = p;
     let mut from = b;
     for i in 0..arms.len() {
@@ -333,14 +336,14 @@ fn ask_arms(
         let inside = after(at, spot_of(1, 1, 0, 0));
         let test = source_term(at.expr, &arm.test);
         let own = ask_own(a, from, &Shape::Branch(false, &test, body, other));
-        let here = plus(ask_same(a, from, node(a.goto, at.node)), own);
+        let here = join(ask_same(a, from, node(a.goto, at.node)), own);
         let answer = ask_row(a, arm.body.as_slice(), inside, around, next);
-        count = plus(count, plus(here, answer.count));
+        run = join(run, join(here, answer.run));
         at = answer.end;
         from = other;
     }
     Tested {
-        count,
+        run,
         end: at,
         lack: from,
     }
@@ -351,7 +354,7 @@ fn ask_arms(
 #[tactic(auto, using(crate::proofs::Rooms::room_rules))]
 fn ask_tests(a: &Asking<'_>, arms: &[Arm], p: Spot, around: &Enclosing<'_>, next: usize) -> Tested
     requires { Room (numbers_in a.now) (after (here p) (after a_node (arms_size (laid_arms arms.now)))) }
-    ensures count { result.count ≡ counted a.now (arms_parts (setting_in a.now) (laid_arms arms.now) (after (here p) a_node) (around_of around.now) next (form.node a.now.goto.now p.node)) }
+    ensures run { result.run ≡ told a.now (arms_parts (setting_in a.now) (laid_arms arms.now) (after (here p) a_node) (around_of around.now) next (form.node a.now.goto.now p.node)) }
     ensures end { here result.end ≡ after (here p) (after a_node (arms_size (laid_arms arms.now))) }
     ensures lack { result.lack ≡ l.lack (setting_in a.now) (laid_arms arms.now) (form.node a.now.goto.now p.node) }
 {
@@ -361,7 +364,7 @@ fn ask_tests(a: &Asking<'_>, arms: &[Arm], p: Spot, around: &Enclosing<'_>, next
 
 /// The ELSE behind the arms.
 #[cycle(stand)]
-#[tactic(auto, using(crate::proofs::Counting::count_rules, crate::proofs::Rooms::room_rules))]
+#[tactic(auto, using(crate::proofs::Telling::told_rules, crate::proofs::Rooms::room_rules))]
 fn ask_else(
     a: &Asking<'_>,
     tested: Tested,
@@ -370,7 +373,7 @@ fn ask_else(
     next: usize,
 ) -> Answer
     requires { Room (numbers_in a.now) (after (here tested.end) (after a_node (row_size (laid_row body.now)))) }
-    ensures count { result.count ≡ capped (tested.count + counted a.now (l.else_parts (setting_in a.now) (Some (laid_row body.now)) None (here tested.end) (around_of around.now) next tested.lack)) }
+    ensures run { result.run ≡ join tested.run (told a.now (l.else_parts (setting_in a.now) (Some (laid_row body.now)) None (here tested.end) (around_of around.now) next tested.lack)) }
     ensures end { here result.end ≡ after (here tested.end) (after a_node (row_size (laid_row body.now))) }
 {
     let q = tested.end;
@@ -379,7 +382,7 @@ fn ask_else(
     let begins = ask_same(a, tested.lack, to);
     let inside = ask_row(a, body, after(q, spot_of(1, 0, 0, 0)), around, next);
     Answer {
-        count: plus(tested.count, plus(here, plus(begins, inside.count))),
+        run: join(tested.run, join(here, join(begins, inside.run))),
         end: inside.end,
     }
 }

@@ -3,6 +3,7 @@
 mod worked;
 
 use crate::check::is_lowered;
+use crate::runs::{Run, is_up_to, join};
 use crate::tests::worked::{
     COLLATZ, COLLATZ_HEADS, NO_RETURN, RENUMBERED, SIGN_OF, SIGN_OF_HEADS, collatz, collatz_form,
     sign_of, sign_of_form, slots,
@@ -42,6 +43,7 @@ fn the_form_of_sign_of(rt: HostRuntime) {
     assert!(rt; is_form_of_sign_of(&rt, &SIGN_OF, &SIGN_OF_HEADS, NO_RETURN));
 }
 
+/// Its end of the function is its last block, so that each block is looked for by itself.
 #[test]
 fn other_numbers_of_blocks(rt: HostRuntime) {
     assert!(rt; is_form_of_sign_of(&rt, &RENUMBERED, &SIGN_OF_HEADS, NO_RETURN));
@@ -61,6 +63,7 @@ fn a_finish_that_returns(rt: HostRuntime) {
     assert!(rt; !is_form_of_sign_of(&rt, &v, &SIGN_OF_HEADS, NO_RETURN));
 }
 
+/// Its blocks are in the order of the text, so that one walk tells that each is once.
 #[test]
 fn the_form_of_collatz(rt: HostRuntime) {
     assert!(rt; is_form_of_collatz(&rt, &COLLATZ, &COLLATZ_HEADS, NO_RETURN));
@@ -87,6 +90,17 @@ fn another_head(rt: HostRuntime) {
 #[test]
 fn another_class(rt: HostRuntime) {
     assert!(rt; !is_form_of_collatz(&rt, &COLLATZ, &COLLATZ_HEADS, *b"2F006"));
+}
+
+#[test]
+fn numbers_in_a_row(rt: HostRuntime) {
+    let row = join(Run::FromTo(0, 1), Run::FromTo(2, 2));
+    assert!(rt; is_up_to(row, 3));
+    assert!(rt; !is_up_to(row, 2));
+    assert!(rt; !is_up_to(row, 4));
+    assert!(rt; !is_up_to(join(row, Run::FromTo(2, 2)), 3));
+    assert!(rt; !is_up_to(join(Run::FromTo(2, 2), Run::FromTo(0, 1)), 3));
+    assert!(rt; !is_up_to(join(Run::FromTo(0, 0), Run::FromTo(2, 2)), 3));
 }
 
 #[test]

@@ -18,8 +18,11 @@ returns c =
     let at : numbers_in a ≡ numbers_of f = λ i. record { fixed = (c.size_of-size.ensures i).expr; counters = c.len.ensures i + (c.size_of-size.ensures i).slot } in
     let has : IsTrue c.has_nodes.result = subst (λ b. IsTrue b) (sym c.if-not-has_nodes.false) (let t : IsTrue true = search in t) in
     let as_many : length g.nodes ≡ length f.params + (laid f.body).size.node = sym c.nodes_given.ensures.value ∙ c.has_nodes.ensures.0 has in
-    let stand : (c.ask_function-fails.result ≡ 0) ↔ AllStand g.blocks ps = subst (λ n. (n ≡ 0) ↔ AllStand g.blocks ps) (sym c.ask_function-fails.ensures) (none_fails a ps refl) in
-    decided f c.args.slots.now g (numbers_in a) c.ask_function-fails.result c.each_once.result c.no_way_to.result c.slots_below.result at as_many stand
+    let fails = c.is_empty.ensures in
+    let none = none_fails a ps refl in
+    let at_fails = c.ask_function-fails.ensures in
+    let stand : IsTrue c.is_empty.result ↔ AllStand g.blocks ps = (λ t. none.0 (sym at_fails ∙ fails.0 t), λ s. fails.1 (at_fails ∙ none.1 s)) in
+    decided f c.args.slots.now g (numbers_in a) c.is_empty.result c.each_once.result c.no_way_to.result c.slots_below.result at as_many stand
     c.each_once.ensures
     (rw c.as_slice.ensures at c.no_way_to.ensures)
     (rw c.as_slice-2.ensures at c.slots_below.ensures)
