@@ -2,7 +2,7 @@
 
 use crate::read::read_function;
 use away_lex::{LimitKind, ReadRefusal};
-use away_trees::Function;
+use away_trees::{Expr, Function, Stmt};
 use sqlite_items::Boxed;
 use std::alloc::{AllocError, Global};
 use std::test::Fail;
@@ -277,6 +277,54 @@ fn limits(rt: HostRuntime) -> Result<(), Fail> {
             *wanted,
             "{times} {part}"
         );
+    }
+    Ok(())
+}
+
+/// The value of the body's first statement, where that is RETURN.
+fn returned(f: &Function) -> Option<&Expr> {
+    let Stmt::Block { body, .. } = &f.body else {
+        return None;
+    };
+    match body.get(0)? {
+        Stmt::Return(value) => Some(value),
+        _ => None,
+    }
+}
+
+/// How long the list of choices or the text is that the function returns; 0 where it returns neither.
+fn length_returned(alloc: Global, f: Function) -> Result<usize, AllocError> {
+    let f = Boxed::new(alloc, f)?;
+    Ok(match returned(f.get()) {
+        Some(Expr::OneOf(_, _, choices)) => choices.len(),
+        Some(Expr::Str(word)) => word.text().len(),
+        _ => 0,
+    })
+}
+
+fn length_of(alloc: Global, text: &str) -> Result<usize, AllocError> {
+    match read_function(alloc, text.as_bytes()) {
+        Ok(f) => length_returned(alloc, f),
+        Err(_) => Ok(0),
+    }
+}
+
+// The second file is as long as a function's may be, but for some bytes.
+#[test]
+fn long_functions(rt: HostRuntime) -> Result<(), Fail> {
+    let rows = [
+        ("BEGIN RETURN 0 IN (0", ", 7", 9_999, "); END", 10_000),
+        (
+            "BEGIN RETURN '",
+            "0123456789abcdef",
+            65_530,
+            "'; END",
+            1_048_480,
+        ),
+    ];
+    for (front, part, times, back, wanted) in rows.iter() {
+        let file = repeated(rt.alloc(), front, part, *times, back)?;
+        assert_eq!(rt; length_of(rt.alloc(), file.as_str())?, *wanted);
     }
     Ok(())
 }

@@ -1,43 +1,30 @@
 //! Certificates of a function and its query, with the status and the line of each.
 
+use super::edited::{edited, replaced};
 use super::held::{Run, execute};
 use crate::code;
 use std::alloc::{AllocError, Global};
 use std::test::Fail;
 
-const FUNCTION: &[u8] =
+pub const FUNCTION: &[u8] =
     b"CREATE FUNCTION sign_of(a bigint) RETURNS bigint LANGUAGE plpgsql AS $$ BEGIN IF a > 0 THEN RETURN 1; END IF; RETURN 2; END; $$;";
 
 /// The query of the form in which each block is a label.
-const LABELS: &str =
+pub const LABELS: &str =
     "WITH RECURSIVE away_r(away_go, away_fn, away_c0, away_res, away_err) AS (SELECT CAST(TRUE AS boolean), CAST(4 AS bigint), CAST($1 AS bigint), CAST(NULL AS bigint), CAST(NULL AS text) UNION ALL SELECT away_s.away_go, away_s.away_fn, away_s.away_c0, away_s.away_res, away_s.away_err FROM away_r, LATERAL (SELECT CAST(FALSE AS boolean), CAST(0 AS bigint), CAST(NULL AS bigint), away_k2.away_v, CAST(NULL AS text) FROM LATERAL (SELECT CAST(TRUE AS boolean) WHERE away_r.away_fn = CAST(1 AS bigint)) AS away_k1(away_v), LATERAL (SELECT CAST(2 AS bigint)) AS away_k2(away_v) UNION ALL SELECT CAST(FALSE AS boolean), CAST(0 AS bigint), CAST(NULL AS bigint), away_k4.away_v, CAST(NULL AS text) FROM LATERAL (SELECT CAST(TRUE AS boolean) WHERE away_r.away_fn = CAST(2 AS bigint)) AS away_k3(away_v), LATERAL (SELECT CAST(1 AS bigint)) AS away_k4(away_v) UNION ALL SELECT away_k7.away_go, away_k7.away_fn, away_k7.away_c0, away_k7.away_res, away_k7.away_err FROM LATERAL (SELECT CAST(TRUE AS boolean) WHERE away_r.away_fn = CAST(3 AS bigint)) AS away_k5(away_v), LATERAL (SELECT away_r.away_c0 > CAST(0 AS bigint)) AS away_k6(away_v), LATERAL (SELECT CAST(TRUE AS boolean), CAST(2 AS bigint), CAST(NULL AS bigint), CAST(NULL AS bigint), CAST(NULL AS text) FROM LATERAL (SELECT CAST(TRUE AS boolean) WHERE away_k6.away_v) AS away_k8(away_v) UNION ALL SELECT CAST(TRUE AS boolean), CAST(1 AS bigint), CAST(NULL AS bigint), CAST(NULL AS bigint), CAST(NULL AS text) FROM LATERAL (SELECT CAST(TRUE AS boolean) WHERE away_k6.away_v IS NOT TRUE) AS away_k9(away_v)) AS away_k7(away_go, away_fn, away_c0, away_res, away_err) UNION ALL SELECT CAST(TRUE AS boolean), CAST(3 AS bigint), away_r.away_c0, CAST(NULL AS bigint), CAST(NULL AS text) FROM LATERAL (SELECT CAST(TRUE AS boolean) WHERE away_r.away_fn = CAST(4 AS bigint)) AS away_k10(away_v)) AS away_s(away_go, away_fn, away_c0, away_res, away_err) WHERE away_r.away_go) SELECT away_r.away_res, away_r.away_err FROM away_r WHERE NOT away_r.away_go";
 
 /// The query of the form in which all blocks are merged into the entry.
-const MERGED: &str =
-    "WITH RECURSIVE away_r(away_go, away_fn, away_c0, away_res, away_err) AS (SELECT CAST(TRUE AS boolean), CAST(1 AS bigint), CAST($1 AS bigint), CAST(NULL AS bigint), CAST(NULL AS text) UNION ALL SELECT away_s.away_go, away_s.away_fn, away_s.away_c0, away_s.away_res, away_s.away_err FROM away_r, LATERAL (SELECT away_k3.away_go, away_k3.away_fn, away_k3.away_c0, away_k3.away_res, away_k3.away_err FROM LATERAL (SELECT CAST(TRUE AS boolean) WHERE away_r.away_fn = CAST(1 AS bigint)) AS away_k1(away_v), LATERAL (SELECT away_r.away_c0 > CAST(0 AS bigint)) AS away_k2(away_v), LATERAL (SELECT CAST(FALSE AS boolean), CAST(0 AS bigint), CAST(NULL AS bigint), away_k5.away_v, CAST(NULL AS text) FROM LATERAL (SELECT CAST(TRUE AS boolean) WHERE away_k2.away_v) AS away_k4(away_v), LATERAL (SELECT CAST(1 AS bigint)) AS away_k5(away_v) UNION ALL SELECT CAST(FALSE AS boolean), CAST(0 AS bigint), CAST(NULL AS bigint), away_k7.away_v, CAST(NULL AS text) FROM LATERAL (SELECT CAST(TRUE AS boolean) WHERE away_k2.away_v IS NOT TRUE) AS away_k6(away_v), LATERAL (SELECT CAST(2 AS bigint)) AS away_k7(away_v)) AS away_k3(away_go, away_fn, away_c0, away_res, away_err)) AS away_s(away_go, away_fn, away_c0, away_res, away_err) WHERE away_r.away_go) SELECT away_r.away_res, away_r.away_err FROM away_r WHERE NOT away_r.away_go";
+pub const MERGED: &str =
+    "WITH RECURSIVE away_r(away_go, away_fn, away_c0, away_res, away_err) AS (SELECT CAST(TRUE AS boolean), CAST(1 AS bigint), CAST($1 AS bigint), CAST(NULL AS bigint), CAST(NULL AS text) UNION ALL SELECT away_s.away_go, away_s.away_fn, away_s.away_c0, away_s.away_res, away_s.away_err FROM away_r, LATERAL (SELECT away_k3.away_go, away_k3.away_fn, away_k3.away_c0, away_k3.away_res, away_k3.away_err FROM LATERAL (SELECT CAST(TRUE AS boolean) WHERE away_r.away_fn = CAST(1 AS bigint)) AS away_k1(away_v), LATERAL (SELECT away_r.away_c0 > CAST(0 AS bigint)) AS away_k2(away_v), LATERAL (SELECT CAST(FALSE AS boolean), CAST(0 AS bigint), CAST(NULL AS bigint), away_k5.away_v, CAST(NULL AS text) FROM LATERAL (SELECT CAST(TRUE AS boolean) WHERE away_k2.away_v) AS away_k4(away_v), LATERAL (SELECT CAST(1 AS bigint)) AS away_k5(away_v) UNION ALL SELECT CAST(FALSE AS boolean), CAST(0 AS bigint), CAST(NULL AS bigint), away_k7.away_v, CAST(NULL AS text) FROM LATERAL (SELECT CAST(TRUE AS boolean) WHERE away_k2.away_v IS NOT TRUE) AS away_k6(away_v), LATERAL (SELECT CAST(2 AS bigint)) AS away_k7(away_v)) AS away_k3(away_go, away_fn, away_c0, away_res, away_err)) AS away_s(away_go, away_fn, away_c0, away_res, away_err) WHERE away_r.away_go) SELECT away_r.away_res, away_r.away_err FROM away_r WHERE NOT away_r.away_go\n";
 
 /// The forms before the labels.
-const FORMS: &str =
+pub const FORMS: &str =
     "{\"goto\":{\"entry\":0,\"end\":4,\"nodes\":[1,1,1,1,2,3],\"blocks\":[[false,null,[\"jump\",1]],[false,null,[\"branch\",0,[0],2,3]],[false,null,[\"return\",1,[]]],[false,null,[\"return\",2,[]]],[false,null,[\"fail\",\"2F005\"]]]},\"ssa\":{\"names\":[0],\"blocks\":[[[[0,0]],[],null,[\"jump\",1]],[[[0,0]],[],null,[\"branch\",0,[0],2,3]],[[],[],null,[\"return\",1,[]]],[[],[],null,[\"return\",2,[]]],[[],[],null,[\"fail\",\"2F005\"]]]},\"anf\":{\"blocks\":[[[0],null,[\"call\",1,[0]]],[[0],null,[\"if\",0,[0],2,[],3,[]]],[[],null,[\"return\",1,[]]],[[],null,[\"return\",2,[]]],[[],null,[\"fail\",\"2F005\"]]]},";
 
 const ALL_LABELS: &str =
     "\"labels\":[3,2,1,0],\"columns\":[\"bigint\"],\"places\":[[],[],[0],[0]]}";
 
-const ONE_LABEL: &str = "\"labels\":[0],\"columns\":[\"bigint\"],\"places\":[[0]]}";
-
-/// A text with one part put in place of another.
-fn replaced(alloc: Global, text: &str, old: &str, new: &str) -> Result<String, AllocError> {
-    let mut made = String::new(alloc);
-    match text.split_once(old) {
-        Some((front, rest)) => {
-            made.push_str(front)?;
-            made.push_str(new)?;
-            made.push_str(rest)?;
-        }
-        None => made.push_str(text)?,
-    }
-    Ok(made)
-}
+pub const ONE_LABEL: &str = "\"labels\":[0],\"columns\":[\"bigint\"],\"places\":[[0]]}";
 
 fn run<'x>(alloc: Global, query: &'x str, cert: &'x str) -> Result<Run, AllocError> {
     let files: [(&str, &[u8]); 4] = [
@@ -271,5 +258,30 @@ fn other_queries_are_not_accepted(rt: HostRuntime) -> Result<(), Fail> {
         let run = run(alloc, &query, &cert)?;
         assert_eq!(rt; run.sink.written(), line.as_bytes());
     }
+    Ok(())
+}
+
+/// Block 2 has a further parameter, which nothing reads: in the form, as a place, and in the query.
+static FURTHER_IN_THE_CERTIFICATE: [(&str, &str); 2] = [
+    ("2,[],3,[]]],[[],null", "2,[0],3,[]]],[[0],null"),
+    ("\"places\":[[],[],", "\"places\":[[],[0],"),
+];
+
+static FURTHER_IN_THE_QUERY: [(&str, &str); 1] = [(
+    "CAST(2 AS bigint), CAST(NULL AS bigint), CAST(NULL AS bigint)",
+    "CAST(2 AS bigint), away_r.away_c0, CAST(NULL AS bigint)",
+)];
+
+#[test]
+fn a_name_that_nothing_reads_may_be_passed(rt: HostRuntime) -> Result<(), Fail> {
+    let alloc = rt.alloc();
+    let mut cert = String::from_str(alloc, FORMS)?;
+    cert.push_str(ALL_LABELS)?;
+    let cert = edited(alloc, &cert, &FURTHER_IN_THE_CERTIFICATE)?;
+    let query = edited(alloc, LABELS, &FURTHER_IN_THE_QUERY)?;
+    let passed = run(alloc, &query, &cert)?;
+    assert_eq!(rt; passed.sink.written(), b"accepted\n".as_slice());
+    let not_passed = run(alloc, LABELS, &cert)?;
+    assert_eq!(rt; not_passed.sink.written(), b"not accepted S7\n".as_slice());
     Ok(())
 }

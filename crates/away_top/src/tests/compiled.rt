@@ -21,31 +21,56 @@ const SCALAR: &str =
 const STEPS: &str =
     "CREATE FUNCTION f(a bigint) RETURNS bigint LANGUAGE plpgsql AS $$ BEGIN FOR i IN a..3 BY 0 LOOP NULL; END LOOP; RETURN 0; END; $$;";
 
-/// A function, its argument, the turns and the iterations, and the status and the line of both.
-static ROWS: [(&str, &str, &str, &str, u8, &str); 25] = [
-    (COLLATZ, "27", "111", "225", 0, "value 111\n"),
-    (COLLATZ, "27", "110", "224", 6, "more\n"),
-    (COLLATZ, "0", "1000", "1000", 6, "more\n"),
-    (COLLATZ, "\\N", "0", "193", 0, "value 0\n"),
+const STRICT_COLLATZ: &str =
+    "CREATE FUNCTION public.collatz(n bigint) RETURNS bigint LANGUAGE plpgsql IMMUTABLE STRICT AS $$ DECLARE steps bigint := 0; BEGIN WHILE n <> 1 LOOP IF n % 2 = 0 THEN n := n / 2; ELSE n := 3 * n + 1; END IF; steps := steps + 1; END LOOP; RETURN steps; END; $$;";
+
+const TOTAL: &str =
+    "CREATE FUNCTION f(a bigint, b bigint) RETURNS bigint LANGUAGE plpgsql AS $$ BEGIN RETURN a + b * 2; END; $$;";
+
+const SIGN: &str =
+    "CREATE FUNCTION sign_of(a bigint) RETURNS bigint LANGUAGE plpgsql AS $$ BEGIN IF a > 0 THEN RETURN 1; END IF; RETURN 2; END; $$;";
+
+const PART: &str =
+    "CREATE FUNCTION f(s text, p bigint, n bigint) RETURNS text LANGUAGE plpgsql AS $$ BEGIN RETURN substr(s, p, n); END; $$;";
+
+/// A loop without an end.
+const ENDLESS: &str =
+    "CREATE FUNCTION f(a bigint) RETURNS bigint LANGUAGE plpgsql AS $$ DECLARE x bigint := 0; BEGIN LOOP x := x + a; END LOOP; END; $$;";
+
+/// An EXIT out of three loops.
+const NESTED: &str =
+    "CREATE FUNCTION f(a bigint) RETURNS bigint LANGUAGE plpgsql AS $$ DECLARE c bigint := 0; BEGIN <<far>> FOR i IN 1..9 LOOP FOR j IN 1..9 LOOP LOOP c := c + 1; EXIT far WHEN c > a; EXIT WHEN c % 2 = 0; END LOOP; END LOOP; END LOOP; RETURN c; END; $$;";
+
+/// A function, its arguments, the turns and the iterations, and the status and the line of both.
+static ROWS: [(&str, &[&str], &str, &str, u8, &str); 40] = [
+    (TOTAL, &["3", "4"], "0", "2", 0, "value 11\n"),
+    (SIGN, &["5"], "0", "2", 0, "value 1\n"),
+    (COLLATZ, &["27"], "111", "225", 0, "value 111\n"),
+    (COLLATZ, &["27"], "110", "224", 6, "more\n"),
+    (COLLATZ, &["0"], "0", "0", 6, "more\n"),
+    (COLLATZ, &["0"], "1", "1", 6, "more\n"),
+    (COLLATZ, &["0"], "1000000", "10000", 6, "more\n"),
+    (COLLATZ, &["\\N"], "0", "193", 0, "value 0\n"),
+    (STRICT_COLLATZ, &["\\N"], "0", "193", 0, "null\n"),
     (
         COLLATZ,
-        "9223372036854775807",
+        &["9223372036854775807"],
         "1",
         "385",
         7,
         "fault 22003\n",
     ),
-    (TABLES, "0", "0", "1000", 0, "value 3\n"),
-    (TABLES, "\\N", "0", "1000", 0, "value 3\n"),
-    (TABLES, "4", "0", "1000", 0, "value 34\n"),
-    (SCALAR, "0", "0", "1000", 0, "null\n"),
-    (SCALAR, "1", "0", "1000", 0, "value one\n"),
-    (SCALAR, "2", "0", "1000", 7, "fault 21000\n"),
-    (STEPS, "\\N", "0", "1000", 7, "fault 22004\n"),
-    (STEPS, "1", "0", "1000", 7, "fault 22023\n"),
+    (TABLES, &["0"], "0", "1000", 0, "value 3\n"),
+    (TABLES, &["\\N"], "0", "1000", 0, "value 3\n"),
+    (TABLES, &["4"], "0", "1000", 0, "value 34\n"),
+    (SCALAR, &["0"], "0", "1000", 0, "null\n"),
+    (SCALAR, &["1"], "0", "1000", 0, "value one\n"),
+    (SCALAR, &["2"], "0", "1000", 7, "fault 21000\n"),
+    (STEPS, &["\\N"], "0", "1000", 7, "fault 22004\n"),
+    (STEPS, &["1"], "0", "1000", 7, "fault 22023\n"),
     (
         "CREATE FUNCTION f(a bigint) RETURNS bigint LANGUAGE plpgsql STRICT AS $$ BEGIN RETURN a; END; $$",
-        "\\N",
+        &["\\N"],
         "0",
         "65",
         0,
@@ -53,23 +78,39 @@ static ROWS: [(&str, &str, &str, &str, u8, &str); 25] = [
     ),
     (
         "CREATE FUNCTION f(a bigint) RETURNS bigint LANGUAGE plpgsql AS $$ BEGIN RETURN a / -1; END; $$",
-        "-9223372036854775808",
+        &["-9223372036854775808"],
         "0",
         "65",
         7,
         "fault 22003\n",
     ),
     (
-        "CREATE FUNCTION f(a text) RETURNS text LANGUAGE plpgsql AS $$ BEGIN RETURN substr(a, -1, 4); END; $$",
-        "h\u{e9}llo",
+        "CREATE FUNCTION f(a bigint) RETURNS bigint LANGUAGE plpgsql AS $$ BEGIN RETURN a % -1; END; $$",
+        &["-9223372036854775808"],
         "0",
         "65",
+        0,
+        "value 0\n",
+    ),
+    (
+        PART,
+        &["h\u{e9}llo", "-1", "4"],
+        "0",
+        "97",
         0,
         "value h\u{e9}\n",
     ),
     (
+        PART,
+        &["h\u{e9}llo", "1", "-1"],
+        "0",
+        "97",
+        7,
+        "fault 22011\n",
+    ),
+    (
         "CREATE FUNCTION f(a bigint) RETURNS bigint LANGUAGE plpgsql AS $$ DECLARE x bigint NOT NULL := 1; BEGIN x := a; RETURN x; END; $$",
-        "\\N",
+        &["\\N"],
         "0",
         "97",
         7,
@@ -77,7 +118,7 @@ static ROWS: [(&str, &str, &str, &str, u8, &str); 25] = [
     ),
     (
         "CREATE FUNCTION f(a bigint) RETURNS bigint LANGUAGE plpgsql AS $$ DECLARE x bigint; BEGIN x := 1 / 0; RETURN 5; END; $$",
-        "1",
+        &["1"],
         "0",
         "97",
         7,
@@ -85,15 +126,23 @@ static ROWS: [(&str, &str, &str, &str, u8, &str); 25] = [
     ),
     (
         "CREATE FUNCTION f(a bigint) RETURNS text LANGUAGE plpgsql AS $$ DECLARE r text := ''; BEGIN FOR i IN REVERSE 10..1 BY 3 LOOP r := r || i; END LOOP; RETURN r; END; $$",
-        "1",
+        &["1"],
         "4",
         "1000",
         0,
         "value 10741\n",
     ),
     (
+        "CREATE FUNCTION f(a bigint) RETURNS bigint LANGUAGE plpgsql AS $$ DECLARE c bigint := 0; BEGIN FOR i IN 9223372036854775806..9223372036854775807 LOOP c := c + 1; END LOOP; RETURN c; END; $$",
+        &["1"],
+        "2",
+        "1000",
+        0,
+        "value 2\n",
+    ),
+    (
         "CREATE FUNCTION f(a bigint) RETURNS bigint LANGUAGE plpgsql AS $$ BEGIN CASE WHEN FALSE THEN RETURN 1; END CASE; END; $$",
-        "1",
+        &["1"],
         "0",
         "1000",
         7,
@@ -101,15 +150,23 @@ static ROWS: [(&str, &str, &str, &str, u8, &str); 25] = [
     ),
     (
         "CREATE FUNCTION f(a bigint) RETURNS bigint LANGUAGE plpgsql AS $$ BEGIN NULL; END; $$",
-        "1",
+        &["1"],
         "0",
         "1000",
         7,
         "fault 2F005\n",
     ),
     (
+        "CREATE FUNCTION f(a bigint) RETURNS bigint LANGUAGE plpgsql AS $$ BEGIN RAISE EXCEPTION 'no'; END; $$",
+        &["1"],
+        "0",
+        "1000",
+        7,
+        "fault P0001\n",
+    ),
+    (
         "CREATE FUNCTION f(a bigint) RETURNS bigint LANGUAGE plpgsql AS $$ BEGIN RAISE EXCEPTION SQLSTATE 'AB123'; END; $$",
-        "1",
+        &["1"],
         "0",
         "1000",
         7,
@@ -117,15 +174,23 @@ static ROWS: [(&str, &str, &str, &str, u8, &str); 25] = [
     ),
     (
         "CREATE FUNCTION f(a bigint) RETURNS bigint LANGUAGE plpgsql AS $$ DECLARE s bigint := 0; BEGIN FOR i IN 1..9 LOOP CONTINUE WHEN i % 2 = 0; s := s + i; END LOOP; RETURN s; END; $$",
-        "1",
+        &["1"],
         "9",
         "2000",
         0,
         "value 25\n",
     ),
     (
+        "CREATE FUNCTION f(a bigint) RETURNS bigint LANGUAGE plpgsql AS $$ DECLARE s bigint := 0; BEGIN FOR i IN 1..3 LOOP i := i * 10; s := s + i; END LOOP; RETURN s; END; $$",
+        &["1"],
+        "3",
+        "2000",
+        0,
+        "value 60\n",
+    ),
+    (
         "CREATE FUNCTION f(a bigint) RETURNS bigint LANGUAGE plpgsql AS $$ DECLARE x bigint := 0; BEGIN RETURN 1; LOOP x := x + 1; END LOOP; END; $$",
-        "1",
+        &["1"],
         "0",
         "113",
         0,
@@ -133,12 +198,24 @@ static ROWS: [(&str, &str, &str, &str, u8, &str); 25] = [
     ),
     (
         "CREATE FUNCTION f(a bigint) RETURNS bigint LANGUAGE plpgsql AS $$ DECLARE x bigint := 0; BEGIN RETURN 1; LOOP RETURN x; END LOOP; END; $$",
-        "1",
+        &["1"],
         "0",
         "113",
         0,
         "value 1\n",
     ),
+    (
+        "CREATE FUNCTION f(a bigint) RETURNS bigint LANGUAGE plpgsql AS $$ DECLARE x bigint := 0; BEGIN RETURN 1; BEGIN FOR i IN 1..3 LOOP x := x + i; END LOOP; RETURN x; END; END; $$",
+        &["1"],
+        "0",
+        "1000",
+        0,
+        "value 1\n",
+    ),
+    (ENDLESS, &["1"], "0", "0", 6, "more\n"),
+    (ENDLESS, &["1"], "1000", "1000", 6, "more\n"),
+    (NESTED, &["4"], "9", "1000", 0, "value 5\n"),
+    (NESTED, &["4"], "8", "8", 6, "more\n"),
 ];
 
 /// A run over the function and the query.
@@ -169,14 +246,18 @@ fn show(rt: &impl Abort, run: &Run, status: u8, output: &str) {
 /// The function of a row and the query that it was compiled to answer the same.
 fn answers<'x>(
     rt: &(impl Abort + AllocGlobal),
-    row: &(&'x str, &'x str, &'x str, &'x str, u8, &'x str),
+    row: &(&'x str, &'x [&'x str], &'x str, &'x str, u8, &'x str),
     query: &'x [u8],
 ) -> Result<(), AllocError> {
-    let (function, argument, turns, iterations, status, output) = row;
-    let words = ["fn", turns, "s.sql", "f.sql", "d", argument];
+    let (function, args, turns, iterations, status, output) = row;
+    let mut words = Vec::new(rt.alloc());
+    words.extend_from_slice(&["fn", turns, "s.sql", "f.sql", "d"])?;
+    words.extend_from_slice(args)?;
     let called = run(rt.alloc(), &words, function, query, b"")?;
     show(rt, &called, *status, output);
-    let words = ["sql", iterations, "s.sql", "q.sql", "d", argument];
+    let mut words = Vec::new(rt.alloc());
+    words.extend_from_slice(&["sql", iterations, "s.sql", "q.sql", "d"])?;
+    words.extend_from_slice(args)?;
     let asked = run(rt.alloc(), &words, function, query, b"")?;
     show(rt, &asked, *status, output);
     Ok(())
@@ -184,7 +265,7 @@ fn answers<'x>(
 
 #[test]
 fn functions_answer_as_their_queries(rt: HostRuntime) -> Result<(), Fail> {
-    for row in &ROWS {
+    for row in ROWS.iter() {
         let compiled = run(rt.alloc(), &["compile", "s.sql", "f.sql"], row.0, b"", b"")?;
         assert_eq!(rt; code(&compiled.status), 0);
         answers(&rt, row, compiled.sink.written())?;
@@ -195,7 +276,7 @@ fn functions_answer_as_their_queries(rt: HostRuntime) -> Result<(), Fail> {
 #[test]
 fn certificates_are_accepted(rt: HostRuntime) -> Result<(), Fail> {
     let alloc = rt.alloc();
-    for (function, _, _, _, _, _) in &ROWS {
+    for (function, _, _, _, _, _) in ROWS.iter() {
         let compiled = run(alloc, &["compile", "s.sql", "f.sql"], function, b"", b"")?;
         let certified = run(alloc, &["certify", "s.sql", "f.sql"], function, b"", b"")?;
         assert_eq!(rt; code(&certified.status), 0);

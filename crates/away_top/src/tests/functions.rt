@@ -316,45 +316,6 @@ fn blocks_nest_64_deep(rt: HostRuntime) -> Result<(), Fail> {
     Ok(())
 }
 
-const WALK: &[u8] =
-    b"CREATE FUNCTION public.walk(lim bigint) RETURNS bigint LANGUAGE plpgsql STABLE AS $$ DECLARE best bigint; total bigint := 0; BEGIN <<outer_loop>> FOR s IN 0..99 LOOP best := (SELECT max(r.cost) FROM route r WHERE r.src = s); FOR d IN 0..9 LOOP total := total + COALESCE(best, 0); EXIT outer_loop WHEN total > lim; END LOOP; END LOOP; RETURN total; END; $$;";
-
-/// The file of a table of 1,000 rows.
-fn routes(alloc: Global) -> Result<Vec<u8>, AllocError> {
-    let mut text = String::from_str(alloc, "src,dst,cost\n")?;
-    for i in 0..1000usize {
-        let (src, dst, cost) = (i / 10, i % 10, i * 7 % 100);
-        text.push_str(&format!(in alloc; "{src},{dst},{cost}\n")?)?;
-    }
-    Ok(text.into_bytes())
-}
-
-#[test]
-fn a_walk_over_1000_rows(rt: HostRuntime) -> Result<(), Fail> {
-    let alloc = rt.alloc();
-    let rows = routes(alloc)?;
-    let schema: (&str, &[u8]) = (
-        "s.sql",
-        b"CREATE TABLE public.route (src bigint NOT NULL, dst bigint NOT NULL, cost bigint);",
-    );
-    let files: [(&str, &[u8]); 3] = [schema, ("f.sql", WALK), ("d/route.csv", &rows)];
-    for (bound, limit, status, output) in [
-        ("1100", "100000", 0, "value 89100\n"),
-        ("64", "5000", 0, "value 5032\n"),
-        ("63", "5000", 6, "more\n"),
-    ] {
-        let run = execute(
-            alloc,
-            &["fn", bound, "s.sql", "f.sql", "d", limit],
-            &files,
-            &[],
-            &[],
-        )?;
-        show(&rt, &run, status, output);
-    }
-    Ok(())
-}
-
 #[test]
 fn files_are_judged_before_arguments(rt: HostRuntime) -> Result<(), Fail> {
     let alloc = rt.alloc();

@@ -3,10 +3,13 @@
 mod checks;
 mod compiled;
 mod demos;
+mod edited;
 mod functions;
 mod held;
+mod long;
 mod printed_queries;
 mod queries;
 mod rows;
 mod rules;
 mod system;
+mod walks;

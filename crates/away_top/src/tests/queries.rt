@@ -1,5 +1,6 @@
 //! Queries over tables, with their status and output.
 
+use super::checks::{LABELS, MERGED};
 use super::held::{Run, execute};
 use super::rows::TOTAL;
 use crate::{MemoryFiles, MemorySink, away_in_memory, code};
@@ -41,7 +42,7 @@ const SUM: &str =
 const WRITTEN: &str = "SELECT CAST($1 AS text), CAST(NULL AS text)";
 
 /// A query, the bound, arguments, the status and the output.
-static ANSWERS: [(&str, &str, &[&str], u8, &str); 19] = [
+static ANSWERS: [(&str, &str, &[&str], u8, &str); 24] = [
     (SUM, "5", &[], 0, "value 15\n"),
     (SUM, "4", &[], 6, "more\n"),
     (SUM, "18446744073709551615", &[], 0, "value 15\n"),
@@ -71,6 +72,11 @@ static ANSWERS: [(&str, &str, &[&str], u8, &str); 19] = [
     (TOTAL, "81", &["3", "4"], 0, "value 11\n"),
     (TOTAL, "1", &["3", "4"], 6, "more\n"),
     (TOTAL, "81", &["3"], 2, "usage\n"),
+    (TOTAL, "2", &["3", "4"], 0, "value 11\n"),
+    (MERGED, "2", &["5"], 0, "value 1\n"),
+    (MERGED, "1", &["5"], 6, "more\n"),
+    (LABELS, "4", &["5"], 0, "value 1\n"),
+    (LABELS, "3", &["5"], 6, "more\n"),
     (
         "SELECT CAST($1 AS bigint) / -1, CAST(NULL AS text)",
         "100",

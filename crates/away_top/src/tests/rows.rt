@@ -1,5 +1,6 @@
 //! Commands with their status and output.
 
+use super::checks::{FUNCTION, MERGED};
 use super::held::{Run, compile, execute, function, nested};
 use crate::{Files, MemoryFiles, MemorySink, ReadError, Status, away_in_memory, code};
 use std::alloc::{AllocError, Global};
@@ -17,7 +18,7 @@ fn show(rt: &impl std::process::Abort, run: &Run, status: u8, output: &str) {
 }
 
 #[test]
-fn the_worked_function_compiles(rt: HostRuntime) -> Result<(), Fail> {
+fn the_worked_functions_compile(rt: HostRuntime) -> Result<(), Fail> {
     let alloc = rt.alloc();
     show(
         &rt,
@@ -25,6 +26,7 @@ fn the_worked_function_compiles(rt: HostRuntime) -> Result<(), Fail> {
         0,
         TOTAL,
     );
+    show(&rt, &compile(alloc, FUNCTION)?, 0, MERGED);
     Ok(())
 }
 
