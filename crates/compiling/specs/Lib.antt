@@ -1,4 +1,4 @@
 pub mod Stages
-pub mod Spelled
+pub mod Short
 pub mod Spoken
 pub mod Compiled

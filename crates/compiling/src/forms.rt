@@ -7,7 +7,7 @@ ghost use Rattle.cte_template.specs.Making.{making_of};
 ghost use Rattle.cte_template.specs.Numbers.{NumbersFit};
 ghost use Rattle.cte_template.specs.Tree.{tree};
 
-use crate::spelling::is_short;
+use crate::short::is_short;
 use anf_build::to_calls;
 use away_trees::Query;
 use away_types::CheckedFunction;

@@ -3,6 +3,6 @@
 
 mod compiler;
 mod forms;
-mod spelling;
+mod short;
 
 pub use compiler::{Compiled, compile};
