@@ -60,7 +60,7 @@ module _ (g : List Block) (f : FullForm) (form : IsFullForm g f) (sets : SetsBel
   named : IsNamed l.slots l.params l.entry g Z
   named = full_named l.slots l.params l.entry g live (phi_name f) (set_name f) f.names.slots.items closed num
 
-  from_here : (b s : ℕ) → In (here b) s → (live b s ≡ true) × (s < l.slots)
+  pub from_here : (b s : ℕ) → In (here b) s → (live b s ≡ true) × (s < l.slots)
   from_here b s i = let r = from_filter (live b) (count_from 0 l.slots) s i in (r.1, closed.bounded b s r.1)
 
   -- ---- the list of joins
@@ -125,7 +125,7 @@ module _ (g : List Block) (f : FullForm) (form : IsFullForm g f) (sets : SetsBel
   -- ---- the joins of the form
 
   module _ (joins : List Join) (of : joins ≡ joins_below f g l.blocks) where
-    from_joins : (i : ℕ) (j : Join) → slice_get joins i ≡ Some j → (b : ℕ) × (b < l.blocks) × (nat_eq b l.entry ≡ false) × (s : ℕ) × In (here b) s × (slot_join f g b s ≡ j)
+    pub from_joins : (i : ℕ) (j : Join) → slice_get joins i ≡ Some j → (b : ℕ) × (b < l.blocks) × (nat_eq b l.entry ≡ false) × (s : ℕ) × In (here b) s × (slot_join f g b s ≡ j)
     from_joins i j h = from_below l.blocks j (subst (λ v. In v j) of (in_place joins i j h))
 
     is_join : (b s : ℕ) (j : Join) → slot_join f g b s ≡ j → IsJoinOf (φ_of b s) j

@@ -25,13 +25,19 @@ mod Renumbered
 mod Closing
 mod Ordered
 mod NamesApart
+mod NamesTraced
 mod LoopLists
 mod JoinPlaces
 mod Built
 mod Placing
 mod Same
+mod NamesSet
 mod Whole
 mod SetOnce
+mod SetSomewhere
+pub mod DistinctKeys
+mod Totals
+mod FewNames
 mod ByPlaces
 mod AddedSources
 mod AddedNames

@@ -152,10 +152,10 @@ module _ (l : Layout) (live : ℕ → ℕ → Bool) (g : List Block) where
     block_in : (b : ℕ) (x : Block) → slice_get g b ≡ Some x → b < l.blocks
     block_in b x h = subst (λ v. b < v) sized (slice_get_within g b x h)
 
-    phi_is : (b s : ℕ) → b < l.blocks → s < l.slots → phi_name b s ≡ next_name l live g b s
+    pub phi_is : (b s : ℕ) → b < l.blocks → s < l.slots → phi_name b s ≡ next_name l live g b s
     phi_is b s lt in' = ap (λ r. get_or r s 0) (names.phis_are b lt) ∙ map_count (next_name l live g b) l.slots s in'
 
-    set_is : (b : ℕ) → b < l.blocks → set_name b ≡ next_name l live g b l.slots
+    pub set_is : (b : ℕ) → b < l.blocks → set_name b ≡ next_name l live g b l.slots
     set_is b lt = names.sets_are b lt
 
     pub slot_named : (s : ℕ) → s < l.slots → slice_get slots s ≡ Some s

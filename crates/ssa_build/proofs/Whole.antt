@@ -1,5 +1,5 @@
 -- The builder's steps in a row.
-use Rattle.std.proofs.Common.{◌^◌, true, false, ap, ◌∙◌, ◌≡◌, ℕ, ◌<◌, List, length, sym, subst}
+use Rattle.std.proofs.Common.{◌^◌, true, false, ap, ◌∙◌, ◌≡◌, ℕ, ◌<◌, List, length, slice_get, Some, sym, subst, arith}
 use Rattle.block_forms.specs.Lowered.{BlockBelow, NoWayTo, end_leads}
 use Rattle.block_forms.specs.Named.{Named, leads}
 use Rattle.block_forms.specs.Places.{Each}
@@ -13,15 +13,18 @@ use Rattle.ssa_build.specs.Joins.{Join, Merged, WellFormed}
 use Rattle.block_forms.specs.Live.{Live, OnlyParametersLive}
 use Rattle.ssa_build.specs.Numbers.{Numbers}
 use Rattle.block_forms.specs.Trivial.{HasNoTrivial}
+use Rattle.ssa_build.specs.SetNames.{NamesAreSet}
 use Rattle.ssa_build.specs.Writing.{AreNewBlocks}
 use Rattle.ssa_build.proofs.Built.{builds, formed}
 use Rattle.ssa_build.proofs.ByPlaces.{named_by_places}
 use Rattle.ssa_build.proofs.Closing.{ReadsBelow, closed, reads_below, sets_below}
 use Rattle.ssa_build.proofs.Edges.{leads_from_edge}
 use Rattle.ssa_build.proofs.NamesApart.{all_fit}
+use Rattle.ssa_build.proofs.NamesSet.{names_set, own_names}
 use Rattle.ssa_build.proofs.Naming.{Edge, IsNamed}
 use Rattle.ssa_build.proofs.Premises.{Closed}
 use Rattle.ssa_build.proofs.Same.{written_same}
+use Rattle.ssa_build.proofs.SetSomewhere.{set_somewhere}
 
 abbrev pub ssa : List ℕ → List SsaBlock → Ssa
 ssa ns bs = record { names = ns; blocks = bs }
@@ -87,3 +90,14 @@ module _ (g : Goto) (f : FullForm) (joins : List Join) (h : Held g f joins) wher
 
     pub whole_neat : HasNoTrivial (ssa names ys)
     whole_neat = whole.1
+
+    pub whole_set : NamesAreSet l.slots (ssa names ys)
+    whole_set = record {
+      own = own_names g.blocks f h.form (sets_below l.slots g.blocks h.below) closed_here joins h.flat into numbers names merged numbered;
+      set = λ n le lt.
+          let r = names_set g.blocks f h.form (sets_below l.slots g.blocks h.below) closed_here joins h.flat into numbers names merged numbered n le lt in
+          let at : slice_get ys r.0 ≡ Some r.1 = ap (λ v. slice_get v r.0) (written_same f g.blocks into numbers ys h.form.sized new names) ∙ r.2 in
+          let some = set_somewhere ys r.0 n r.1 at r.3 in
+          let once = whole_named.names.set_once n lt in
+          omega (arith, some, once);
+    }

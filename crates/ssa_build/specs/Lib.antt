@@ -13,6 +13,8 @@ pub mod FullJoins
 pub mod JoinPlaces
 pub mod Merging
 pub mod Numbers
+pub mod SetNames
+pub mod FewNames
 pub mod Output
 pub mod Writing
 pub mod Renamings

@@ -6,6 +6,7 @@ ghost use Rattle.block_forms.specs.Named.{Named};
 ghost use Rattle.block_forms.specs.Places.{Each};
 ghost use Rattle.block_forms.specs.Leading.{LeadsWithin};
 ghost use Rattle.ssa_build.specs.Layout.{IsLayout};
+ghost use Rattle.ssa_build.specs.SetNames.{NamesAreSet};
 ghost use Rattle.block_forms.specs.Live.{OnlyParametersLive};
 ghost use Rattle.block_forms.specs.Trivial.{HasNoTrivial};
 
@@ -38,6 +39,7 @@ pub(crate) fn build_form(alloc: Global, layout: Layout, g: &Goto) -> Result<Ssa,
     requires entry_live { OnlyParametersLive layout.params g.now }
     ensures named { IfOk result (λ z. Named layout.slots layout.params g.now z) }
     ensures neat { IfOk result (λ z. HasNoTrivial z) }
+    ensures used { IfOk result (λ z. NamesAreSet layout.slots z) }
 {
     let goto_blocks = g.blocks.as_slice();
     let full = full_form(alloc, layout, goto_blocks)?;
@@ -62,11 +64,12 @@ pub(crate) fn build_form(alloc: Global, layout: Layout, g: &Goto) -> Result<Ssa,
     })
 }
 
-/// The SSA form of a checked function's goto form. It has no trivial φs.
+/// The SSA form of a checked function's goto form. It has no trivial φs, and no name that nothing sets beyond the slots' own.
 pub fn build_ssa(alloc: Global, f: &CheckedFunction, g: &Goto) -> Result<Ssa, NoMemory>
     requires lowered { Lowered f.now.function f.now.slots g.now }
     ensures named { IfOk result (λ z. Named (length f.now.slots) (length f.now.function.params) g.now z) }
     ensures neat { IfOk result (λ z. HasNoTrivial z) }
+    ensures used { IfOk result (λ z. NamesAreSet (length f.now.slots) z) }
 {
     parameters_have_slots(f);
     forms_lead_to_their_blocks();

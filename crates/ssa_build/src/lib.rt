@@ -4,6 +4,7 @@
 mod build;
 mod full;
 mod joins;
+mod laws;
 mod layout;
 mod liveness;
 mod names;
@@ -17,6 +18,7 @@ mod tables;
 mod writing;
 
 pub use build::build_ssa;
+pub use laws::names_are_few;
 
 #[cfg(test)]
 mod tests;

@@ -53,7 +53,7 @@ fn built(rt: &(impl Abort + AllocGlobal), params: usize, slots: usize, g: &Goto)
     build_form(rt.alloc(), layout, g).expect(rt, "memory")
 }
 
-/// The slots of the names, and behind each block that has φs these with their operands.
+/// The slots of the names, and block by block the φs with their operands and the assigned name.
 fn shown(rt: &(impl Abort + AllocGlobal), z: &Ssa) -> String {
     let mut out = String::new(rt.alloc());
     for slot in z.names.as_slice() {
@@ -70,11 +70,15 @@ fn shown(rt: &(impl Abort + AllocGlobal), z: &Ssa) -> String {
                 out.push_str(text.as_str()).expect(rt, "memory");
             }
         }
+        if let Some((name, _)) = &block.set {
+            let text = format!(in rt.alloc(); ", {name} set at {at}").expect(rt, "memory");
+            out.push_str(text.as_str()).expect(rt, "memory");
+        }
     }
     out
 }
 
-/// collatz(n): steps := 0; WHILE n <> 1: IF n % 2 = 0: n := n / 2, ELSE n := 3 * n + 1; steps := steps + 1; RETURN steps.
+/// Each name from 2 on is set once. collatz(n): steps := 0; WHILE n <> 1: IF n % 2 = 0: n := n / 2, ELSE n := 3 * n + 1; steps := steps + 1; RETURN steps.
 #[test]
 fn collatz(rt: HostRuntime) {
     let mut blocks = Items::new(rt.alloc());
@@ -94,7 +98,7 @@ fn collatz(rt: HostRuntime) {
     let z = built(&rt, 1, 2, &form(&rt, blocks));
     assert!(rt;
         shown(&rt, &z).as_str()
-            == " 0 1 1 0 1 0 0 0 1, 3 at 3 of 2:0 7:7, 4 at 3 of 2:2 7:8, 7 at 7 of 5:5 6:6"
+            == " 0 1 1 0 1 0 0 0 1, 2 set at 2, 3 at 3 of 2:0 7:7, 4 at 3 of 2:2 7:8, 5 set at 5, 6 set at 6, 7 at 7 of 5:5 6:6, 8 set at 7"
     );
 }
 
@@ -127,7 +131,7 @@ fn unreachable_loop(rt: HostRuntime) {
         blocks.push(block).expect(&rt, "memory");
     }
     let z = built(&rt, 1, 2, &form(&rt, blocks));
-    assert!(rt; shown(&rt, &z).as_str() == " 0 1 1");
+    assert!(rt; shown(&rt, &z).as_str() == " 0 1 1, 2 set at 3");
 }
 
 /// 2,671 times: IF test of a slot: the slot := itself; 32 slots in turn. Each assignment and each φ behind it has a name.

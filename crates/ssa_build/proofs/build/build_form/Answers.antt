@@ -3,8 +3,9 @@ use Rattle.block_forms.specs.Named.{Named}
 use Rattle.ssa_build.specs.FullJoins.{joins_at, joins_below}
 use Rattle.ssa_build.specs.Joins.{Join, Merged}
 use Rattle.ssa_build.specs.Numbers.{Numbers}
+use Rattle.ssa_build.specs.SetNames.{NamesAreSet}
 use Rattle.ssa_build.proofs.JoinPlaces.{are_joins, joins_at_places}
-use Rattle.ssa_build.proofs.Whole.{Held, held, joins_formed, names_short, new_blocks_held, ssa, whole_named, whole_neat}
+use Rattle.ssa_build.proofs.Whole.{Held, held, joins_formed, names_short, new_blocks_held, ssa, whole_named, whole_neat, whole_set}
 use Rattle.ssa_build.proofs.build.build_form.Goals as goal
 
 pub merge_joins-requires-clause-are : goal.merge_joins-requires-clause-are
@@ -57,4 +58,5 @@ returns c =
     record {
       named = subst (λ v. Named v.slots v.params g (ssa names ys)) e (whole_named g full joins h into numbers names ys merged numbered written);
       neat = whole_neat g full joins h into numbers names ys merged numbered written;
+      used = subst (λ v. NamesAreSet v.slots (ssa names ys)) e (whole_set g full joins h into numbers names ys merged numbered written);
     }
