@@ -3,6 +3,5 @@
 
 mod compiler;
 mod forms;
-mod short;
 
 pub use compiler::{Compiled, compile};
