@@ -1,2 +1,2 @@
-pub mod AllSpelled
+pub mod Spelling
 pub mod Telling

@@ -9,17 +9,13 @@ use Rattle.away_types.specs.CheckedQueries.{query_note, resolved_query}
 use Rattle.away_types.specs.declared.slots.Slot.{Slot}
 use Rattle.away_types.specs.Refusals.{IsUnbroken}
 use Rattle.away_values.specs.declared.errors.NoMemory.{NoMemory}
-use Rattle.away_values.specs.declared.types.Ty.{Ty}
-use Rattle.away_values.specs.declared.types.Ty.TheVariants.{Bigint, Boolean, Text, Integer}
 use Rattle.call_forms.specs.Templated.{Templated}
 use Rattle.cert_json.specs.declared.cert.Cert.{Cert}
-use Rattle.cert_json.specs.Writable.{HasName}
 use Rattle.compiling.specs.Compiled.{IsCompiled}
 use Rattle.compiling.specs.declared.compiler.Spoken.{Spoken}
-use Rattle.compiling.specs.Spelled.{IsSpelled}
 use Rattle.compiling.specs.Spoken.{IsSpokenOf, Speaks}
 use Rattle.compiling.specs.Stages.{AreForms}
-use Rattle.compiling.proofs.AllSpelled.{spelling}
+use Rattle.compiling.proofs.Spelling.{spelling}
 use Rattle.cte_template.specs.Making.{making_of}
 use Rattle.cte_template.specs.Numbers.{NumbersFit}
 use Rattle.cte_template.specs.Tree.{tree}
@@ -27,21 +23,13 @@ use Rattle.dotted_names.specs.Trees.{dotted}
 use Rattle.equivalence.specs.Accepted.{AcceptedForms}
 use Rattle.query_texts.specs.Texts.{IsOfTexts, ReadsAgain, TreesReadAgain}
 use Rattle.sql_text.specs.Refusals.{MayBeRead}
-use Rattle.typed_forms.specs.Typed.{HasKind}
-
--- a type with a name is one that expressions have
-kind : (t : Ty) → HasName t → HasKind t
-kind Bigint h = tt
-kind Boolean h = tt
-kind Text h = tt
-kind Integer h = h
 
 module _ (s : Schema) (f : Function) (slots : List Slot) (c : Cert) where
   -- the text of the forms' tree reads again
-  pub again : TreesReadAgain → IsOfTexts s f slots → AreForms f slots c → IsSpelled c → length s.tables < 2 ^ 64 → NumbersFit (making_of f slots c.ssa c.anf c.tail)
+  pub again : TreesReadAgain → IsOfTexts s f slots → AreForms f slots c → length s.tables < 2 ^ 64 → NumbersFit (making_of f slots c.ssa c.anf c.tail)
       → (q : Query) → q ≡ tree (making_of f slots c.ssa c.anf c.tail) c.goto.entry (length s.tables) → ReadsAgain s q
-  again law texts forms spelled few fits q is = subst (ReadsAgain s) (sym is)
-      (law s f slots c.goto c.ssa c.anf c.tail texts forms.lowered forms.named forms.called forms.merged forms.columned forms.tight (λ i t e. kind t (spelled.columns i t e)) few fits)
+  again law texts forms few fits q is = subst (ReadsAgain s) (sym is)
+      (law s f slots c.goto c.ssa c.anf c.tail texts forms.lowered forms.named forms.called forms.merged forms.columned forms.tight few fits)
 
   pub told : (q : Query) → Templated f slots (length s.tables) c.goto c.ssa c.anf c.tail q → ReadsAgain s q → (result : Result Spoken NoMemory) → IfOk result (Speaks q)
       → IfOk result (IsSpokenOf s f slots c)
@@ -63,13 +51,13 @@ module _ (s : Schema) (f : Function) (slots : List Slot) (c : Cert) where
     templated = h.templated;
   }
 
-  pub compiled : AreForms f slots c → IsSpelled c → (x : Spoken) → IsSpokenOf s f slots c x → IsCompiled s f slots x.query (string_bytes x.text) c
-  compiled forms spelled x h = record {
+  pub compiled : IsOfTexts s f slots → AreForms f slots c → (x : Spoken) → IsSpokenOf s f slots c x → IsCompiled s f slots x.query (string_bytes x.text) c
+  compiled texts forms x h = record {
     may_be_read = h.may_be_read;
     reads = h.reads;
     unbroken = h.unbroken;
     accepted = accepted forms x h;
     neat = forms.neat;
     tight = forms.tight;
-    spelling = spelling c spelled;
+    spelling = spelling s f slots c texts forms;
   }

@@ -1,4 +1,3 @@
 pub mod Stages
-pub mod Spelled
 pub mod Spoken
 pub mod Compiled

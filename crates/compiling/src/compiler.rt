@@ -5,7 +5,6 @@ ghost use Rattle.away_trees.specs.declared.statements.Function.{Function};
 ghost use Rattle.away_types.specs.CheckedFunctions.{IsChecked};
 ghost use Rattle.away_types.specs.CheckedQueries.{resolved_query};
 ghost use Rattle.compiling.specs.Compiled.{IsCompiled};
-ghost use Rattle.compiling.specs.Spelled.{IsSpelled};
 ghost use Rattle.compiling.specs.Spoken.{IsSpokenOf, Speaks};
 ghost use Rattle.compiling.specs.Stages.{AreForms};
 ghost use Rattle.dotted_names.specs.Trees.{dotted};
@@ -13,7 +12,6 @@ ghost use Rattle.equivalence.specs.Accepted.{EquivalentWith};
 ghost use Rattle.query_texts.specs.Texts.{IsOfTexts};
 
 use crate::forms::{forms_of, tree_of};
-use crate::spelling::is_spelled;
 use away_trees::Query;
 use away_types::{CheckedFunction, CheckedSchema};
 use away_values::NoMemory;
@@ -66,7 +64,6 @@ fn spoken_of(
 ) -> Result<Spoken, NoMemory>
     requires texts { IsOfTexts s.now.schema f.now.function f.now.slots }
     requires forms { AreForms f.now.function f.now.slots c.now }
-    requires spelled { IsSpelled c.now }
     ensures { IfOk result (IsSpokenOf s.now.schema f.now.function f.now.slots c.now) }
 {
     trees_read_again();
@@ -75,7 +72,7 @@ fn spoken_of(
 }
 
 /// The query of a function, with its text, and with forms that show that the query is equivalent to the function, if that was checked under the schema.
-/// The function is that of a text, checked under a schema that is that of a text.
+/// The function is that of a text, checked under the schema.
 pub fn compile(alloc: Global, s: &CheckedSchema, f: &CheckedFunction) -> Result<Compiled, NoMemory>
     requires texts { IsOfTexts s.now.schema f.now.function f.now.slots }
     ensures compiled { IfOk result (λ c. IsCompiled s.now.schema f.now.function f.now.slots c.query (string_bytes c.text) c.cert) }
@@ -85,9 +82,6 @@ pub fn compile(alloc: Global, s: &CheckedSchema, f: &CheckedFunction) -> Result<
     accepted_forms_are_equivalent(f);
     let _count = s.schema.tables.len();
     let cert = forms_of(alloc, f)?;
-    if !is_spelled(&cert) {
-        return Err(NoMemory);
-    }
     let Spoken { query, text } = spoken_of(alloc, s, f, &cert)?;
     Ok(Compiled { query, text, cert })
 }

@@ -7,7 +7,6 @@ ghost use Rattle.cte_template.specs.Making.{making_of};
 ghost use Rattle.cte_template.specs.Numbers.{NumbersFit};
 ghost use Rattle.cte_template.specs.Tree.{tree};
 
-use crate::spelling::is_short;
 use anf_build::to_calls;
 use away_trees::Query;
 use away_types::CheckedFunction;
@@ -16,6 +15,7 @@ use block_forms::expr_table;
 use cert_json::Cert;
 use cte_template::template_tree;
 use goto_lower::lower;
+use short_forms::normal_forms_are_short;
 use sqlite_items::Boxed;
 use ssa_build::build_ssa;
 use std::alloc::Global;
@@ -25,12 +25,10 @@ use tail_rec::to_tail;
 pub(crate) fn forms_of(alloc: Global, f: &CheckedFunction) -> Result<Cert, NoMemory>
     ensures { IfOk result (λ c. AreForms f.now.function f.now.slots c) }
 {
+    normal_forms_are_short(f);
     let goto = lower(alloc, f)?;
     let ssa = build_ssa(alloc, f, &goto)?;
     let anf = to_calls(alloc, &goto, &ssa)?;
-    if !is_short(&anf) {
-        return Err(NoMemory);
-    }
     let tail = to_tail(alloc, f, &goto, &ssa, &anf)?;
     Ok(Cert {
         goto,

@@ -3,6 +3,5 @@
 
 mod compiler;
 mod forms;
-mod spelling;
 
 pub use compiler::{Compiled, compile};

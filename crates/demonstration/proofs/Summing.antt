@@ -53,7 +53,7 @@ pub summary_made : (number : ℕ) (case : DemoCase) (trial : Trial) (result : Re
 summary_made number case trial (Ok summary) made t (text, over) = (text, summary_is number text case trial summary made t over)
 summary_made number case trial (Err e) made t over = tt
 
--- the function of a trial and its schema are those of the case's texts
+-- the function of a trial is that of the case's text
 pub of_texts : (case : DemoCase) (trial : Trial) → IsTrial case trial → IsOfTexts trial.schema.schema trial.counted.function.function trial.counted.function.slots
 of_texts case trial t = record {
   written = t.written;
@@ -62,7 +62,4 @@ of_texts case trial t = record {
   function_text = case.function.items;
   function_fits = t.function_reads.may_be_read;
   reads_function = t.function_reads.reads;
-  schema_text = case.schema.items;
-  schema_fits = t.schema_reads.may_be_read;
-  reads_schema = t.schema_reads.reads;
 }

@@ -41,10 +41,9 @@ use Rattle.template_names.proofs.TreesClear.{trees_clear}
 use Rattle.template_types.specs.Whole.{IsTypable, TreeBreaksNoRule}
 use Rattle.typed_forms.specs.Typed.{HasKind, NoIntegers}
 use Rattle.query_texts.specs.Texts.{IsOfTexts, ReadsAgain, TreesReadAgain}
+use Rattle.query_texts.proofs.ColumnTypes.{columns_of_texts, kinds_of_texts}
 use Rattle.query_texts.proofs.FewLabels.{few_labels, few_parameters}
 use Rattle.query_texts.proofs.Linked.{expressions_linked}
-use Rattle.query_texts.proofs.SlotTypes.{no_integers}
-use Rattle.query_texts.proofs.SpelledTypes.{read_kinds}
 
 -- what can be said with few enough brackets
 said_reads : (q : Query) → CanSay 216 grammar.file q → MayBeRead (query_text q) × ReadsQuery (query_text q) q
@@ -55,7 +54,7 @@ said_reads q said =
 module _ (no_rule : TreeBreaksNoRule) (can_say : TreeIsSaid) (s : Schema) (f : Function) (slots : List Slot) (g : Goto) (z : Ssa) (a : Anf) (r : Tail)
     (texts : IsOfTexts s f slots)
     (low : Lowered f slots g) (named : Named (length slots) (length f.params) g z) (called : Called g z a) (merged : Merged g a r)
-    (columned : Columned slots z a r) (tight : Tight slots g z a r) (columns : Each HasKind r.columns) (few : length s.tables < 2 ^ 64)
+    (columned : Columned slots z a r) (tight : Tight slots g z a r) (few : length s.tables < 2 ^ 64)
     (fits : NumbersFit (making_of f slots z a r)) where
   abbrev m : Making
   m = making_of f slots z a r
@@ -64,7 +63,10 @@ module _ (no_rule : TreeBreaksNoRule) (can_say : TreeIsSaid) (s : Schema) (f : F
   q = tree m g.entry (length s.tables)
 
   kinds : NoIntegers slots f.result
-  kinds = no_integers s texts.written f slots texts.checked (read_kinds texts.function_text texts.written texts.reads_function)
+  kinds = kinds_of_texts s f slots texts
+
+  columns : Each HasKind r.columns
+  columns = columns_of_texts s f slots g z a r texts tight
 
   numbers : names.NumbersFit m
   numbers = record { columns = fits.columns; aliases = fits.aliases }

@@ -2,7 +2,7 @@
 use Rattle.std.specs.Prelude.{◌≡◌, ◌<◌, ◌^◌, ℕ, List, length}
 use Rattle.away_grammar.specs.FunctionGrammar.{ReadsFunction}
 use Rattle.away_grammar.specs.Printing.{query_text}
-use Rattle.away_grammar.specs.Texts.{ReadsQuery, ReadsSchema}
+use Rattle.away_grammar.specs.Texts.{ReadsQuery}
 use Rattle.away_trees.specs.Limits.{KeepsLimits}
 use Rattle.away_trees.specs.declared.queries.Query.{Query}
 use Rattle.away_trees.specs.declared.schemas.Schema.{Schema}
@@ -15,7 +15,6 @@ use Rattle.block_forms.specs.declared.forms.Goto.{Goto}
 use Rattle.block_forms.specs.declared.forms.Ssa.{Ssa}
 use Rattle.block_forms.specs.Lowered.{Lowered}
 use Rattle.block_forms.specs.Named.{Named}
-use Rattle.block_forms.specs.Places.{Each}
 use Rattle.call_forms.specs.declared.forms.Anf.{Anf}
 use Rattle.call_forms.specs.declared.forms.Tail.{Tail}
 use Rattle.call_forms.specs.Called.{Called}
@@ -28,9 +27,8 @@ use Rattle.cte_template.specs.Tree.{tree}
 use Rattle.dotted_names.specs.Trees.{dotted}
 use Rattle.plsql_parse.specs.Refusals as functions
 use Rattle.sql_text.specs.Refusals.{MayBeRead}
-use Rattle.typed_forms.specs.Typed.{HasKind}
 
--- The function is that of a text within the limits, checked under the schema, which is that of a text.
+-- The function is that of a text within the limits, checked under the schema.
 pub record IsOfTexts (s : Schema) (f : Function) (slots : List Slot) : Type 0 where
   pub written : Function
   pub limits : KeepsLimits written
@@ -38,9 +36,6 @@ pub record IsOfTexts (s : Schema) (f : Function) (slots : List Slot) : Type 0 wh
   pub function_text : List ℕ
   pub function_fits : functions.MayBeRead function_text
   pub reads_function : ReadsFunction function_text written
-  pub schema_text : List ℕ
-  pub schema_fits : MayBeRead schema_text
-  pub reads_schema : ReadsSchema schema_text s
 
 -- The text of the tree, with its names, reads as the tree with its names, which breaks no rule under the schema and is the tree once they are resolved.
 pub record ReadsAgain (s : Schema) (q : Query) : Type 0 where
@@ -49,9 +44,9 @@ pub record ReadsAgain (s : Schema) (q : Query) : Type 0 where
   pub unbroken : IsUnbroken (query_note s (dotted q))
   pub is_tree : resolved_query s (dotted q) ≡ q
 
--- The query of a function that was read under a schema that was, with forms between them that a certificate can spell and numbers that fit a word, reads again.
+-- The query of a function that was read, with tight forms between them and numbers that fit a word, reads again.
 abbrev pub TreesReadAgain : Type 0
 TreesReadAgain =
     (s : Schema) (f : Function) (slots : List Slot) (g : Goto) (z : Ssa) (a : Anf) (r : Tail) → IsOfTexts s f slots → Lowered f slots g
-    → Named (length slots) (length f.params) g z → Called g z a → Merged g a r → Columned slots z a r → Tight slots g z a r → Each HasKind r.columns
+    → Named (length slots) (length f.params) g z → Called g z a → Merged g a r → Columned slots z a r → Tight slots g z a r
     → length s.tables < 2 ^ 64 → NumbersFit (making_of f slots z a r) → ReadsAgain s (tree (making_of f slots z a r) g.entry (length s.tables))

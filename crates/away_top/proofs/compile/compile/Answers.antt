@@ -15,7 +15,7 @@ written-requires g c =
     let tables = c.in_ok-tables.tables.schema in
     record {
       texts = subst (λ (f : CheckedFunction). IsOfTexts tables f.function f.slots) (sym c.get.ensures)
-          (of_texts g.F.Files c.args.files.now c.schema_of.new.files c.function_of.new.files c.args.schema.now c.args.func.now tables (as_callable c.in_ok-function.function) c.in_ok-tables.ensures c.in_ok-function.ensures);
+          (of_texts g.F.Files c.schema_of.new.files c.function_of.new.files c.args.func.now tables (as_callable c.in_ok-function.function) c.in_ok-function.ensures);
     }
 
 pub returns-in_err-tables : goal.returns-in_err-tables

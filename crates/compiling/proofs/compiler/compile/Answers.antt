@@ -1,12 +1,10 @@
 use Rattle.std.proofs.Common.{◌<◌, ◌^◌, length, rules}
-use Rattle.compiling.specs.Spelled.{IsSpelled}
 use Rattle.compiling.proofs.Telling.{accepted, compiled}
 use Rattle.compiling.proofs.compiler.compile.Goals as goal
 
 pub returns-clause-compiled : goal.returns-clause-compiled
 returns-clause-compiled c =
-    let spelled : IsSpelled c.in_ok-cert.cert = search rules in
-    compiled c.args.s.now.schema c.args.f.now.function c.args.f.now.slots c.in_ok-cert.cert c.in_ok-cert.ensures spelled c.in_ok-query.field-0 c.in_ok-query.ensures
+    compiled c.args.s.now.schema c.args.f.now.function c.args.f.now.slots c.in_ok-cert.cert c.requires.texts c.in_ok-cert.ensures c.in_ok-query.field-0 c.in_ok-query.ensures
 
 pub returns-clause-equivalent : goal.returns-clause-equivalent
 returns-clause-equivalent c written is =

@@ -16,5 +16,5 @@ returns c =
     let few : length s.tables < 2 ^ 64 = search rules in
     let templated = subst (λ n. Templated f slots n forms.goto forms.ssa forms.anf forms.tail made) c.len.ensures c.in_ok-tree.ensures.templated in
     let is = subst (λ n. made ≡ tree (making_of f slots forms.ssa forms.anf forms.tail) forms.goto.entry n) c.len.ensures c.in_ok-tree.ensures.is in
-    let reads = again s f slots forms c.trees_read_again.ensures c.requires.texts c.requires.forms c.requires.spelled few c.in_ok-tree.ensures.fits made is in
+    let reads = again s f slots forms c.trees_read_again.ensures c.requires.texts c.requires.forms few c.in_ok-tree.ensures.fits made is in
     told s f slots forms made templated reads c.text_of.result (subst (λ q. IfOk c.text_of.result (Speaks q)) c.get.ensures c.text_of.ensures)
