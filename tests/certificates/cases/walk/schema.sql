@@ -1,0 +1,1 @@
+CREATE TABLE route (src bigint, dst bigint, cost bigint);
