@@ -1,7 +1,8 @@
 //! Certificates of a function and its query, with the status and the line of each.
 
-use super::edited::edited;
-use super::held::{Run, execute, show};
+use super::edited::{edited, replaced};
+use super::held::{Run, execute};
+use crate::code;
 use std::alloc::{AllocError, Global};
 use std::test::Fail;
 
@@ -41,264 +42,246 @@ fn run<'x>(alloc: Global, query: &'x str, cert: &'x str) -> Result<Run, AllocErr
     )
 }
 
-/// The tail form behind the others and what is put in place of what in the certificate; a query and what is put in place of what in it; the status and the line.
-static VERDICTS: [(&str, &[(&str, &str)], &str, &[(&str, &str)], u8, &str); 32] = [
-    (ALL_LABELS, &[], LABELS, &[], 0, "accepted\n"),
-    (ONE_LABEL, &[], MERGED, &[], 0, "accepted\n"),
-    (ONE_LABEL, &[], LABELS, &[], 8, "not accepted S7\n"),
-    (ALL_LABELS, &[], MERGED, &[], 8, "not accepted S7\n"),
+/// The tail form behind the others, and what is put in place of what in the whole; whether the query is that of all labels; the status and the line.
+static VERDICTS: [(&str, &str, &str, bool, u8, &str); 23] = [
+    (ALL_LABELS, "", "", true, 0, "accepted\n"),
+    (ONE_LABEL, "", "", false, 0, "accepted\n"),
+    (ONE_LABEL, "", "", true, 8, "not accepted S7\n"),
+    (ALL_LABELS, "", "", false, 8, "not accepted S7\n"),
     (
         ALL_LABELS,
-        &[("\"end\":4", "\"end\":3")],
-        LABELS,
-        &[],
+        "\"end\":4",
+        "\"end\":3",
+        true,
         8,
         "not accepted S2\n",
     ),
     (
         ALL_LABELS,
-        &[("\"entry\":0", "\"entry\":1")],
-        LABELS,
-        &[],
+        "\"entry\":0",
+        "\"entry\":1",
+        true,
         8,
         "not accepted S2\n",
     ),
     (
         ALL_LABELS,
-        &[("[false,null,[\"branch\"", "[true,null,[\"branch\"")],
-        LABELS,
-        &[],
+        "[false,null,[\"branch\"",
+        "[true,null,[\"branch\"",
+        true,
         8,
         "not accepted S2\n",
     ),
     (
         ALL_LABELS,
-        &[("[[0,0]],[],null,[\"jump\"", "[[0,1]],[],null,[\"jump\"")],
-        LABELS,
-        &[],
+        "[[0,0]],[],null,[\"jump\"",
+        "[[0,1]],[],null,[\"jump\"",
+        true,
         8,
         "not accepted S3\n",
     ),
     (
         ALL_LABELS,
-        &[("\"names\":[0]", "\"names\":[1]")],
-        LABELS,
-        &[],
+        "\"names\":[0]",
+        "\"names\":[1]",
+        true,
         8,
         "not accepted S3\n",
     ),
     (
         ALL_LABELS,
-        &[("[\"call\",1,[0]]", "[\"call\",2,[0]]")],
-        LABELS,
-        &[],
+        "[\"call\",1,[0]]",
+        "[\"call\",2,[0]]",
+        true,
         8,
         "not accepted S4\n",
     ),
     (
         ALL_LABELS,
-        &[("[\"if\",0,[0],2,[],3,[]]", "[\"if\",0,[0],3,[],2,[]]")],
-        LABELS,
-        &[],
+        "[\"if\",0,[0],2,[],3,[]]",
+        "[\"if\",0,[0],3,[],2,[]]",
+        true,
         8,
         "not accepted S4\n",
     ),
     (
         ALL_LABELS,
-        &[("[3,2,1,0]", "[3,2,1,1]")],
-        LABELS,
-        &[],
+        "[3,2,1,0]",
+        "[3,2,1,1]",
+        true,
         8,
         "not accepted S5\n",
     ),
     (
         ALL_LABELS,
-        &[("[3,2,1,0]", "[3,2,1,7]")],
-        LABELS,
-        &[],
+        "[3,2,1,0]",
+        "[3,2,1,7]",
+        true,
         8,
         "not accepted S5\n",
     ),
     (
         ALL_LABELS,
-        &[("\"columns\":[\"bigint\"]", "\"columns\":[\"text\"]")],
-        LABELS,
-        &[],
+        "\"columns\":[\"bigint\"]",
+        "\"columns\":[\"text\"]",
+        true,
         8,
         "not accepted S6\n",
     ),
     (
         ALL_LABELS,
-        &[("[[],[],[0],[0]]", "[[],[],[0],[1]]")],
-        LABELS,
-        &[],
+        "[[],[],[0],[0]]",
+        "[[],[],[0],[1]]",
+        true,
         8,
         "not accepted S6\n",
     ),
     (
         ALL_LABELS,
-        &[("[[],[],[0],[0]]", "[[],[0],[0]]")],
-        LABELS,
-        &[],
+        "[[],[],[0],[0]]",
+        "[[],[0],[0]]",
+        true,
         8,
         "not accepted S6\n",
     ),
     (
         ALL_LABELS,
-        &[("[3,2,1,0]", "[2,3,1,0]")],
-        LABELS,
-        &[],
+        "[3,2,1,0]",
+        "[2,3,1,0]",
+        true,
         8,
         "not accepted S7\n",
     ),
     (
         ALL_LABELS,
-        &[("{\"goto\"", "\"goto\"")],
-        LABELS,
-        &[],
+        "{\"goto\"",
+        "\"goto\"",
+        true,
         1,
         "refused c.json C1\n",
     ),
     (
         ALL_LABELS,
-        &[("\"entry\":0", "\"entry\":-1")],
-        LABELS,
-        &[],
+        "\"entry\":0",
+        "\"entry\":-1",
+        true,
         1,
         "refused c.json C2 goto.entry\n",
     ),
     (
         ALL_LABELS,
-        &[("\"entry\":0,", "")],
-        LABELS,
-        &[],
+        "\"entry\":0,",
+        "",
+        true,
         1,
         "refused c.json C2 goto.entry\n",
     ),
     (
         ALL_LABELS,
-        &[("\"2F005\"", "\"2f005\"")],
-        LABELS,
-        &[],
+        "\"2F005\"",
+        "\"2f005\"",
+        true,
         1,
         "refused c.json C2 goto.blocks\n",
     ),
     (
         ALL_LABELS,
-        &[("\"labels\"", "\"label\"")],
-        LABELS,
-        &[],
+        "\"labels\"",
+        "\"label\"",
+        true,
         1,
         "refused c.json C2 labels\n",
     ),
     (
         ALL_LABELS,
-        &[("[\"bigint\"]", "[\"integer\"]")],
-        LABELS,
-        &[],
+        "[\"bigint\"]",
+        "[\"integer\"]",
+        true,
         1,
         "refused c.json C2 columns\n",
-    ),
-    // The query differs in one place.
-    (
-        ALL_LABELS,
-        &[],
-        LABELS,
-        &[("away_k6.away_v IS NOT TRUE", "away_k6.away_v IS FALSE")],
-        8,
-        "not accepted S7\n",
-    ),
-    (
-        ALL_LABELS,
-        &[],
-        LABELS,
-        &[("away_c0 > CAST(0 AS bigint)", "away_c0 > CAST(1 AS bigint)")],
-        8,
-        "not accepted S7\n",
-    ),
-    (
-        ALL_LABELS,
-        &[],
-        LABELS,
-        &[(
-            "SELECT CAST(FALSE AS boolean), CAST(0 AS bigint)",
-            "SELECT CAST(TRUE AS boolean), CAST(0 AS bigint)",
-        )],
-        8,
-        "not accepted S7\n",
-    ),
-    (
-        ALL_LABELS,
-        &[],
-        LABELS,
-        &[(
-            "CAST(4 AS bigint), CAST($1 AS bigint)",
-            "CAST(3 AS bigint), CAST($1 AS bigint)",
-        )],
-        8,
-        "not accepted S7\n",
-    ),
-    (
-        ALL_LABELS,
-        &[],
-        LABELS,
-        &[("WHERE away_r.away_go)", "WHERE away_r.away_go IS NOT NULL)")],
-        8,
-        "not accepted S7\n",
-    ),
-    (
-        ALL_LABELS,
-        &[],
-        LABELS,
-        &[("away_k6(away_v)", "away_k6(v)")],
-        1,
-        "refused q.sql X7\n",
-    ),
-    (
-        ALL_LABELS,
-        &[],
-        LABELS,
-        &[("AS away_k1(away_v)", "AS gate(open)")],
-        0,
-        "accepted\n",
-    ),
-    // Block 2 has a further parameter, which nothing reads: in the form, as a place, and in the query.
-    (
-        ALL_LABELS,
-        &[
-            ("2,[],3,[]]],[[],null", "2,[0],3,[]]],[[0],null"),
-            ("\"places\":[[],[],", "\"places\":[[],[0],"),
-        ],
-        LABELS,
-        &[(
-            "CAST(2 AS bigint), CAST(NULL AS bigint), CAST(NULL AS bigint)",
-            "CAST(2 AS bigint), away_r.away_c0, CAST(NULL AS bigint)",
-        )],
-        0,
-        "accepted\n",
-    ),
-    (
-        ALL_LABELS,
-        &[
-            ("2,[],3,[]]],[[],null", "2,[0],3,[]]],[[0],null"),
-            ("\"places\":[[],[],", "\"places\":[[],[0],"),
-        ],
-        LABELS,
-        &[],
-        8,
-        "not accepted S7\n",
     ),
 ];
 
 #[test]
-fn certificates_and_queries_are_judged(rt: HostRuntime) -> Result<(), Fail> {
+fn certificates_are_judged(rt: HostRuntime) -> Result<(), Fail> {
     let alloc = rt.alloc();
-    for (tail, in_cert, query, in_query, status, line) in VERDICTS.iter() {
+    for (tail, old, new, labels, status, line) in &VERDICTS {
         let mut cert = String::from_str(alloc, FORMS)?;
         cert.push_str(tail)?;
-        let cert = edited(alloc, &cert, in_cert)?;
-        let query = edited(alloc, query, in_query)?;
-        show(&rt, &run(alloc, &query, &cert)?, *status, line);
+        let cert = replaced(alloc, &cert, old, new)?;
+        let query = if *labels { LABELS } else { MERGED };
+        let run = run(alloc, query, &cert)?;
+        assert_eq!(rt; code(&run.status), *status);
+        assert_eq!(rt; run.sink.written(), line.as_bytes());
     }
+    Ok(())
+}
+
+/// A query that differs in one place, with the line of its verdict.
+static QUERIES: [(&str, &str, &str); 7] = [
+    (
+        "away_k6.away_v IS NOT TRUE",
+        "away_k6.away_v IS FALSE",
+        "not accepted S7\n",
+    ),
+    (
+        "away_c0 > CAST(0 AS bigint)",
+        "away_c0 > CAST(1 AS bigint)",
+        "not accepted S7\n",
+    ),
+    (
+        "SELECT CAST(FALSE AS boolean), CAST(0 AS bigint)",
+        "SELECT CAST(TRUE AS boolean), CAST(0 AS bigint)",
+        "not accepted S7\n",
+    ),
+    (
+        "CAST(4 AS bigint), CAST($1 AS bigint)",
+        "CAST(3 AS bigint), CAST($1 AS bigint)",
+        "not accepted S7\n",
+    ),
+    (
+        "WHERE away_r.away_go)",
+        "WHERE away_r.away_go IS NOT NULL)",
+        "not accepted S7\n",
+    ),
+    ("away_k6(away_v)", "away_k6(v)", "refused q.sql X7\n"),
+    ("AS away_k1(away_v)", "AS gate(open)", "accepted\n"),
+];
+
+#[test]
+fn other_queries_are_not_accepted(rt: HostRuntime) -> Result<(), Fail> {
+    let alloc = rt.alloc();
+    let mut cert = String::from_str(alloc, FORMS)?;
+    cert.push_str(ALL_LABELS)?;
+    for (old, new, line) in &QUERIES {
+        let query = replaced(alloc, LABELS, old, new)?;
+        let run = run(alloc, &query, &cert)?;
+        assert_eq!(rt; run.sink.written(), line.as_bytes());
+    }
+    Ok(())
+}
+
+/// Block 2 has a further parameter, which nothing reads: in the form, as a place, and in the query.
+static FURTHER_IN_THE_CERTIFICATE: [(&str, &str); 2] = [
+    ("2,[],3,[]]],[[],null", "2,[0],3,[]]],[[0],null"),
+    ("\"places\":[[],[],", "\"places\":[[],[0],"),
+];
+
+static FURTHER_IN_THE_QUERY: [(&str, &str); 1] = [(
+    "CAST(2 AS bigint), CAST(NULL AS bigint), CAST(NULL AS bigint)",
+    "CAST(2 AS bigint), away_r.away_c0, CAST(NULL AS bigint)",
+)];
+
+#[test]
+fn a_name_that_nothing_reads_may_be_passed(rt: HostRuntime) -> Result<(), Fail> {
+    let alloc = rt.alloc();
+    let mut cert = String::from_str(alloc, FORMS)?;
+    cert.push_str(ALL_LABELS)?;
+    let cert = edited(alloc, &cert, &FURTHER_IN_THE_CERTIFICATE)?;
+    let query = edited(alloc, LABELS, &FURTHER_IN_THE_QUERY)?;
+    let passed = run(alloc, &query, &cert)?;
+    assert_eq!(rt; passed.sink.written(), b"accepted\n".as_slice());
+    let not_passed = run(alloc, LABELS, &cert)?;
+    assert_eq!(rt; not_passed.sink.written(), b"not accepted S7\n".as_slice());
     Ok(())
 }

@@ -1,6 +1,6 @@
 //! Functions of all statements: each answers as its query does, and its certificate is accepted.
 
-use super::held::{Run, execute, show};
+use super::held::{Run, execute};
 use crate::code;
 use std::alloc::{AllocError, Global};
 use std::process::Abort;
@@ -236,6 +236,11 @@ fn run<'x>(
         ("d/w.csv", b"z\n1\n2\n3\n"),
     ];
     execute(alloc, words, &files, &[], &[])
+}
+
+fn show(rt: &impl Abort, run: &Run, status: u8, output: &str) {
+    assert_eq!(rt; code(&run.status), status);
+    assert_eq!(rt; run.sink.written(), output.as_bytes());
 }
 
 /// The function of a row and the query that it was compiled to answer the same.

@@ -30,14 +30,32 @@ fn show_agreement(rt: &impl Abort, run: &Run) {
     );
 }
 
-// The greatest number has a case too, and a number's case is one.
 #[test]
-fn cases_are_shown(rt: HostRuntime) -> Result<(), Fail> {
-    for number in ["7", "18446744073709551615"] {
-        let first = demo(rt.alloc(), number)?;
-        show_agreement(&rt, &first);
-        let second = demo(rt.alloc(), number)?;
-        assert_eq!(rt; second.sink.written(), first.sink.written());
+fn a_case_is_shown(rt: HostRuntime) -> Result<(), Fail> {
+    let alloc = rt.alloc();
+    let first = demo(alloc, "7")?;
+    show_agreement(&rt, &first);
+    let second = demo(alloc, "7")?;
+    assert_eq!(&rt; second.sink.written(), first.sink.written());
+    Ok(())
+}
+
+#[test]
+fn the_greatest_number_has_a_case(rt: HostRuntime) -> Result<(), Fail> {
+    show_agreement(&rt, &demo(rt.alloc(), "18446744073709551615")?);
+    Ok(())
+}
+
+#[test]
+fn a_number_is_digits_of_64_bits(rt: HostRuntime) -> Result<(), Fail> {
+    let alloc = rt.alloc();
+    for word in ["18446744073709551616", "-1", "+1", "", "seven", " 7"] {
+        let run = demo(alloc, word)?;
+        assert_eq!(&rt; code(&run.status), 2);
+        assert_eq!(&rt; run.sink.written(), b"usage\n".as_slice());
+    }
+    for words in [&["demo"][..], &["demo", "7", "7"], &["Demo", "7"]] {
+        assert_eq!(&rt; code(&execute(alloc, words, &[], &[], &[])?.status), 2);
     }
     Ok(())
 }

@@ -1,6 +1,7 @@
 //! What `certify` writes, with parts put in place of others: the verdict on each.
 
-use super::held::{Run, execute, show};
+use super::held::{Run, execute};
+use crate::code;
 use std::alloc::{AllocError, Global};
 use std::test::Fail;
 
@@ -161,7 +162,8 @@ fn edited_texts_are_judged(rt: HostRuntime) -> Result<(), Fail> {
         let written = certified(alloc, function)?;
         let text = edited(alloc, text_of(&written), edits)?;
         let run = checked(alloc, function, &text)?;
-        show(&rt, &run, *status, line);
+        assert_eq!(rt; code(&run.status), *status);
+        assert_eq!(rt; run.sink.written(), line.as_bytes());
     }
     Ok(())
 }

@@ -1,7 +1,9 @@
 //! Functions over tables, with their status and output.
 
-use super::held::{Run, execute, show};
+use super::held::{Run, execute};
+use crate::{MemoryFiles, MemorySink, away_in_memory, code};
 use std::alloc::{AllocError, Global};
+use std::process::Abort;
 use std::test::Fail;
 
 const SCHEMA: &[u8] =
@@ -33,6 +35,11 @@ fn run<'x>(
     words.extend_from_slice(&["fn", bound, "s.sql", "f.sql", "d"])?;
     words.extend_from_slice(args)?;
     execute(alloc, &words, &files, &[], &[])
+}
+
+fn show(rt: &impl Abort, run: &Run, status: u8, output: &str) {
+    assert_eq!(rt; code(&run.status), status);
+    assert_eq!(rt; run.sink.written(), output.as_bytes());
 }
 
 const COLLATZ: &str =
@@ -283,5 +290,73 @@ fn functions_are_answered(rt: HostRuntime) -> Result<(), Fail> {
         let run = run(alloc, &func, bound, args)?;
         show(&rt, &run, *status, output);
     }
+    Ok(())
+}
+
+/// So many blocks, one inside the other, round a RETURN.
+fn nested_blocks(alloc: Global, depth: usize) -> Result<Vec<u8>, AllocError> {
+    let mut body = String::new(alloc);
+    for _ in 0..depth {
+        body.push_str("BEGIN ")?;
+    }
+    body.push_str("RETURN 1;")?;
+    for _ in 0..depth {
+        body.push_str(" END;")?;
+    }
+    function(alloc, BIGINT, &body)
+}
+
+#[test]
+fn blocks_nest_64_deep(rt: HostRuntime) -> Result<(), Fail> {
+    let alloc = rt.alloc();
+    let deepest = run(alloc, &nested_blocks(alloc, 64)?, "100", &[])?;
+    show(&rt, &deepest, 0, "value 1\n");
+    let deeper = run(alloc, &nested_blocks(alloc, 65)?, "100", &[])?;
+    show(&rt, &deeper, 1, "refused f.sql X5 nesting 65\n");
+    Ok(())
+}
+
+#[test]
+fn files_are_judged_before_arguments(rt: HostRuntime) -> Result<(), Fail> {
+    let alloc = rt.alloc();
+    let s: (&str, &[u8]) = ("s.sql", b"CREATE TABLE t (k bigint);");
+    let func = function(alloc, OF_A, "BEGIN RETURN a + 1; END;")?;
+    let f: (&str, &[u8]) = ("f.sql", &func);
+    let cases: [(&[(&str, &[u8])], &[&str], u8, &str); 6] = [
+        (&[f], &["seven"], 3, "read fault s.sql\n"),
+        (&[s], &["seven"], 3, "read fault f.sql\n"),
+        (&[s, f], &["seven"], 2, "usage\n"),
+        (&[s, f], &["7"], 3, "read fault d/t.csv\n"),
+        (
+            &[s, f, ("d/t.csv", b"k\nx\n")],
+            &["7"],
+            1,
+            "refused d/t.csv Z3 1 1\n",
+        ),
+        (&[s, f, ("d/t.csv", b"k\n1\n")], &["7"], 0, "value 8\n"),
+    ];
+    for (files, args, status, output) in cases {
+        let mut words = Vec::new(alloc);
+        words.extend_from_slice(&["fn", "0", "s.sql", "f.sql", "d"])?;
+        words.extend_from_slice(args)?;
+        let run = execute(alloc, &words, files, &[], &[])?;
+        show(&rt, &run, status, output);
+    }
+    Ok(())
+}
+
+#[test]
+fn a_run_in_memory_calls(rt: HostRuntime) -> Result<(), Fail> {
+    let alloc = rt.alloc();
+    let func = function(alloc, BIGINT, "BEGIN RETURN 15; END;")?;
+    let held = super::held::held(alloc, &[("s.sql", b""), ("f.sql", &func)])?;
+    let mut files = MemoryFiles::new(held, Vec::new(alloc));
+    let words = super::held::words(alloc, &["fn", "0", "s.sql", "f.sql", "d"])?;
+    let Ok(mut sink) = MemorySink::new(alloc, 9, Vec::new(alloc)) else {
+        return Ok(());
+    };
+    let status = away_in_memory(alloc, &words, &mut files, &mut sink);
+    assert_eq!(rt; code(&status), 0);
+    assert_eq!(rt; sink.written(), b"value 15\n".as_slice());
     Ok(())
 }

@@ -1,9 +1,8 @@
 //! Files, words and sinks for the tests.
 
-use crate::{MemoryFiles, MemorySink, Status, away, code};
+use crate::{MemoryFiles, MemorySink, Status, away};
 use away_values::NoMemory;
 use std::alloc::{AllocError, Global};
-use std::process::Abort;
 use std::test::Fail;
 
 /// The bytes of files, by their names.
@@ -49,12 +48,6 @@ pub fn execute(
     }
 }
 
-/// Stops the test where a run ended otherwise.
-pub fn show(rt: &impl Abort, run: &Run, status: u8, output: &str) {
-    assert_eq!(rt; code(&run.status), status);
-    assert_eq!(rt; run.sink.written(), output.as_bytes());
-}
-
 /// A function of this body over the parameters a and b.
 pub fn function(alloc: Global, value: &str) -> Result<Vec<u8>, AllocError> {
     let text = format!(in alloc;
@@ -63,24 +56,16 @@ pub fn function(alloc: Global, value: &str) -> Result<Vec<u8>, AllocError> {
     Ok(text.into_bytes())
 }
 
-/// A text's front, what is repeated, its inside, what closes each, and its back.
-pub fn repeated(
-    alloc: Global,
-    parts: &[&str; 3],
-    open: &str,
-    close: &str,
-    times: usize,
-) -> Result<String, AllocError> {
-    let [front, inside, back] = parts;
-    let mut text = String::from_str(alloc, front)?;
-    for _ in 0..times {
-        text.push_str(open)?;
+/// So many parentheses round a value.
+pub fn nested(alloc: Global, depth: usize) -> Result<String, AllocError> {
+    let mut text = String::new(alloc);
+    for _ in 0..depth {
+        text.push_str("(")?;
     }
-    text.push_str(inside)?;
-    for _ in 0..times {
-        text.push_str(close)?;
+    text.push_str("a")?;
+    for _ in 0..depth {
+        text.push_str(")")?;
     }
-    text.push_str(back)?;
     Ok(text)
 }
 

@@ -1,9 +1,11 @@
 //! Queries over tables, with their status and output.
 
 use super::checks::{LABELS, MERGED};
-use super::held::{Run, execute, show};
+use super::held::{Run, execute};
 use super::rows::TOTAL;
+use crate::{MemoryFiles, MemorySink, away_in_memory, code};
 use std::alloc::{AllocError, Global};
+use std::process::Abort;
 use std::test::Fail;
 
 const SCHEMA: &str = "CREATE TABLE t (k bigint, v text);";
@@ -27,6 +29,11 @@ fn run<'x>(
     words.extend_from_slice(&["sql", bound, "s.sql", "q.sql", "d"])?;
     words.extend_from_slice(args)?;
     execute(alloc, &words, &files, &[], &[])
+}
+
+fn show(rt: &impl Abort, run: &Run, status: u8, output: &str) {
+    assert_eq!(rt; code(&run.status), status);
+    assert_eq!(rt; run.sink.written(), output.as_bytes());
 }
 
 const SUM: &str =
@@ -96,10 +103,89 @@ fn queries_are_answered(rt: HostRuntime) -> Result<(), Fail> {
 }
 
 #[test]
+fn tables_are_refused(rt: HostRuntime) -> Result<(), Fail> {
+    let query = "SELECT t.k, CAST(NULL AS text) FROM t WHERE FALSE";
+    for (table, output) in [
+        ("", "refused d/t.csv Z1\n"),
+        ("v,k\n", "refused d/t.csv Z1\n"),
+        ("k,v\n1,one\nx,two\n", "refused d/t.csv Z3 2 1\n"),
+        ("k,v\n1,one\n2\n", "refused d/t.csv Z2 2\n"),
+    ] {
+        let run = run(rt.alloc(), query, "0", table, &[])?;
+        show(&rt, &run, 1, output);
+    }
+    Ok(())
+}
+
+/// Runs a query of no table over two tables, some of whose files aren't held.
+fn run_over_two(alloc: Global, files: &[(&str, &[u8])], args: &[&str]) -> Result<Run, AllocError> {
+    let mut words = Vec::new(alloc);
+    words.extend_from_slice(&["sql", "0", "s.sql", "q.sql", "d"])?;
+    words.extend_from_slice(args)?;
+    execute(alloc, &words, files, &[], &[])
+}
+
+const TWO: &[u8] = b"CREATE TABLE u (k bigint NOT NULL); CREATE TABLE t (v text);";
+
+#[test]
+fn files_and_arguments_are_judged_in_order(rt: HostRuntime) -> Result<(), Fail> {
+    let alloc = rt.alloc();
+    let query: (&str, &[u8]) = (
+        "q.sql",
+        b"SELECT CAST($1 AS bigint) + 1, CAST(NULL AS text)",
+    );
+    let u: (&str, &[u8]) = ("d/u.csv", b"k\n\\N\n");
+    let fit: (&str, &[u8]) = ("d/u.csv", b"k\n1\n");
+    let t: (&str, &[u8]) = ("d/t.csv", b"");
+    let whole: (&str, &[u8]) = ("d/t.csv", b"v\n\\N\n");
+    let s: (&str, &[u8]) = ("s.sql", TWO);
+    let cases: [(&[(&str, &[u8])], &[&str], u8, &str); 9] = [
+        (&[query], &[], 3, "read fault s.sql\n"),
+        (&[s], &[], 3, "read fault q.sql\n"),
+        (&[s, query], &[], 2, "usage\n"),
+        (&[s, query], &["seven"], 2, "usage\n"),
+        (&[s, query], &["7"], 3, "read fault d/u.csv\n"),
+        (&[s, query, u, t], &["7"], 1, "refused d/u.csv Z4 1 1\n"),
+        (&[s, query, fit], &["7"], 3, "read fault d/t.csv\n"),
+        (&[s, query, fit, t], &["7"], 1, "refused d/t.csv Z1\n"),
+        (&[s, query, fit, whole], &["7"], 0, "value 8\n"),
+    ];
+    for (files, args, status, output) in cases {
+        let run = run_over_two(alloc, files, args)?;
+        show(&rt, &run, status, output);
+    }
+    Ok(())
+}
+
+#[test]
 fn a_query_has_64_arguments_at_most(rt: HostRuntime) -> Result<(), Fail> {
     let most = run(rt.alloc(), WRITTEN, "0", TABLE, &["x"; 64])?;
     show(&rt, &most, 0, "value x\n");
     let more = run(rt.alloc(), WRITTEN, "0", TABLE, &["x"; 65])?;
     show(&rt, &more, 2, "usage\n");
+    Ok(())
+}
+
+#[test]
+fn a_bound_is_digits_of_64_bits(rt: HostRuntime) -> Result<(), Fail> {
+    for bound in ["", "x", "-1", "+1", " 1", "1 ", "18446744073709551616"] {
+        let run = run(rt.alloc(), "not a query", bound, TABLE, &[])?;
+        show(&rt, &run, 2, "usage\n");
+    }
+    Ok(())
+}
+
+#[test]
+fn a_run_in_memory_answers(rt: HostRuntime) -> Result<(), Fail> {
+    let alloc = rt.alloc();
+    let held = super::held::held(alloc, &[("s.sql", b""), ("q.sql", SUM.as_bytes())])?;
+    let mut files = MemoryFiles::new(held, Vec::new(alloc));
+    let words = super::held::words(alloc, &["sql", "5", "s.sql", "q.sql", "d"])?;
+    let Ok(mut sink) = MemorySink::new(alloc, 9, Vec::new(alloc)) else {
+        return Ok(());
+    };
+    let status = away_in_memory(alloc, &words, &mut files, &mut sink);
+    assert_eq!(rt; code(&status), 0);
+    assert_eq!(rt; sink.written(), b"value 15\n".as_slice());
     Ok(())
 }

@@ -1,6 +1,7 @@
 //! The rules of names, scopes and types, each broken by a small body.
 
-use super::held::{Run, execute, show};
+use super::held::{Run, execute};
+use crate::code;
 use std::alloc::{AllocError, Global};
 use std::test::Fail;
 
@@ -57,7 +58,28 @@ fn functions_are_refused_by_the_least_rule(rt: HostRuntime) -> Result<(), Fail> 
             "refused f.sql X16\n",
         ),
     ] {
-        show(&rt, &compile_body(alloc, body)?, 1, output);
+        let run = compile_body(alloc, body)?;
+        assert_eq!(rt; code(&run.status), 1);
+        assert_eq!(rt; run.sink.written(), output.as_bytes());
+    }
+    Ok(())
+}
+
+#[test]
+fn schemas_are_refused_by_the_least_rule(rt: HostRuntime) -> Result<(), Fail> {
+    let alloc = rt.alloc();
+    for (schema, output) in [
+        (
+            "CREATE TABLE t (k bigint); CREATE TABLE t (v text);",
+            "refused s.sql X6\n",
+        ),
+        ("CREATE TABLE t (k bigint, k text);", "refused s.sql X6\n"),
+        ("CREATE TABLE away_t (k bigint);", "refused s.sql X14\n"),
+    ] {
+        let files: [(&str, &[u8]); 2] = [("s.sql", schema.as_bytes()), ("f.sql", b"")];
+        let run = execute(alloc, &["compile", "s.sql", "f.sql"], &files, &[], &[])?;
+        assert_eq!(rt; code(&run.status), 1);
+        assert_eq!(rt; run.sink.written(), output.as_bytes());
     }
     Ok(())
 }

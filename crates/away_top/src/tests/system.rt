@@ -4,11 +4,18 @@ use crate::{Files, ReadError, RealFiles, RealSink, Sink};
 use std::fs;
 use std::test::Fail;
 
+#[test]
+fn a_file_that_is_not_there_fails(rt: HostRuntime) {
+    let mut files = RealFiles::new(&rt);
+    let answer = files.read(rt.alloc(), "no such file", 10);
+    assert!(rt; matches!(&answer, Err(ReadError::Failed)));
+}
+
 // Longer than what is read at once, and no multiple of it.
 const LENGTH: u64 = 20_001;
 
 #[test]
-fn a_file_is_read_whole_or_is_long(rt: HostRuntime) -> Result<(), Fail> {
+fn a_file_is_read_whole(rt: HostRuntime) -> Result<(), Fail> {
     let alloc = rt.alloc();
     let bytes = vec![in alloc; b'x'; LENGTH as usize]?;
     fs::write(&rt, "whole", bytes.as_slice())?;
@@ -17,13 +24,21 @@ fn a_file_is_read_whole_or_is_long(rt: HostRuntime) -> Result<(), Fail> {
         Ok(found) => assert_eq!(rt; found.as_slice(), bytes.as_slice()),
         Err(_) => assert!(rt; false),
     }
-    // By one byte, by many, and by the first.
-    for (limit, told) in [(LENGTH - 1, LENGTH), (10, 11), (0, 1)] {
-        let long = files.read(alloc, "whole", limit);
-        assert!(rt; matches!(&long, Err(ReadError::Long(found)) if *found == told));
-    }
-    let none = files.read(alloc, "no such file", 10);
-    assert!(rt; matches!(&none, Err(ReadError::Failed)));
+    Ok(())
+}
+
+#[test]
+fn a_longer_file_is_long(rt: HostRuntime) -> Result<(), Fail> {
+    let alloc = rt.alloc();
+    let bytes = vec![in alloc; b'x'; LENGTH as usize]?;
+    fs::write(&rt, "longer", bytes.as_slice())?;
+    let mut files = RealFiles::new(&rt);
+    let by_one = files.read(alloc, "longer", LENGTH - 1);
+    assert!(rt; matches!(&by_one, Err(ReadError::Long(LENGTH))));
+    let by_far = files.read(alloc, "longer", 10);
+    assert!(rt; matches!(&by_far, Err(ReadError::Long(11))));
+    let empty = files.read(alloc, "longer", 0);
+    assert!(rt; matches!(&empty, Err(ReadError::Long(1))));
     Ok(())
 }
 

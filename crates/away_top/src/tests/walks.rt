@@ -1,8 +1,9 @@
 //! A walk over a table of 1,000 rows, and its query.
 
-use super::held::{execute, show};
+use super::held::{Run, execute};
 use crate::code;
 use std::alloc::{AllocError, Global};
+use std::process::Abort;
 use std::test::Fail;
 
 const WALK: &[u8] =
@@ -16,6 +17,11 @@ fn routes(alloc: Global) -> Result<Vec<u8>, AllocError> {
         text.push_str(&format!(in alloc; "{src},{dst},{cost}\n")?)?;
     }
     Ok(text.into_bytes())
+}
+
+fn show(rt: &impl Abort, run: &Run, status: u8, output: &str) {
+    assert_eq!(rt; code(&run.status), status);
+    assert_eq!(rt; run.sink.written(), output.as_bytes());
 }
 
 const SCHEMA: &[u8] =
@@ -40,11 +46,19 @@ fn a_walk_over_1000_rows(rt: HostRuntime) -> Result<(), Fail> {
         ("63", "63", "5000", 6, "more\n"),
     ] {
         let words = ["fn", turns, "s.sql", "f.sql", "d", limit];
-        let run = execute(alloc, &words, &files, &[], &[])?;
-        show(&rt, &run, status, output);
+        show(
+            &rt,
+            &execute(alloc, &words, &files, &[], &[])?,
+            status,
+            output,
+        );
         let words = ["sql", iterations, "s.sql", "q.sql", "d", limit];
-        let run = execute(alloc, &words, &files, &[], &[])?;
-        show(&rt, &run, status, output);
+        show(
+            &rt,
+            &execute(alloc, &words, &files, &[], &[])?,
+            status,
+            output,
+        );
     }
     Ok(())
 }
