@@ -21,6 +21,3 @@ pub use away_values::{
     what_is_held_is_a_value, word,
 };
 pub use copied::Copied;
-
-#[cfg(test)]
-mod copy_tests;

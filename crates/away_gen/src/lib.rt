@@ -10,6 +10,3 @@ mod texts;
 
 pub use case::{DemoCase, make_case};
 pub use laws::{every_case_is_small, the_case_of_seven};
-
-#[cfg(test)]
-mod tests;

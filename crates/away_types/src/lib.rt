@@ -30,6 +30,3 @@ pub use laws::{a_function_has_one_checked_tree, a_query_has_one_checked_tree};
 pub use query_check::check_query;
 pub use schema_check::check_schema;
 pub use slots::Slot;
-
-#[cfg(test)]
-mod query_tests;

@@ -18,6 +18,3 @@ pub use cert::{Cert, CertField, CertRefusal};
 pub use laws::the_first_field_decides;
 pub use read::read_cert;
 pub use write::write_cert;
-
-#[cfg(test)]
-mod tests;

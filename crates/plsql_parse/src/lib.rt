@@ -27,8 +27,3 @@ pub use worked_functions::{
     a_function_with_for_reads, a_function_with_while_reads, end_loop_ends_no_case,
     every_kind_of_statement_reads, words_outside_are_found,
 };
-
-#[cfg(test)]
-mod body_tests;
-#[cfg(test)]
-mod read_tests;

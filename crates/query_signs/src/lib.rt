@@ -8,6 +8,3 @@ mod signs;
 pub use laws::{placed_expressions_have_signs, signs_tell_queries, signs_tell_slots};
 pub use push::{expr_signs, query_signs};
 pub use signs::{Kind, Manner, Sign};
-
-#[cfg(test)]
-mod tests;

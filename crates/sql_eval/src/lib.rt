@@ -23,6 +23,3 @@ pub use bodies::{rows_in_body, value_in_body};
 pub use classes::class_of;
 pub use expressions::{Frames, eval_expr};
 pub use lengths::query_length;
-
-#[cfg(test)]
-mod tests;

@@ -14,6 +14,3 @@ pub use print_laws::{
     queries_that_were_read_print_back, signs_of_texts_are_spoken,
 };
 pub use printing::print_query;
-
-#[cfg(test)]
-mod print_tests;

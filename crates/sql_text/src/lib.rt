@@ -25,12 +25,3 @@ pub use one_tree::a_text_reads_as_one_tree;
 pub use read::{as_text, read_expr, read_query, read_schema};
 pub use refusal::Refusal;
 pub use signs::{Sign, is_public, signs_of, text_of};
-
-#[cfg(test)]
-mod long_tests;
-#[cfg(test)]
-mod production_tests;
-#[cfg(test)]
-mod read_tests;
-#[cfg(test)]
-mod sign_tests;

@@ -8,6 +8,3 @@ mod steps;
 mod whole;
 
 pub use check::check_templated;
-
-#[cfg(test)]
-mod tests;

@@ -14,6 +14,3 @@ pub use trees::{
     add, alone, class_text, col, either_as, equal, gate_as, let_as, not, not_true, null, number,
     only, select, subquery, truth, working,
 };
-
-#[cfg(test)]
-mod tests;
