@@ -13,6 +13,3 @@ mod stages;
 
 pub use check::{check_called, check_columned, check_merged};
 pub use stages::{CallStage, MergeStage};
-
-#[cfg(test)]
-mod tests;

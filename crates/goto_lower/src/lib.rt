@@ -18,8 +18,6 @@ mod sizes;
 mod statements;
 mod sums;
 mod terms;
-#[cfg(test)]
-mod tests;
 
 pub use function::lower;
 pub use laws::built_forms_are_lowered;

@@ -13,6 +13,3 @@ mod terms;
 pub use check::check_named;
 pub use laws::{names_have_one_definition, naming_keeps_answers, phis_join_two_names};
 pub use name_stage::NameStage;
-
-#[cfg(test)]
-mod tests;

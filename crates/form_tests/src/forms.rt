@@ -1,7 +1,6 @@
 //! The forms of two functions of one parameter.
 
-use crate::tests::edits::Edit;
-use away_types::Slot;
+use crate::edits::Edit;
 use away_values::{Class, Ty};
 use block_forms::{Block, End, Goto, Phi, Ssa, SsaBlock, Term};
 use call_forms::{Anf, AnfBlock, Call, CallEnd, Tail};
@@ -16,16 +15,16 @@ pub enum Example {
     Loop,
 }
 
-const SLOT: Slot = Slot {
-    ty: Ty::Bigint,
-    not_null: false,
-};
-
 impl Example {
-    pub fn slots(self) -> &'static [Slot] {
+    pub fn text(self) -> &'static str {
         match self {
-            Example::Sign => &[SLOT],
-            Example::Loop => &[SLOT, SLOT],
+            Example::Sign => {
+                "CREATE FUNCTION sign_of(a bigint) RETURNS bigint LANGUAGE plpgsql AS $$ BEGIN IF a > 0 THEN RETURN 1; END IF; RETURN 2; END; $$;"
+            }
+            Example::Loop => {
+                "CREATE FUNCTION doubled(n bigint) RETURNS bigint LANGUAGE plpgsql AS $$ DECLARE total bigint; BEGIN total := n + n; \
+                WHILE total < n LOOP total := total + n; END LOOP; RETURN total; END; $$;"
+            }
         }
     }
 }

@@ -1,26 +1,16 @@
 //! The query of a function with one test is accepted, and with a piece changed it is refused.
 
-mod edits;
-mod forms;
-
-ghost use Rattle.away_trees.specs.Limits.{KeepsLimits};
-
-use crate::checks::edits::Edit;
-use crate::checks::forms::{Example, anf, goto, ssa, tail_of};
-use away_trees::{Function, Query};
-use away_types::{
-    CheckedFunction, CheckedQuery, CheckedSchema, check_function, check_query, check_schema,
-};
+use crate::edits::Edit;
+use crate::forms::{Example, anf, goto, ssa, tail_of};
+use crate::functions::{checked, no_tables};
+use away_trees::Query;
+use away_types::{CheckedFunction, CheckedQuery, CheckedSchema, check_query};
 use block_forms::{Goto, Ssa};
 use call_forms::{Anf, Tail};
-use plsql_parse::read_function;
-use sql_text::{read_query, read_schema};
+use sql_text::read_query;
 use sqlite_items::Boxed;
 use std::process::Abort;
 use template_check::check_templated;
-
-const SIGN: &str =
-    "CREATE FUNCTION sign_of(a bigint) RETURNS bigint LANGUAGE plpgsql AS $$ BEGIN IF a > 0 THEN RETURN 1; END IF; RETURN 2; END; $$;";
 
 /// The query of the function's tail form, where a label is each block but the last.
 const PIECES: [&str; 37] = [
@@ -62,36 +52,6 @@ const PIECES: [&str; 37] = [
     "WHERE NOT r.go",
     "",
 ];
-
-fn schema(rt: &(impl Abort + AllocGlobal)) -> CheckedSchema {
-    let Ok(schema) = read_schema(rt.alloc(), "".as_bytes()) else {
-        rt.abort();
-    };
-    let Ok(schema) = check_schema(rt.alloc(), schema) else {
-        rt.abort();
-    };
-    schema
-}
-
-fn checked_function(
-    rt: &(impl Abort + AllocGlobal),
-    schema: &CheckedSchema,
-    function: Function,
-) -> Boxed<CheckedFunction>
-    requires { KeepsLimits function }
-{
-    match check_function(rt.alloc(), schema, function) {
-        Ok(function) => Boxed::new(rt.alloc(), function).expect(rt, "memory"),
-        Err(_) => rt.abort(),
-    }
-}
-
-fn function(rt: &(impl Abort + AllocGlobal), schema: &CheckedSchema) -> Boxed<CheckedFunction> {
-    match read_function(rt.alloc(), SIGN.as_bytes()) {
-        Ok(function) => checked_function(rt, schema, function),
-        Err(_) => rt.abort(),
-    }
-}
 
 /// The query with another piece at a place.
 fn text(rt: &(impl Abort + AllocGlobal), place: usize, piece: &str) -> Vec<u8> {
@@ -173,8 +133,8 @@ fn accepts(
     tail: &Tail,
     tables: usize,
 ) -> bool {
-    let schema = schema(rt);
-    let function = function(rt, &schema);
+    let schema = no_tables(rt);
+    let function = checked(rt, &schema, Example::Sign.text());
     let query = query(rt, &schema, place, piece);
     is_accepted(rt, function.get(), query.get(), tail, tables)
 }
