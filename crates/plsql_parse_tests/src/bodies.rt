@@ -1,10 +1,10 @@
 //! What the reader of bodies gives.
 
 use away_lex::ReadRefusal;
-use away_trees::{Arm, Decl, Expr, LoopKind, Raised, Stmt};
+use away_trees::{Arm, Decl, Expr, Function, LoopKind, Raised, Stmt};
 use away_values::Name;
 use plsql_parse::read_function;
-use sqlite_items::Items;
+use sqlite_items::{Boxed, Items};
 use std::alloc::{AllocError, Global};
 use std::test::Fail;
 
@@ -110,12 +110,21 @@ fn shown(alloc: Global, text: &str) -> Result<String, AllocError> {
     let file = format!(in alloc;
         "CREATE FUNCTION f() RETURNS bigint LANGUAGE plpgsql AS $$ {text} $$;"
     )?;
+    answer(alloc, file.as_str())
+}
+
+fn answer(alloc: Global, file: &str) -> Result<String, AllocError> {
     match read_function(alloc, file.as_bytes()) {
-        Ok(f) => outline(alloc, &f.body),
+        Ok(f) => body_outline(alloc, f),
         Err(ReadRefusal::NoTree) => String::from_str(alloc, "-"),
         Err(ReadRefusal::Outside { .. }) => String::from_str(alloc, "outside"),
         Err(_) => Err(AllocError),
     }
+}
+
+fn body_outline(alloc: Global, f: Function) -> Result<String, AllocError> {
+    let f = Boxed::new(alloc, f)?;
+    outline(alloc, &f.get().body)
 }
 
 /// The label of a block, its declarations, its statements and its closing name.
