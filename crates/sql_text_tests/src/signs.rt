@@ -3,7 +3,7 @@
 ghost use Rattle.sql_text.specs.CodeSigns.{HasSpelling};
 
 use away_lex::tokens;
-use away_trees::Expr;
+use away_trees::{Expr, Query};
 use away_values::{NoMemory, Ty};
 use sql_text::{Cursor, Sign, read_query, signs_of, text_of};
 use std::alloc::{AllocError, Global};
@@ -83,22 +83,25 @@ fn texts_and_what_they_say(rt: HostRuntime) -> Result<(), Fail> {
     Ok(())
 }
 
+/// The type that the query's first item is cast to.
+fn cast_type(query: &Query) -> Option<Ty> {
+    match &query.selects.get(0)?.list.get(0)?.expr {
+        Expr::Cast(_, ty) => Some(*ty),
+        _ => None,
+    }
+}
+
+fn type_read(alloc: Global, text: &str) -> Option<Ty> {
+    match read_query(alloc, text.as_bytes()) {
+        Ok(query) => cast_type(&query),
+        Err(_) => None,
+    }
+}
+
 /// The type that a cast to this name makes, if there is such a type.
 fn type_named(alloc: Global, name: &str) -> Result<Option<Ty>, AllocError> {
     let text = format!(in alloc; "SELECT a::{name}")?;
-    let Ok(query) = read_query(alloc, text.as_bytes()) else {
-        return Ok(None);
-    };
-    let Some(select) = query.selects.get(0) else {
-        return Ok(None);
-    };
-    let Some(item) = select.list.get(0) else {
-        return Ok(None);
-    };
-    match &item.expr {
-        Expr::Cast(_, ty) => Ok(Some(*ty)),
-        _ => Ok(None),
-    }
+    Ok(type_read(alloc, text.as_str()))
 }
 
 #[test]
