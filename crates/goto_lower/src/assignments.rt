@@ -9,7 +9,7 @@ ghost use Rattle.goto_lower.specs.Drafts.{extended, declared, all_declared};
 use crate::classes::NULL_NOT_ALLOWED;
 use crate::counts::set_many;
 use crate::draft::Draft;
-use crate::leaves::first_of;
+use crate::own_blocks::first_of;
 use crate::shapes::{branches, fails, sets};
 use crate::sizes::decl_size;
 use crate::sums::sum;

@@ -11,7 +11,7 @@ use crate::classes::NO_RETURN;
 use crate::counts::statement_many;
 use crate::draft::Draft;
 use crate::enclosing::Enclosing;
-use crate::leaves::first_of;
+use crate::own_blocks::first_of;
 use crate::setting::Setting;
 use crate::shapes::{branches, fails, jumps, returns};
 use crate::sizes::size_of;

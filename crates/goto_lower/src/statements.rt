@@ -12,7 +12,7 @@ use crate::counted::{Bounds, head_at, push_count};
 use crate::counts::{arms_many, row_many, statement_many};
 use crate::draft::Draft;
 use crate::enclosing::{Enclosing, again_to, exit_to};
-use crate::leaves::{
+use crate::own_blocks::{
     first_of, following, push_assign, push_head, push_jump, push_leave, push_raise, push_return,
     push_start, push_test,
 };

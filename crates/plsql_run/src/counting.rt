@@ -10,10 +10,10 @@ ghost use Rattle.plsql_meaning.specs.Statements as meaning;
 ghost use Rattle.plsql_run.specs.Continues.{GoesOn, IfEnds, Passes, body_of};
 ghost use Rattle.plsql_run.specs.Settings.{meant};
 
+use crate::assignments::NULL_NOT_ALLOWED;
 use crate::frames::{Counting, Frame, Signal, Stretch};
 use crate::loops::begin_count;
 use crate::setting::Setting;
-use crate::simple::NULL_NOT_ALLOWED;
 use away_trees::Expr;
 use away_values::{Class, CmpOp, Name, OpError, Value, compare};
 use lateral_rows::{is_null, is_true};

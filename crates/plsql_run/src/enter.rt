@@ -11,14 +11,14 @@ ghost use Rattle.plsql_run.specs.Layouts.{arm_layouts, layout_of, layouts_of, la
 ghost use Rattle.plsql_run.specs.declared.layout.Layout.TheViews.{out-Layout};
 ghost use Rattle.plsql_run.specs.Settings.{meant};
 
+use crate::assignments::declare;
 use crate::counting::enter_count;
 use crate::frames::{Frame, Signal, Stretch, Way};
 use crate::into::select_into;
 use crate::layout::Layout;
-use crate::leaves::{assign, give, jump, raise};
 use crate::loops::{begin_plain, begin_while};
 use crate::setting::Setting;
-use crate::simple::declare;
+use crate::single_statements::{assign, give, jump, raise};
 use away_trees::{Arm, Decl, LoopKind, Stmt};
 use away_values::{Class, Name, OpError, Value};
 use lateral_rows::is_true;

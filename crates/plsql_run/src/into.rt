@@ -6,9 +6,9 @@ ghost use Rattle.plsql_meaning.specs.Statements as meaning;
 ghost use Rattle.plsql_run.specs.Continues.{Does, Ended};
 ghost use Rattle.plsql_run.specs.Settings.{meant};
 
+use crate::assignments::put;
 use crate::frames::{Signal, Way};
 use crate::setting::Setting;
-use crate::simple::put;
 use away_trees::Select;
 use away_values::{Class, Name, OpError, Value};
 use sqlite_items::Items;

@@ -7,10 +7,10 @@ ghost use Rattle.plsql_meaning.specs.Statements.{Setting as Meant};
 ghost use Rattle.plsql_run.specs.Continues.{GoesOn, IfEnds, body_of, count_of, count_run, outcome, resumed, told};
 ghost use Rattle.plsql_run.specs.Settings.{meant};
 
+use crate::assignments::put_at;
 use crate::frames::{Counting, Frame, Signal, Stretch, Way};
 use crate::names::names_loop;
 use crate::setting::Setting;
-use crate::simple::put_at;
 use away_trees::Expr;
 use away_values::{Class, CmpOp, IntOp, Name, OpError, Value, compare, int_op};
 use lateral_rows::is_true;

@@ -2,6 +2,7 @@
 #![tactic(auto)]
 
 mod laws;
+mod nodes;
 mod push;
 mod signs;
 

@@ -1,98 +1,18 @@
 //! The signs of a tree, one after the other.
 
-ghost use Rattle.std.specs.Prelude.{◌≡◌, List, [], ◌∷◌, IfOk};
+ghost use Rattle.std.specs.Prelude.{◌≡◌, IfOk};
 ghost use Rattle.away_trees.specs.Algebra.{expr_of, item_of, from_of, key_of, select_of, recursive_of, query_of};
 ghost use Rattle.away_trees.specs.declared.queries.Expr.TheViews.{out-Select};
 ghost use Rattle.query_signs.specs.declared.signs.Kind.TheVariants as kind;
-ghost use Rattle.query_signs.specs.declared.signs.Sign.TheVariants as sign;
 ghost use Rattle.query_signs.specs.Signs as spec;
 ghost use Rattle.query_signs.specs.Signs.{Adds, row, option, shaping, signs_of_expr, signs_of_query};
 
+use crate::nodes::{close, dotted, integer, leaf, name, named, open, push, table, text};
 use crate::signs::{Kind, Manner, Sign};
 use away_trees::{Expr, FromItem, Item, Key, Query, Recursive, Select, Source};
-use away_values::{ChainOp, Name, NoMemory, Word};
+use away_values::{ChainOp, NoMemory};
 use sqlite_items::{Boxed, Items};
 use std::alloc::Global;
-
-fn push(signs: &mut Items<Sign>, sign: Sign) -> Result<(), NoMemory>
-    ensures { Adds (λ rest. sign ∷ rest) signs.old result signs.new }
-{
-    signs.push(sign)?;
-    Ok(())
-}
-
-fn open(signs: &mut Items<Sign>, kind: Kind) -> Result<(), NoMemory>
-    ensures { Adds (λ rest. sign.Open kind ∷ rest) signs.old result signs.new }
-{
-    push(signs, Sign::Open(kind))
-}
-
-fn close(signs: &mut Items<Sign>) -> Result<(), NoMemory>
-    ensures { Adds (λ rest. sign.Close ∷ rest) signs.old result signs.new }
-{
-    push(signs, Sign::Close)
-}
-
-/// A node without parts.
-fn leaf(signs: &mut Items<Sign>, kind: Kind) -> Result<(), NoMemory>
-    ensures { Adds (spec.leaf kind) signs.old result signs.new }
-{
-    open(signs, kind)?;
-    close(signs)
-}
-
-fn integer(n: i64) -> Kind
-    ensures { result ≡ kind.Int n }
-{
-    Kind::Int(n)
-}
-
-fn name(alloc: Global, signs: &mut Items<Sign>, name: &Name) -> Result<(), NoMemory>
-    ensures { Adds (λ rest. sign.Name name.now ∷ rest) signs.old result signs.new }
-{
-    push(signs, Sign::Name(name.copy(alloc)?))
-}
-
-fn text(alloc: Global, signs: &mut Items<Sign>, text: &Word) -> Result<(), NoMemory>
-    ensures { Adds (spec.text_node text.now) signs.old result signs.new }
-{
-    open(signs, Kind::Str)?;
-    push(signs, Sign::Text(text.copy(alloc)?))?;
-    close(signs)
-}
-
-fn named(alloc: Global, signs: &mut Items<Sign>, of: &Name) -> Result<(), NoMemory>
-    ensures { Adds (spec.named_node of.now) signs.old result signs.new }
-{
-    open(signs, Kind::Named)?;
-    name(alloc, signs, of)?;
-    close(signs)
-}
-
-fn dotted(
-    alloc: Global,
-    signs: &mut Items<Sign>,
-    alias: &Name,
-    column: &Name,
-) -> Result<(), NoMemory>
-    ensures { Adds (spec.dotted_node alias.now column.now) signs.old result signs.new }
-{
-    open(signs, Kind::Dotted)?;
-    name(alloc, signs, alias)?;
-    name(alloc, signs, column)?;
-    close(signs)
-}
-
-/// A table, by the digits of its place.
-fn table(alloc: Global, signs: &mut Items<Sign>, columns: &[Name]) -> Result<(), NoMemory>
-    ensures { Adds (spec.table_node columns.now) signs.old result signs.new }
-{
-    open(signs, Kind::Table)?;
-    if !columns.is_empty() {
-        name(alloc, signs, &columns[0])?;
-    }
-    close(signs)
-}
 
 #[cycle(shape)]
 fn push_expr(

@@ -22,7 +22,7 @@ use Rattle.away_trees.proofs.Equations as e
 use Rattle.sql_meaning.specs.Placed.{Deep, further, with_cast, placed_at}
 use Rattle.away_trees.specs.declared.queries.Expr.TheBlock as b
 use Rattle.template_parts.specs.Columns.{column_beside}
-use Rattle.template_parts.specs.declared.placing.Leaves.{Leaves}
+use Rattle.template_parts.specs.declared.columns.Leaves.{Leaves}
 use Rattle.template_parts.specs.Placing.{column_at, placing, expr_in, source_in, select_in, recursive_in, query_in, link_in, arm_in, item_in, from_in, key_in, maybe_in, maybe_recursive_in}
 
 -- ---- lists

@@ -14,7 +14,7 @@ use Rattle.away_trees.specs.declared.queries.Expr.TheViews.{roll-Item, roll-From
 use Rattle.away_trees.specs.Algebra.{Algebra, expr_of, source_of, query_of, recursive_of, select_of}
 use Rattle.sql_meaning.specs.Placed.{replacing, column_of, with_cast}
 use Rattle.template_parts.specs.Columns.{column_beside}
-use Rattle.template_parts.specs.declared.placing.Leaves.{Leaves}
+use Rattle.template_parts.specs.declared.columns.Leaves.{Leaves}
 
 abbrev pub placing : (ℕ → Col) → Algebra
 placing ref = replacing (column_of ref) with_cast

@@ -1,6 +1,7 @@
 //! What a function's query is made of: its names, its small trees, and the function's expressions with columns for their slots.
 #![tactic(auto)]
 
+mod columns;
 mod names;
 mod numbers;
 mod placing;

@@ -1,52 +1,19 @@
 //! Expressions of the function as they stand in the query: columns for slots, and a cast round each literal.
 
 ghost use Rattle.std.specs.Prelude.{◌≡◌, map, IfOk};
-ghost use Rattle.sql_meaning.specs.Placed.{further, placed_at, with_cast};
+ghost use Rattle.sql_meaning.specs.Placed.{placed_at, with_cast};
 ghost use Rattle.sql_meaning.specs.Reads.{slots_of};
 ghost use Rattle.template_parts.specs.Columns.{column_beside};
 ghost use Rattle.template_parts.specs.Placing as spec;
 
-use crate::numbers::{after, small, sum};
+use crate::columns::{Leaves, column_of};
+use crate::numbers::after;
 use crate::slots::slots_of;
 use crate::trees::null;
 use away_trees::{Col, Expr, FromItem, Item, Key, Query, Recursive, Select, Source};
 use away_values::{ChainOp, Name, NoMemory, Ty};
 use sqlite_items::{Boxed, Items};
 use std::alloc::Global;
-
-/// What stands for slots: each column beside its slot, and one more for what has none.
-#[derive(Clone, Copy)]
-struct Leaves<'a> {
-    slots: &'a [u32],
-    columns: &'a [Col],
-    other: Col,
-}
-
-/// The column beside the first slot that is this one.
-#[tactic(auto, using(crate::proofs::ColumnRules::beside_rules))]
-fn beside(slots: &[u32], columns: &[Col], other: Col, slot: u32) -> Col
-    ensures { result ≡ column_beside slots.now columns.now other slot }
-{
-    for i in 0..slots.len() {
-        if i >= columns.len() {
-            return other;
-        }
-        if slots[i] == slot {
-            return columns[i];
-        }
-    }
-    other
-}
-
-/// The column of a slot, inside so many selects of the expression.
-#[tactic(auto, using(crate::proofs::PlacingRules::column_is))]
-fn column_of(leaves: &Leaves<'_>, inside: usize, slot: u32) -> Result<Col, NoMemory>
-    ensures { IfOk result (λ c. c ≡ further inside (spec.column_at leaves.now slot)) }
-{
-    let column = beside(leaves.slots, leaves.columns, leaves.other, slot);
-    let level = small(sum(column.level as usize, inside)?)?;
-    Ok(Col { level, ..column })
-}
 
 fn cast(alloc: Global, literal: Expr, ty: Ty) -> Result<Expr, NoMemory>
     ensures { IfOk result (λ e. e ≡ with_cast ty literal) }

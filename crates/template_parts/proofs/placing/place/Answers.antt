@@ -3,7 +3,7 @@ use Rattle.sql_meaning.specs.Placed.{placed_at}
 use Rattle.sql_meaning.specs.Reads.{slots_of}
 use Rattle.template_parts.specs.Columns.{column_beside}
 use Rattle.template_parts.specs.Placing.{column_at, expr_in}
-use Rattle.template_parts.specs.declared.placing.Leaves.{Leaves}
+use Rattle.template_parts.specs.declared.columns.Leaves.{Leaves}
 use Rattle.template_parts.proofs.PlacingRules.{columns_are, whole_other}
 use Rattle.template_parts.proofs.Results.{ok_by}
 use Rattle.template_parts.proofs.placing.place.Goals as goal

@@ -7,9 +7,9 @@ ghost use Rattle.plsql_meaning.specs.Statements as meaning;
 ghost use Rattle.plsql_run.specs.Continues.{Ended, outcome};
 ghost use Rattle.plsql_run.specs.Settings.{meant};
 
+use crate::assignments::put;
 use crate::frames::{Signal, Way};
 use crate::setting::Setting;
-use crate::simple::put;
 use away_trees::{Expr, Raised};
 use away_values::{Class, OpError, Value};
 use lateral_rows::is_true;
