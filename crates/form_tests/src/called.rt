@@ -55,7 +55,7 @@ fn each_part_of_a_normal_form_counts(rt: HostRuntime) {
 /// The entry of the loop may have its parameter in the other column.
 fn is_other_column(example: Example, place: usize, to: u32) -> bool {
     match example {
-        Example::Sign => false,
+        Example::Sign | Example::SignOfTwo => false,
         Example::Loop => place == 2 && to == 1,
     }
 }

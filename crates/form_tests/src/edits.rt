@@ -5,6 +5,7 @@
 pub struct Edit {
     changed: Option<(usize, u32)>,
     left_out: Option<usize>,
+    doubled: Option<usize>,
     numbers: usize,
     parts: usize,
     same: bool,
@@ -15,6 +16,7 @@ impl Edit {
         Edit {
             changed: None,
             left_out: None,
+            doubled: None,
             numbers: 0,
             parts: 0,
             same: false,
@@ -26,6 +28,7 @@ impl Edit {
         Edit {
             changed: Some((place, to)),
             left_out: None,
+            doubled: None,
             numbers: 0,
             parts: 0,
             same: false,
@@ -37,9 +40,22 @@ impl Edit {
         Edit {
             changed: None,
             left_out: Some(place),
+            doubled: None,
             numbers: 0,
             parts: 0,
             same: false,
+        }
+    }
+
+    /// The part at this place twice, if it is a pair.
+    pub fn twice(place: usize) -> Edit {
+        Edit {
+            changed: None,
+            left_out: None,
+            doubled: Some(place),
+            numbers: 0,
+            parts: 0,
+            same: true,
         }
     }
 
@@ -51,7 +67,7 @@ impl Edit {
         self.parts
     }
 
-    /// Whether the number that was changed was this already.
+    /// Whether the number that was changed was this already, or the part that was to stand twice is no pair.
     pub fn changes_nothing(&self) -> bool {
         self.same
     }
@@ -72,5 +88,12 @@ impl Edit {
         let here = self.parts;
         self.parts = here.saturating_add(1);
         self.left_out != Some(here)
+    }
+
+    /// Whether the next part is a pair that stands twice.
+    pub fn doubles(&mut self) -> bool {
+        let doubles = self.doubled == Some(self.parts);
+        self.same = self.same && !doubles;
+        doubles
     }
 }

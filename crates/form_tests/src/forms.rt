@@ -1,4 +1,4 @@
-//! The forms of two functions of one parameter.
+//! The forms of three small functions.
 
 use crate::edits::Edit;
 use away_values::{Class, Ty};
@@ -11,6 +11,8 @@ use std::process::Abort;
 pub enum Example {
     /// `IF a > 0 THEN RETURN 1; END IF; RETURN 2;`, where no block leads to the last.
     Sign,
+    /// The same with a second parameter, which nothing reads.
+    SignOfTwo,
     /// `total := n + n; WHILE total < n LOOP total := total + n; END LOOP; RETURN total;`
     Loop,
 }
@@ -20,6 +22,9 @@ impl Example {
         match self {
             Example::Sign => {
                 "CREATE FUNCTION sign_of(a bigint) RETURNS bigint LANGUAGE plpgsql AS $$ BEGIN IF a > 0 THEN RETURN 1; END IF; RETURN 2; END; $$;"
+            }
+            Example::SignOfTwo => {
+                "CREATE FUNCTION sign_of(a bigint, b bigint) RETURNS bigint LANGUAGE plpgsql AS $$ BEGIN IF a > 0 THEN RETURN 1; END IF; RETURN 2; END; $$;"
             }
             Example::Loop => {
                 "CREATE FUNCTION doubled(n bigint) RETURNS bigint LANGUAGE plpgsql AS $$ DECLARE total bigint; BEGIN total := n + n; \
@@ -31,14 +36,18 @@ impl Example {
 
 /// An end over slots or names.
 #[derive(Clone, Copy)]
-enum EndOf<'a> {
+pub enum EndOf<'a> {
     Jump(u32),
     Branch(u32, &'a [u32], u32, u32),
     Return(u32, &'a [u32]),
     NoReturn,
 }
 
-type SetOf<'a> = Option<(u32, u32, &'a [u32])>;
+/// What is set, to which expression of which slots or names.
+pub type SetOf<'a> = Option<(u32, u32, &'a [u32])>;
+
+/// Whether a block is a head, its assignment and its end.
+pub type BlockOf<'a> = (bool, SetOf<'a>, EndOf<'a>);
 
 fn push<T: Drop>(rt: &(impl Abort + AllocGlobal), edit: &mut Edit, list: &mut Items<T>, x: T) {
     if edit.keeps() && list.push(x).is_err() {
@@ -63,6 +72,9 @@ fn pairs(
     let mut out = Items::new(rt.alloc());
     for (a, b) in list {
         let pair = (edit.of(*a), edit.of(*b));
+        if edit.doubles() && out.push(pair).is_err() {
+            rt.abort();
+        }
         push(rt, edit, &mut out, pair);
     }
     out
@@ -145,9 +157,30 @@ fn ssa_block(
     }
 }
 
+/// A goto form whose entry is its first block.
+pub fn goto_of(
+    rt: &(impl Abort + AllocGlobal),
+    finish: u32,
+    nodes: &[u32],
+    blocks: &[BlockOf],
+    edit: &mut Edit,
+) -> Goto {
+    let mut list = Items::new(rt.alloc());
+    for (head, to, ends) in blocks {
+        let next = block(rt, edit, *head, *to, *ends);
+        push(rt, edit, &mut list, next);
+    }
+    Goto {
+        entry: edit.of(0),
+        finish: edit.of(finish),
+        nodes: numbers(rt, edit, nodes),
+        blocks: list,
+    }
+}
+
 pub fn goto(rt: &(impl Abort + AllocGlobal), example: Example, edit: &mut Edit) -> Goto {
-    let blocks: &[(bool, SetOf, EndOf)] = match example {
-        Example::Sign => &[
+    let blocks: &[BlockOf] = match example {
+        Example::Sign | Example::SignOfTwo => &[
             (false, None, EndOf::Jump(1)),
             (false, None, EndOf::Branch(0, &[0], 2, 3)),
             (false, None, EndOf::Return(1, &[])),
@@ -163,17 +196,7 @@ pub fn goto(rt: &(impl Abort + AllocGlobal), example: Example, edit: &mut Edit) 
             (false, None, EndOf::NoReturn),
         ],
     };
-    let mut list = Items::new(rt.alloc());
-    for (head, to, ends) in blocks {
-        let next = block(rt, edit, *head, *to, *ends);
-        push(rt, edit, &mut list, next);
-    }
-    Goto {
-        entry: edit.of(0),
-        finish: edit.of(5),
-        nodes: numbers(rt, edit, &[1, 1, 2]),
-        blocks: list,
-    }
+    goto_of(rt, 5, &[1, 1, 2], blocks, edit)
 }
 
 /// The map, a φ with its operands, the assignment and the end of a block.
@@ -187,10 +210,11 @@ type SsaParts<'a> = (
 pub fn ssa(rt: &(impl Abort + AllocGlobal), example: Example, edit: &mut Edit) -> Ssa {
     let names: &[u32] = match example {
         Example::Sign => &[0],
+        Example::SignOfTwo => &[0, 1],
         Example::Loop => &[0, 1, 1, 1],
     };
     let blocks: &[SsaParts] = match example {
-        Example::Sign => &[
+        Example::Sign | Example::SignOfTwo => &[
             (&[(0, 0)], None, None, EndOf::Jump(1)),
             (&[(0, 0)], None, None, EndOf::Branch(0, &[0], 2, 3)),
             (&[], None, None, EndOf::Return(1, &[])),
@@ -267,7 +291,7 @@ type AnfParts<'a> = (&'a [u32], SetOf<'a>, CallEndOf<'a>);
 
 pub fn anf(rt: &(impl Abort + AllocGlobal), example: Example, edit: &mut Edit) -> Anf {
     let blocks: &[AnfParts] = match example {
-        Example::Sign => &[
+        Example::Sign | Example::SignOfTwo => &[
             (&[0], None, CallEndOf::Go((1, &[0]))),
             (&[0], None, CallEndOf::Pick(0, &[0], (2, &[]), (3, &[]))),
             (&[], None, CallEndOf::Return(1, &[])),
@@ -327,7 +351,7 @@ pub fn tail(
 /// The tail form of an example: each block of the first is a label but the last, and of the second the entry and the loop.
 pub fn tail_of(rt: &(impl Abort + AllocGlobal), example: Example, edit: &mut Edit) -> Tail {
     match example {
-        Example::Sign => tail(
+        Example::Sign | Example::SignOfTwo => tail(
             rt,
             &[3, 2, 1, 0],
             &[Ty::Bigint],

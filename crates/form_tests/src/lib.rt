@@ -14,4 +14,6 @@ mod lowered;
 #[cfg(test)]
 mod named;
 #[cfg(test)]
+mod owners;
+#[cfg(test)]
 mod templated;

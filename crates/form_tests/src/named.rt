@@ -1,4 +1,4 @@
-//! The SSA forms of two functions are accepted, and with a number changed or a part left out they are refused.
+//! The SSA forms of three functions are accepted, and with a number changed, a part left out or a pair twice they are refused.
 
 use crate::edits::Edit;
 use crate::forms::{Example, goto, ssa};
@@ -50,10 +50,25 @@ fn refuses_missing_parts(
     }
 }
 
+/// A slot has one name in a map, and a φ one operand for each block.
+fn refuses_doubled_pairs(
+    rt: &(impl Abort + AllocGlobal),
+    function: &CheckedFunction,
+    example: Example,
+    parts: usize,
+) {
+    for place in 0..parts {
+        let mut edit = Edit::twice(place);
+        let accepted = accepts(rt, function, example, &mut edit);
+        assert!(rt; accepted == edit.changes_nothing(), "part {place} twice");
+    }
+}
+
+/// Of two parameters, one of which nothing reads, each has the name of its own number.
 #[test]
 fn each_part_of_an_ssa_form_counts(rt: HostRuntime) {
     let schema = no_tables(&rt);
-    for example in [Example::Sign, Example::Loop] {
+    for example in [Example::Sign, Example::SignOfTwo, Example::Loop] {
         let function = checked(&rt, &schema, example.text());
         let mut edit = Edit::none();
         assert!(rt;
@@ -62,6 +77,7 @@ fn each_part_of_an_ssa_form_counts(rt: HostRuntime) {
         );
         refuses_changed_numbers(&rt, function.get(), example, edit.numbers());
         refuses_missing_parts(&rt, function.get(), example, edit.parts());
+        refuses_doubled_pairs(&rt, function.get(), example, edit.parts());
     }
 }
 
