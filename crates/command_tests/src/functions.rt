@@ -62,7 +62,7 @@ const SUM: &str =
 const PART: &str = "BEGIN RETURN substr(s, p, n); END;";
 
 /// The head and the body of a function, the bound, arguments, the status and the output.
-static ANSWERS: [(&str, &str, &str, &[&str], u8, &str); 35] = [
+static ANSWERS: [(&str, &str, &str, &[&str], u8, &str); 37] = [
     (
         "a bigint, b bigint) RETURNS bigint",
         "BEGIN RETURN a + b * 2; END;",
@@ -268,6 +268,22 @@ static ANSWERS: [(&str, &str, &str, &[&str], u8, &str); 35] = [
         &["\\N"],
         7,
         "fault 22004\n",
+    ),
+    (
+        BIGINT,
+        "DECLARE x bigint := 1; BEGIN DECLARE x bigint := 2; BEGIN RETURN x; END; END;",
+        "0",
+        &[],
+        0,
+        "value 2\n",
+    ),
+    (
+        OF_A,
+        "DECLARE a bigint := 2; BEGIN RETURN a; END;",
+        "0",
+        &["1"],
+        0,
+        "value 2\n",
     ),
     (
         BIGINT,

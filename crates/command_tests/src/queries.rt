@@ -42,7 +42,7 @@ const SUM: &str =
 const WRITTEN: &str = "SELECT CAST($1 AS text), CAST(NULL AS text)";
 
 /// A query, the bound, arguments, the status and the output.
-static ANSWERS: [(&str, &str, &[&str], u8, &str); 24] = [
+static ANSWERS: [(&str, &str, &[&str], u8, &str); 30] = [
     (SUM, "5", &[], 0, "value 15\n"),
     (SUM, "4", &[], 6, "more\n"),
     (SUM, "18446744073709551615", &[], 0, "value 15\n"),
@@ -66,6 +66,24 @@ static ANSWERS: [(&str, &str, &[&str], u8, &str); 24] = [
     ("SELECT NULL, NULL", "007", &[], 0, "null\n"),
     ("SELECT 1 = 1, NULL", "0", &[], 0, "value true\n"),
     ("SELECT NOT 1 = 1, NULL", "0", &[], 0, "value false\n"),
+    (
+        "SELECT EXISTS (SELECT 1), CAST(NULL AS text)",
+        "0",
+        &[],
+        0,
+        "value true\n",
+    ),
+    ("SELECT GREATEST(1, 2), NULL", "0", &[], 0, "value 2\n"),
+    ("SELECT LEAST(1, 2), NULL", "0", &[], 0, "value 1\n"),
+    ("SELECT GREATEST(1, NULL), NULL", "0", &[], 0, "value 1\n"),
+    ("SELECT NULL IS FALSE, NULL", "0", &[], 0, "value false\n"),
+    (
+        "SELECT NULL IS NOT FALSE, NULL",
+        "0",
+        &[],
+        0,
+        "value true\n",
+    ),
     (WRITTEN, "0", &["h\u{e9} llo"], 0, "value h\u{e9} llo\n"),
     (WRITTEN, "0", &["\\N", "not judged"], 0, "null\n"),
     (WRITTEN, "0", &[], 2, "usage\n"),
