@@ -1,3 +1,4 @@
 pub mod Elements
 pub mod TightExample
 pub mod WorkedForms
+mod IdleExample

@@ -13,3 +13,4 @@ pub mod Template
 pub mod Templated
 pub mod Laws
 pub mod Worked
+pub mod WorkedUses

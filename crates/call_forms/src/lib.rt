@@ -9,4 +9,4 @@ mod tests;
 
 pub use form::{AnfForm, TailForm};
 pub use forms::{Anf, AnfBlock, Call, CallEnd, Tail};
-pub use laws::{calls_that_end_stay, worked_calls_are_related};
+pub use laws::{calls_that_end_stay, unneeded_parameters_are_told, worked_calls_are_related};
