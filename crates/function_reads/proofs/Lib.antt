@@ -6,3 +6,4 @@ pub mod Aggregates
 pub mod Asked
 pub mod FixedList
 pub mod Sources
+pub mod SetSlots

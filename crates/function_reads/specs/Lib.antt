@@ -1,2 +1,3 @@
 pub mod OverTables
 pub mod Raising
+pub mod SetSlots

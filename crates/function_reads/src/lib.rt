@@ -3,4 +3,7 @@
 
 mod laws;
 
-pub use laws::{checked_functions_read_their_tables, lowered_forms_raise_classes};
+pub use laws::{
+    checked_functions_read_set_slots, checked_functions_read_their_tables,
+    lowered_forms_raise_classes,
+};
