@@ -1,3 +1,4 @@
 pub mod TypedAnswers
 pub mod Worked
 pub mod AskedTypes
+pub mod WorkedTypes

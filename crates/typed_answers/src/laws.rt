@@ -9,6 +9,7 @@ ghost use Rattle.sql_meaning.specs.Working.{sql};
 ghost use Rattle.typed_answers.specs.AskedTypes.{CheckedFunctionsAreTyped};
 ghost use Rattle.typed_answers.specs.TypedAnswers.{CheckedQueriesAreTyped};
 ghost use Rattle.typed_answers.specs.Worked.{checked_seven, no_table, seven};
+ghost use Rattle.typed_answers.specs.WorkedTypes.{WorkedTypes};
 ghost use Rattle.typed_values.specs.Sorts.{IsOf};
 
 /// Over tables that fit the schema, with arguments of its parameters' types, a checked query gives rows of the type of its
@@ -26,4 +27,10 @@ pub fn expressions_of_a_checked_function_have_their_types()
 pub fn a_worked_query_answers_a_number()
     ensures checked { IsCheckedQuery no_table seven checked_seven [] Bigint }
     ensures answers { (v : Value) → sql checked_seven [] [] 0 ≡ answer.Value v → IsOf Bigint v }
+{}
+
+/// What is asked of each expression of a worked function, which parameters stand in a worked query, and values, rows and tables
+/// that are of a type and others that aren't.
+pub fn worked_types_are_computed()
+    ensures { WorkedTypes }
 {}

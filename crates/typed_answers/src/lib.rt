@@ -5,5 +5,5 @@ mod laws;
 
 pub use laws::{
     a_checked_query_answers_its_type, a_worked_query_answers_a_number,
-    expressions_of_a_checked_function_have_their_types,
+    expressions_of_a_checked_function_have_their_types, worked_types_are_computed,
 };
