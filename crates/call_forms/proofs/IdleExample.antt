@@ -4,7 +4,7 @@ use Rattle.std.specs.Prelude.{slice_get}
 use Rattle.std.proofs.lemmas.Option.{same_Some}
 use Rattle.call_forms.specs.Called.{Among}
 use Rattle.call_forms.specs.Forms.{params_of}
-use Rattle.call_forms.specs.Useful.{IsUseful, PassesOn, UsefulWithin}
+use Rattle.call_forms.specs.Useful.{PassesOn, UsefulWithin}
 use Rattle.call_forms.specs.WorkedUses.{call, idle_anf, WorkedUses}
 
 not_read : Among (1 ∷ []) 0 → ⊥

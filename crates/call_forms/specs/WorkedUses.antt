@@ -1,7 +1,7 @@
 -- A worked example: parameters that nothing needs.
 use Rattle.std.specs.Prelude.{ℕ, List, [], ◌∷◌, Some, None}
 use Rattle.block_forms.specs.Forms.{Term}
-use Rattle.call_forms.specs.Forms.{Call, CallEnd, Pick, Return, AnfBlock, Anf}
+use Rattle.call_forms.specs.Forms.{Call, Pick, Return, Anf}
 use Rattle.call_forms.specs.Useful.{IsUseful, UsefulParameters}
 
 abbrev term : ℕ → List ℕ → Term

@@ -3,7 +3,6 @@ use Rattle.std.proofs.lemmas.Bool.{false≢true}
 use Rattle.away_trees.specs.declared.queries.Expr.TheBlock as b
 use Rattle.away_trees.specs.declared.queries.Expr.TheViews as view
 use Rattle.away_trees.specs.declared.statements.Stmt.TheBlock as s
-use Rattle.typed_answers.specs.WorkedTypes.{WorkedTypes}
 use Rattle.typed_answers.proofs.laws.worked_types_are_computed.Goals as goal
 
 pub returns : goal.returns
