@@ -5,3 +5,4 @@ pub mod AlikeMachines
 pub mod SourceEquations
 pub mod WorkedForms
 pub mod SlotCounts
+pub mod FixedEntries

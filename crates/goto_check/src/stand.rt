@@ -1,6 +1,7 @@
 //! What the patterns of statements ask.
 
-ghost use Rattle.std.specs.Prelude.{◌≡◌, ◌+◌, ◌<◌, ◌^◌, [], ◌∷◌, Some, None, slice_get};
+ghost use Rattle.std.specs.Prelude.{◌≡◌, ◌+◌, ◌≤◌, ◌<◌, ◌^◌, [], ◌∷◌, Some, None, slice_get};
+ghost use Rattle.block_forms.specs.FixedList.{many};
 ghost use Rattle.block_forms.specs.Laid as l;
 ghost use Rattle.block_forms.specs.Patterns as form;
 ghost use Rattle.plsql_meaning.specs.Statements as meaning;
@@ -44,7 +45,7 @@ fn slot_at(slots: &[Slot], slot: usize) -> Option<Slot>
 }
 
 fn default_term<'a>(a: &Asking<'_>, default: &'a Option<Expr>, ty: Ty, expr: usize) -> Wanted<'a>
-    requires { a.now.fixed + 16 < 2 ^ 64 }
+    requires { a.now.fixed + many ≤ 2 ^ 64 }
     ensures { wanted result ≡ l.default_term (setting_in a.now) default.now ty expr }
 {
     match default {
