@@ -171,6 +171,10 @@ module _ (g : Goto) (n : Numbers) where
   leave_parts None k b to next = own b (jumps false to) ∷ []
   leave_parts (Some e) k b to next = own b (branches false (source_term k e) to next) ∷ []
 
+  -- no EXIT has the entry as its block, as a NULL or CONTINUE that nothing reaches may
+  abbrev pub exit_parts : Option Expr → ℕ → ℕ → ℕ → ℕ → List Part
+  exit_parts when k b to next = if nat_eq b g.entry then never ∷ [] else leave_parts when k b to next
+
   -- ---- FOR
 
   -- a bound is set in b and is not NULL; what follows begins at the next block

@@ -2,12 +2,12 @@
 
 ghost use Rattle.std.specs.Prelude.{◌≡◌, ◌+◌, ◌≤◌, ◌^◌};
 ghost use Rattle.block_forms.specs.FixedList.{many};
-ghost use Rattle.block_forms.specs.Patterns.{entry_term, null_of, is_null, source_term, set_parts, slot_parts, leave_parts};
+ghost use Rattle.block_forms.specs.Patterns.{entry_term, null_of, is_null, source_term, set_parts, slot_parts, leave_parts, exit_parts};
 ghost use Rattle.goto_check.specs.Asking.{numbers_in};
 ghost use Rattle.goto_check.specs.Told.{told};
 ghost use Rattle.goto_check.specs.Wanted.{wanted, wanted_slots};
 
-use crate::asking::{Asking, ask_own, ask_shared};
+use crate::asking::{Asking, ask_never, ask_own, ask_shared};
 use crate::read::{jump_of, yes_of};
 use crate::runs::{Run, join};
 use crate::shapes::{Reads, Shape, Wanted};
@@ -114,5 +114,23 @@ pub(crate) fn ask_leave(
     match when {
         None => ask_own(a, b, &Shape::Jump(false, to)),
         Some(e) => ask_own(a, b, &Shape::Branch(false, &source_term(expr, e), to, next)),
+    }
+}
+
+/// What EXIT asks: a jump or a branch, and never at the entry.
+pub(crate) fn ask_exit(
+    a: &Asking<'_>,
+    when: &Option<Expr>,
+    expr: usize,
+    b: usize,
+    to: usize,
+    next: usize,
+) -> Run
+    ensures { result ≡ told a.now (exit_parts a.now.goto.now (numbers_in a.now) when.now expr b to next) }
+{
+    if b == a.goto.entry as usize {
+        ask_never(a)
+    } else {
+        ask_leave(a, when, expr, b, to, next)
     }
 }

@@ -17,7 +17,7 @@ use crate::asking::{Answer, Asking, Question, ask_never, ask_own, ask_same, ask_
 use crate::classes::class_of;
 use crate::enclosing::{Enclosing, again_to, exit_to};
 use crate::loops::{ask_kind, turns_to};
-use crate::patterns::{ask_leave, ask_slot, null_of, source_term};
+use crate::patterns::{ask_exit, ask_leave, ask_slot, null_of, source_term};
 use crate::read::{no_of, node};
 use crate::runs::{Run, join};
 use crate::shapes::{Shape, Wanted};
@@ -214,7 +214,7 @@ pub(crate) fn ask_statement(
         Stmt::Exit(label, when) => {
             let to = exit_to(around, label, a.goto.finish as usize);
             behind(
-                ask_leave(a, when, p.expr, node(a.goto, p.node), to, next),
+                ask_exit(a, when, p.expr, node(a.goto, p.node), to, next),
                 s,
                 p,
             )
