@@ -4,4 +4,6 @@ pub mod Keys
 pub mod AlikeMachines
 pub mod SourceEquations
 pub mod WorkedForms
+pub mod Exits
 pub mod SlotCounts
+pub mod FixedEntries

@@ -9,7 +9,7 @@ use Rattle.block_forms.specs.Forms.{Block}
 use Rattle.block_forms.specs.Expressions.{sources}
 use Rattle.block_forms.specs.Places.{Each}
 use Rattle.block_forms.specs.Lowered.{AllStand, all_parts, EachOnce, BlockBelow, owners, sharers, end_leads}
-use Rattle.block_forms.specs.Worked.{sign_of, sign_of_form, collatz, collatz_form, count_up, count_up_form, count_up_slots, bigint, WorkedForms, WorkedTable, WorkedRuns}
+use Rattle.block_forms.specs.Worked.{sign_of, sign_of_form, collatz, collatz_form, count_up, count_up_form, count_up_slots, bigint, shared_entry, with_continue, with_exit, WorkedForms, WorkedTable, WorkedRuns}
 
 sign_of_stands : AllStand sign_of_form.blocks (all_parts sign_of (bigint ∷ []) sign_of_form)
 unfolding laid b.hidden-the_row-Stmt-0 b.hidden-the_row-Arm-1 e.hidden-the_row-Expr-0 e.hidden-the_row-Expr-Chain-1-2-1 denote.Hole.Carrier.hidden
@@ -66,12 +66,22 @@ below_at (suc (suc (suc zero))) x e = subst (BlockBelow 1) (same_Some _ _ e) (re
 below_at (suc (suc (suc (suc zero)))) x e = subst (BlockBelow 1) (same_Some _ _ e) (record { set = tt; end = tt })
 below_at (suc (suc (suc (suc (suc b))))) x e = absurd (cc)
 
+continue_at_entry : AllStand shared_entry.blocks (all_parts with_continue [] shared_entry)
+unfolding laid b.hidden-the_row-Stmt-0 b.hidden-the_row-Arm-1 e.hidden-the_row-Expr-0 e.hidden-the_row-Expr-Chain-1-2-1 denote.Hole.Carrier.hidden
+continue_at_entry = search rules
+
+exit_at_entry : AllStand shared_entry.blocks (all_parts with_exit [] shared_entry) → ⊥
+unfolding laid b.hidden-the_row-Stmt-0 b.hidden-the_row-Arm-1 e.hidden-the_row-Expr-0 e.hidden-the_row-Expr-Chain-1-2-1 denote.Hole.Carrier.hidden
+exit_at_entry h = h.1.1.1.1.1.1.0
+
 pub forms_stand : WorkedForms
 unfolding laid b.hidden-the_row-Stmt-0 b.hidden-the_row-Arm-1 e.hidden-the_row-Expr-0 e.hidden-the_row-Expr-Chain-1-2-1 denote.Hole.Carrier.hidden
 forms_stand = record {
   sign_of_is = record { as_many = refl; stand = sign_of_stands; each_once = sign_of_once; no_way_in = λ i x e. record { elsewhere = no_way_at i x e }; slots_below = below_at };
   collatz_stands = collatz_stands;
   count_up_stands = count_up_stands;
+  continue_at_entry_stands = continue_at_entry;
+  exit_at_entry = λ h. exit_at_entry h.stand;
 }
 
 pub table_is : WorkedTable

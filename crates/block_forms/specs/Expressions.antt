@@ -1,18 +1,9 @@
 -- The expression table: a function's source expressions in the order of its text, whole expressions alone, and behind them a fixed list.
-use Rattle.std.specs.Prelude.{ℕ, zero, suc, pos, negsuc, ◌-◌, ◌^◌, false, List, [], ◌∷◌, ◌++◌, slice_get, Option, Some, None, Ok}
-use Rattle.away_values.specs.declared.types.Ty.{Ty}
-use Rattle.away_values.specs.declared.types.Ty.TheVariants as ty
-use Rattle.away_values.specs.declared.operators.ChainOp.TheVariants as chain
-use Rattle.away_values.specs.declared.operators.CmpOp.{CmpOp}
-use Rattle.away_values.specs.declared.operators.CmpOp.TheVariants as cmp
-use Rattle.away_values.specs.declared.operators.IntOp.{IntOp}
-use Rattle.away_values.specs.declared.operators.IntOp.TheVariants as int
-use Rattle.away_values.specs.declared.operators.IsTest.TheVariants as is
+use Rattle.std.specs.Prelude.{ℕ, zero, suc, List, [], ◌∷◌, ◌++◌, slice_get, Option, Some, None, Ok}
 use Rattle.away_values.specs.declared.values.Value.{Value}
 use Rattle.away_values.specs.declared.values.Value.TheVariants as val
 use Rattle.away_values.specs.Results.{Or}
 use Rattle.away_trees.specs.declared.queries.Expr.{Expr}
-use Rattle.away_trees.specs.declared.queries.Expr.TheVariants as expr
 use Rattle.away_trees.specs.declared.statements.Arm.{Arm}
 use Rattle.away_trees.specs.declared.statements.Decl.{Decl}
 use Rattle.away_trees.specs.declared.statements.Function.{Function}
@@ -26,6 +17,7 @@ use Rattle.sql_meaning.specs.Context.{Rows}
 use Rattle.sql_meaning.specs.Meaning.{value}
 use Rattle.sql_meaning.specs.OneReturn.{body}
 use Rattle.sql_meaning.specs.Reads.{slots_of}
+use Rattle.block_forms.specs.FixedList.{fixed_list}
 
 -- ---- source expressions
 
@@ -79,46 +71,7 @@ sources s = stmt_of sourcing s
 unfoldable pub sources_of_arm : Arm → Sources
 sources_of_arm x = branch_of sourcing x
 
--- ---- the fixed list, over the slots a and b
-
-abbrev pub a : Expr
-a = expr.Slot 0
-
-abbrev pub b : Expr
-b = expr.Slot 1
-
-abbrev pub null_as : Ty → Expr
-null_as t = expr.Cast expr.Null t
-
-abbrev pub a_is_null : Expr
-a_is_null = expr.Is a is.Null false
-
-abbrev pub of_two : IntOp → Expr → Expr → Expr
-of_two op x y = expr.Chain x ((chain.Int op, y) ∷ [])
-
-abbrev pub compared : CmpOp → Expr → Expr → Expr
-compared op x y = expr.Compare op x y
-
--- from S on: NULL of each type, and whether a is NULL
-abbrev pub nulls : Sources
-nulls = null_as ty.Bigint ∷ null_as ty.Boolean ∷ null_as ty.Text ∷ a_is_null ∷ a_is_null ∷ a_is_null ∷ []
-
--- from S + 6 on: what FOR tests
-abbrev pub tests : Sources
-tests =
-    compared cmp.Le a (expr.Int (pos 0))
-    ∷ compared cmp.Le a b
-    ∷ compared cmp.Ge a b
-    ∷ compared cmp.Lt (of_two int.Sub (expr.Int (pos (2 ^ 63 - 1))) a) b
-    ∷ compared cmp.Gt (of_two int.Add (expr.Int (negsuc (2 ^ 63 - 1))) a) b
-    ∷ []
-
--- from S + 11 on: a counter's next value, the step 1, a value as it is, and NULL and its test of the type integer
-abbrev pub steps : Sources
-steps = of_two int.Add a b ∷ of_two int.Sub a b ∷ expr.Cast (expr.Int (pos 1)) ty.Bigint ∷ a ∷ null_as ty.Integer ∷ a_is_null ∷ []
-
-abbrev pub fixed_list : Sources
-fixed_list = nulls ++ (tests ++ steps)
+-- ---- the table
 
 abbrev pub expressions : Function → Sources
 expressions f = sources f.body ++ fixed_list

@@ -17,7 +17,7 @@ use Rattle.block_forms.specs.declared.places.Place.{Place}
 use Rattle.block_forms.specs.declared.places.Numbers.{Numbers}
 use Rattle.block_forms.specs.Around.{Around, exit_to, again_to}
 use Rattle.block_forms.specs.Forms.{Class, Term, Goto}
-use Rattle.block_forms.specs.Patterns.{Part, own, shared, same, never, source_term, null_of, branches, jumps, returns, fails, node, no_of, slot_parts, leave_parts, for_parts, for_test}
+use Rattle.block_forms.specs.Patterns.{Part, own, shared, same, never, source_term, null_of, branches, jumps, returns, fails, node, no_of, slot_parts, leave_parts, exit_parts, for_parts, for_test}
 
 -- ---- how much a statement has
 
@@ -193,7 +193,7 @@ of_statement (st.Loop label k body _) = record {
 }
 of_statement (st.Exit label when) = record {
   size = place 1 (one_if when) 0 0;
-  parts = λ s p around next. leave_parts s.goto s.numbers when p.expr (node s.goto p.node) (exit_to s.goto.finish around label) next;
+  parts = λ s p around next. exit_parts s.goto s.numbers when p.expr (node s.goto p.node) (exit_to s.goto.finish around label) next;
 }
 of_statement (st.Continue label when) = record {
   size = place 1 (one_if when) 0 0;

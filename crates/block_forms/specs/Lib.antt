@@ -4,6 +4,7 @@ pub mod MachineLaws
 pub mod Runs
 pub mod RunLaws
 pub mod Places
+pub mod FixedList
 pub mod Expressions
 pub mod Frames
 pub mod Joined

@@ -8,6 +8,9 @@ use Rattle.sql_meaning.specs.Reads.{slots_of}
 use Rattle.plsql_meaning.specs.Outcomes.{null_not_allowed, invalid_parameter}
 use Rattle.block_forms.specs.declared.places.Place.{Place}
 use Rattle.block_forms.specs.declared.places.Numbers.{Numbers}
+use Rattle.block_forms.specs.declared.fixed_list.Fixed.{Fixed}
+use Rattle.block_forms.specs.declared.fixed_list.Fixed.TheVariants as fix
+use Rattle.block_forms.specs.FixedList.{position, in_range_entry, past_end_entry, next_entry}
 use Rattle.block_forms.specs.Forms.{Class, Term, End, Jump, Branch, Return, Fail, Assignment, Block, Goto}
 
 -- ---- terms: a source expression by its number, and the entries of the fixed list, which begins at S
@@ -18,48 +21,34 @@ term k names = record { expr = k; names = names }
 abbrev pub source_term : ℕ → Expr → Term
 source_term k e = term k (slots_of e)
 
-abbrev pub null_entry : Ty → ℕ
-null_entry ty.Bigint = 0
-null_entry ty.Boolean = 1
-null_entry ty.Text = 2
-null_entry ty.Integer = 15
-
-abbrev pub is_null_entry : Ty → ℕ
-is_null_entry ty.Bigint = 3
-is_null_entry ty.Boolean = 4
-is_null_entry ty.Text = 5
-is_null_entry ty.Integer = 16
+abbrev pub entry_term : ℕ → Fixed → List ℕ → Term
+entry_term S e names = term (S + position e) names
 
 -- NULL of a type
 abbrev pub null_of : ℕ → Ty → Term
-null_of S t = term (S + null_entry t) []
+null_of S t = entry_term S (fix.Null t) []
 
 -- whether a slot of a type is NULL
 abbrev pub is_null : ℕ → Ty → ℕ → Term
-is_null S t slot = term (S + is_null_entry t) (slot ∷ [])
+is_null S t slot = entry_term S (fix.IsNull t) (slot ∷ [])
 
 abbrev pub not_positive : ℕ → ℕ → Term
-not_positive S a = term (S + 6) (a ∷ [])
+not_positive S a = entry_term S fix.NotPositive (a ∷ [])
 
 abbrev pub one : ℕ → Term
-one S = term (S + 13) []
+one S = entry_term S fix.One []
 
 abbrev pub copy : ℕ → ℕ → Term
-copy S a = term (S + 14) (a ∷ [])
-
--- an entry for counting down, and another for counting up
-abbrev pub by_way : Bool → ℕ → ℕ → ℕ
-by_way true down up = down
-by_way false down up = up
+copy S a = entry_term S fix.Copy (a ∷ [])
 
 abbrev pub in_range : ℕ → Bool → ℕ → ℕ → Term
-in_range S reverse cur last = term (S + by_way reverse 8 7) (cur ∷ last ∷ [])
+in_range S reverse cur last = entry_term S (in_range_entry reverse) (cur ∷ last ∷ [])
 
 abbrev pub leaves_range : ℕ → Bool → ℕ → ℕ → Term
-leaves_range S reverse step cur = term (S + by_way reverse 10 9) (step ∷ cur ∷ [])
+leaves_range S reverse step cur = entry_term S (past_end_entry reverse) (step ∷ cur ∷ [])
 
 abbrev pub moved : ℕ → Bool → ℕ → ℕ → Term
-moved S reverse cur step = term (S + by_way reverse 12 11) (cur ∷ step ∷ [])
+moved S reverse cur step = entry_term S (next_entry reverse) (cur ∷ step ∷ [])
 
 -- ---- blocks
 
@@ -182,6 +171,10 @@ module _ (g : Goto) (n : Numbers) where
   leave_parts None k b to next = own b (jumps false to) ∷ []
   leave_parts (Some e) k b to next = own b (branches false (source_term k e) to next) ∷ []
 
+  -- no EXIT has the entry as its block, as a NULL or CONTINUE that nothing reaches may
+  abbrev pub exit_parts : Option Expr → ℕ → ℕ → ℕ → ℕ → List Part
+  exit_parts when k b to next = if nat_eq b g.entry then never ∷ [] else leave_parts when k b to next
+
   -- ---- FOR
 
   -- a bound is set in b and is not NULL; what follows begins at the next block
@@ -214,7 +207,7 @@ module _ (g : Goto) (n : Numbers) where
   cur_of f = n.counters + 3 * f
 
   abbrev pub for_test : Bool → ℕ → ℕ
-  for_test reverse f = first_test (n.fixed + by_way reverse 10 9) (cur_of f + 2) (cur_of f) g.blocks
+  for_test reverse f = first_test (n.fixed + position (past_end_entry reverse)) (cur_of f + 2) (cur_of f) g.blocks
 
   abbrev pub for_parts : Bool → Expr → Expr → Option Expr → Place → ℕ → ℕ → List Part
   for_parts reverse first last by p body next =

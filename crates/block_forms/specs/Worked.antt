@@ -147,11 +147,46 @@ count_up_form = record {
       ∷ [];
 }
 
--- the forms are those of their functions
+-- in_turns leave: BEGIN <<a>> LOOP LOOP CONTINUE; leave; END LOOP; END LOOP; END;
+abbrev in_turns : Stmt → Function
+in_turns leave = record {
+  name = codes "in_turns";
+  strict = false;
+  params = [];
+  result = ty.Bigint;
+  body = stmt.Block None []
+      (stmt.Loop (Some (codes "a")) kind.Plain (stmt.Loop None kind.Plain (stmt.Continue None None ∷ leave ∷ []) None ∷ []) None ∷ [])
+      None;
+}
+
+-- the block of what nothing reaches is the entry
+abbrev pub shared_entry : Goto
+shared_entry = record {
+  entry = 0;
+  finish = 1;
+  nodes = 2 ∷ 2 ∷ 3 ∷ 4 ∷ 0 ∷ [];
+  blocks =
+      jumps false 2
+      ∷ fails no_return
+      ∷ jumps true 3
+      ∷ jumps true 4
+      ∷ jumps false 3
+      ∷ [];
+}
+
+abbrev pub with_continue : Function
+with_continue = in_turns (stmt.Continue (Some (codes "a")) None)
+
+abbrev pub with_exit : Function
+with_exit = in_turns (stmt.Exit None None)
+
+-- the forms are those of their functions; a CONTINUE may have the entry, and no EXIT
 pub record WorkedForms : Type 0 where
   pub sign_of_is : Lowered sign_of (bigint ∷ []) sign_of_form
   pub collatz_stands : AllStand collatz_form.blocks (all_parts collatz (bigint ∷ bigint ∷ []) collatz_form)
   pub count_up_stands : AllStand count_up_form.blocks (all_parts count_up count_up_slots count_up_form)
+  pub continue_at_entry_stands : AllStand shared_entry.blocks (all_parts with_continue [] shared_entry)
+  pub exit_at_entry : Lowered with_exit [] shared_entry → ⊥
 
 -- the expressions of collatz are those of its text, in order: 0, n <> 1, n % 2 = 0, n / 2, 3 * n + 1, steps + 1, steps; then seventeen fixed ones
 pub record WorkedTable : Type 0 where

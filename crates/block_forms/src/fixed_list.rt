@@ -1,24 +1,60 @@
 //! The expressions that patterns need and no function writes, over the slots 0 and 1.
 
-ghost use Rattle.std.specs.Prelude.{◌≡◌, ◌++◌, [], ◌∷◌, IfOk, OnOk};
-ghost use Rattle.block_forms.specs.Expressions as spec;
+ghost use Rattle.std.specs.Prelude.{◌≡◌, ◌<◌, ◌++◌, IfOk, OnOk};
+ghost use Rattle.block_forms.specs.FixedList as spec;
 
 use away_trees::Expr;
 use away_values::{ChainOp, CmpOp, IntOp, IsTest, NoMemory, Ty};
 use sqlite_items::{Boxed, Items};
 use std::alloc::Global;
 
-fn null_as(alloc: Global, ty: Ty) -> Result<Expr, NoMemory>
-    ensures { IfOk result (λ e. e ≡ spec.null_as ty) }
-{
-    Ok(Expr::Cast(Boxed::new(alloc, Expr::Null)?, ty))
+/// An expression of the fixed list, which stands behind a function's own expressions; what it computes over its slots a and b.
+#[derive(Clone, Copy, Debug, PartialEq, Eq)]
+pub enum Fixed {
+    /// NULL of a type
+    Null(Ty),
+    /// Whether a, of this type, is NULL
+    IsNull(Ty),
+    /// a <= 0
+    NotPositive,
+    /// a <= b
+    AtMost,
+    /// a >= b
+    AtLeast,
+    /// Whether b + a is greater than every bigint, for a that is positive
+    PastGreatest,
+    /// Whether b - a is less than every bigint, for a that is positive
+    PastLeast,
+    /// a + b
+    Sum,
+    /// a - b
+    Difference,
+    /// The bigint 1
+    One,
+    /// a
+    Copy,
 }
 
-fn is_null(alloc: Global) -> Result<Expr, NoMemory>
-    ensures { IfOk result (λ e. e ≡ spec.a_is_null) }
-{
-    Ok(Expr::Is(Boxed::new(alloc, Expr::Slot(0))?, IsTest::Null, false))
-}
+/// The entries in their order.
+const ENTRIES: [Fixed; 17] = [
+    Fixed::Null(Ty::Bigint),
+    Fixed::Null(Ty::Boolean),
+    Fixed::Null(Ty::Text),
+    Fixed::IsNull(Ty::Bigint),
+    Fixed::IsNull(Ty::Boolean),
+    Fixed::IsNull(Ty::Text),
+    Fixed::NotPositive,
+    Fixed::AtMost,
+    Fixed::AtLeast,
+    Fixed::PastGreatest,
+    Fixed::PastLeast,
+    Fixed::Sum,
+    Fixed::Difference,
+    Fixed::One,
+    Fixed::Copy,
+    Fixed::Null(Ty::Integer),
+    Fixed::IsNull(Ty::Integer),
+];
 
 fn compared(alloc: Global, op: CmpOp, x: Expr, y: Expr) -> Result<Expr, NoMemory>
     ensures { IfOk result (λ e. e ≡ spec.compared op x y) }
@@ -37,49 +73,98 @@ fn of_two(alloc: Global, op: IntOp, x: Expr, y: Expr) -> Result<Expr, NoMemory>
     Ok(Expr::Chain(x, links))
 }
 
-fn push_nulls(alloc: Global, list: &mut Items<Expr>) -> Result<(), NoMemory>
-    ensures { OnOk result (list.new ≡ list.old ++ spec.nulls) }
-{
-    list.push(null_as(alloc, Ty::Bigint)?)?;
-    list.push(null_as(alloc, Ty::Boolean)?)?;
-    list.push(null_as(alloc, Ty::Text)?)?;
-    list.push(is_null(alloc)?)?;
-    list.push(is_null(alloc)?)?;
-    list.push(is_null(alloc)?)?;
-    Ok(())
-}
+impl Fixed {
+    /// Whether a counter a is in range up to a last value b, or with REVERSE down to it.
+    pub fn in_range(reverse: bool) -> Fixed
+        ensures { result ≡ spec.in_range_entry reverse }
+    {
+        if reverse {
+            Fixed::AtLeast
+        } else {
+            Fixed::AtMost
+        }
+    }
 
-fn push_tests(alloc: Global, list: &mut Items<Expr>) -> Result<(), NoMemory>
-    ensures { OnOk result (list.new ≡ list.old ++ spec.tests) }
-{
-    list.push(compared(alloc, CmpOp::Le, Expr::Slot(0), Expr::Int(0))?)?;
-    list.push(compared(alloc, CmpOp::Le, Expr::Slot(0), Expr::Slot(1))?)?;
-    list.push(compared(alloc, CmpOp::Ge, Expr::Slot(0), Expr::Slot(1))?)?;
-    let below = of_two(alloc, IntOp::Sub, Expr::Int(i64::MAX), Expr::Slot(0))?;
-    list.push(compared(alloc, CmpOp::Lt, below, Expr::Slot(1))?)?;
-    let above = of_two(alloc, IntOp::Add, Expr::Int(i64::MIN), Expr::Slot(0))?;
-    list.push(compared(alloc, CmpOp::Gt, above, Expr::Slot(1))?)?;
-    Ok(())
-}
+    /// Whether a counter b would leave the numbers with a further step a.
+    pub fn past_end(reverse: bool) -> Fixed
+        ensures { result ≡ spec.past_end_entry reverse }
+    {
+        if reverse {
+            Fixed::PastLeast
+        } else {
+            Fixed::PastGreatest
+        }
+    }
 
-fn push_steps(alloc: Global, list: &mut Items<Expr>) -> Result<(), NoMemory>
-    ensures { OnOk result (list.new ≡ list.old ++ spec.steps) }
-{
-    list.push(of_two(alloc, IntOp::Add, Expr::Slot(0), Expr::Slot(1))?)?;
-    list.push(of_two(alloc, IntOp::Sub, Expr::Slot(0), Expr::Slot(1))?)?;
-    let one = Boxed::new(alloc, Expr::Int(1))?;
-    list.push(Expr::Cast(one, Ty::Bigint))?;
-    list.push(Expr::Slot(0))?;
-    list.push(null_as(alloc, Ty::Integer)?)?;
-    list.push(is_null(alloc)?)?;
-    Ok(())
+    /// The counter behind a, by a step b.
+    pub fn next(reverse: bool) -> Fixed
+        ensures { result ≡ spec.next_entry reverse }
+    {
+        if reverse {
+            Fixed::Difference
+        } else {
+            Fixed::Sum
+        }
+    }
+
+    /// Its position in the list.
+    pub fn position(self) -> u32
+        ensures position { result ≡ spec.position self }
+        ensures within { result < spec.many }
+    {
+        match self {
+            Fixed::Null(Ty::Bigint) => 0,
+            Fixed::Null(Ty::Boolean) => 1,
+            Fixed::Null(Ty::Text) => 2,
+            Fixed::Null(Ty::Integer) => 15,
+            Fixed::IsNull(Ty::Bigint) => 3,
+            Fixed::IsNull(Ty::Boolean) => 4,
+            Fixed::IsNull(Ty::Text) => 5,
+            Fixed::IsNull(Ty::Integer) => 16,
+            Fixed::NotPositive => 6,
+            Fixed::AtMost => 7,
+            Fixed::AtLeast => 8,
+            Fixed::PastGreatest => 9,
+            Fixed::PastLeast => 10,
+            Fixed::Sum => 11,
+            Fixed::Difference => 12,
+            Fixed::One => 13,
+            Fixed::Copy => 14,
+        }
+    }
+
+    fn expression(self, alloc: Global) -> Result<Expr, NoMemory>
+        ensures { IfOk result (λ e. e ≡ spec.expression self) }
+    {
+        let (a, b) = (Expr::Slot(0), Expr::Slot(1));
+        match self {
+            Fixed::Null(ty) => Ok(Expr::Cast(Boxed::new(alloc, Expr::Null)?, ty)),
+            Fixed::IsNull(_) => Ok(Expr::Is(Boxed::new(alloc, a)?, IsTest::Null, false)),
+            Fixed::NotPositive => compared(alloc, CmpOp::Le, a, Expr::Int(0)),
+            Fixed::AtMost => compared(alloc, CmpOp::Le, a, b),
+            Fixed::AtLeast => compared(alloc, CmpOp::Ge, a, b),
+            Fixed::PastGreatest => {
+                let most = of_two(alloc, IntOp::Sub, Expr::Int(i64::MAX), a)?;
+                compared(alloc, CmpOp::Lt, most, b)
+            }
+            Fixed::PastLeast => {
+                let least = of_two(alloc, IntOp::Add, Expr::Int(i64::MIN), a)?;
+                compared(alloc, CmpOp::Gt, least, b)
+            }
+            Fixed::Sum => of_two(alloc, IntOp::Add, a, b),
+            Fixed::Difference => of_two(alloc, IntOp::Sub, a, b),
+            Fixed::One => Ok(Expr::Cast(Boxed::new(alloc, Expr::Int(1))?, Ty::Bigint)),
+            Fixed::Copy => Ok(a),
+        }
+    }
 }
 
 /// Adds the fixed list.
 pub(crate) fn push_fixed_list(alloc: Global, list: &mut Items<Expr>) -> Result<(), NoMemory>
     ensures { OnOk result (list.new ≡ list.old ++ spec.fixed_list) }
 {
-    push_nulls(alloc, list)?;
-    push_tests(alloc, list)?;
-    push_steps(alloc, list)
+    for i in 0..ENTRIES.len() {
+        list.push(ENTRIES[i].expression(alloc)?)?;
+    }
+    Ok(())
 }

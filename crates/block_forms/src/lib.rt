@@ -12,8 +12,9 @@ mod stage;
 mod tests;
 
 pub use expressions::{ExprTable, expr_table};
+pub use fixed_list::Fixed;
 pub use form::{Form, GotoForm, SsaForm};
 pub use forms::{Block, End, Goto, Phi, Ssa, SsaBlock, Term};
-pub use laws::{runs_that_end_stay, worked_forms_are_lowered};
+pub use laws::{runs_that_end_stay, the_fixed_list_stands, worked_forms_are_lowered};
 pub use places::{Numbers, Place};
 pub use stage::{Stage, Then};

@@ -2,8 +2,12 @@
 //! `?#0(0)>2:3` branches, `=#1()` returns and `!22004` fails. A test that finds no memory stops.
 
 use crate::functions::{checked, no_tables};
+use away_types::CheckedFunction;
+use away_values::Class;
 use block_forms::{Block, End, Goto, Term};
+use goto_check::check_lowered;
 use goto_lower::lower;
+use sqlite_items::{Boxed, Items};
 use std::fmt::Write;
 use std::process::Abort;
 
@@ -109,13 +113,23 @@ fn told(rt: &(impl Abort + AllocGlobal), g: &Goto) -> String {
     out
 }
 
-/// The form of the function with these parameters, attributes and body.
-fn form(rt: &(impl Abort + AllocGlobal), params: &str, attributes: &str, body: &str) -> Goto {
+/// The function with these parameters, attributes and body.
+fn function(
+    rt: &(impl Abort + AllocGlobal),
+    params: &str,
+    attributes: &str,
+    body: &str,
+) -> Boxed<CheckedFunction> {
     let text = format!(in rt.alloc();
         "CREATE FUNCTION f({params}) RETURNS bigint LANGUAGE plpgsql {attributes} AS $$ {body}; $$;"
     ).expect(rt, "memory");
     let schema = no_tables(rt);
-    let function = checked(rt, &schema, text.as_str());
+    checked(rt, &schema, text.as_str())
+}
+
+/// The form of the function with these parameters, attributes and body.
+fn form(rt: &(impl Abort + AllocGlobal), params: &str, attributes: &str, body: &str) -> Goto {
+    let function = function(rt, params, attributes, body);
     lower(rt.alloc(), function.get()).expect(rt, "memory")
 }
 
@@ -138,4 +152,47 @@ fn a_function_of_500_nodes_is_lowered(rt: HostRuntime) {
     let found = form(&rt, "", "", body.as_str());
     assert_eq!(&rt; found.nodes.len(), 500);
     assert_eq!(&rt; found.blocks.len(), 501);
+}
+
+fn jump(head: bool, to: u32) -> Block {
+    Block {
+        head,
+        set: None,
+        end: End::Jump(to),
+    }
+}
+
+/// A loop in a loop with two statements, whose second one has the entry as its block.
+fn with_shared_entry(rt: &(impl Abort + AllocGlobal)) -> Goto {
+    let no_return = Block {
+        head: false,
+        set: None,
+        end: End::Fail(Class { code: *b"2F005" }),
+    };
+    let mut blocks = Items::new(rt.alloc());
+    blocks.push(jump(false, 2)).expect(rt, "memory");
+    blocks.push(no_return).expect(rt, "memory");
+    blocks.push(jump(true, 3)).expect(rt, "memory");
+    blocks.push(jump(true, 4)).expect(rt, "memory");
+    blocks.push(jump(false, 3)).expect(rt, "memory");
+    let mut nodes = Items::new(rt.alloc());
+    for node in [2, 2, 3, 4, 0] {
+        nodes.push(node).expect(rt, "memory");
+    }
+    Goto {
+        entry: 0,
+        finish: 1,
+        nodes,
+        blocks,
+    }
+}
+
+/// A CONTINUE that nothing reaches may have the entry as its block, and no EXIT.
+#[test]
+fn no_exit_has_the_entry(rt: HostRuntime) {
+    let g = with_shared_entry(&rt);
+    let goes_on = "BEGIN <<a>> LOOP LOOP CONTINUE; CONTINUE a; END LOOP; END LOOP; END";
+    assert!(&rt; check_lowered(function(&rt, "", "", goes_on).get(), &g));
+    let leaves = "BEGIN LOOP LOOP CONTINUE; EXIT; END LOOP; END LOOP; END";
+    assert!(&rt; !check_lowered(function(&rt, "", "", leaves).get(), &g));
 }

@@ -27,8 +27,9 @@ use Rattle.block_forms.specs.declared.places.Place.{Place}
 use Rattle.block_forms.specs.Around.{Around}
 use Rattle.block_forms.specs.Laid.{Setting, Laid, LaidArm, laying, laid, first_block, row_parts, decls_parts, assign_parts, arms_parts, branch_parts, lack_parts, else_parts, kind_parts, again_of, default_term, after, with_expr, a_node, decl_size}
 use Rattle.block_forms.specs.Lowered.{AllStand, owners, sharers, one_of, params_parts, all_parts, body_place, setting, Lowered}
-use Rattle.block_forms.specs.Patterns.{Part, own, shared, same, never, set_parts, slot_parts, bound_parts, step_parts, for_parts, leave_parts, no_of}
+use Rattle.block_forms.specs.Patterns.{Part, own, shared, same, never, set_parts, slot_parts, bound_parts, step_parts, for_parts, leave_parts, exit_parts, no_of}
 use Rattle.block_forms.specs.Places.{Each}
+use Rattle.block_forms.proofs.Exits.{exit_either}
 use Rattle.function_reads.specs.Raising.{RaisesClass}
 
 -- ---- parts
@@ -73,6 +74,9 @@ module _ (g : Goto) (n : Numbers) where
   leave_fair : (when : Option Expr) (k c to next : ℕ) → AreFair (leave_parts g n when k c to next)
   leave_fair None k c to next = (tt, tt)
   leave_fair (Some e) k c to next = (tt, tt)
+
+  exit_fair : (when : Option Expr) (k c to next : ℕ) → AreFair (exit_parts g n when k c to next)
+  exit_fair when k c to next = exit_either g n when k c to next AreFair (tt, tt) (leave_fair when k c to next)
 
   bound_fair : (c slot : ℕ) (e : Term) (next : ℕ) → AreFair (bound_parts g n c slot e next)
   bound_fair c slot e next = (tt, (tt, (refl, tt)))
@@ -166,7 +170,7 @@ mutual
       branched_fair (branches_of laying arms) (else_of laying o) (Some case_not_found) (branches_quiet arms) (else_quiet o) (λ s. refl)
   stmt_quiet (b.Loop' label k n body closing) = λ s p around next.
       fair_append (kind_parts s k p _ next) _ (kind_fair s k p _ next) (row_fair s (stmts_of laying body) (stmts_quiet body) _ _ (again_of s k p))
-  stmt_quiet (b.Exit label when) = λ s p around next. leave_fair s.goto s.numbers when p.expr _ _ next
+  stmt_quiet (b.Exit label when) = λ s p around next. exit_fair s.goto s.numbers when p.expr _ _ next
   stmt_quiet (b.Continue label when) = λ s p around next. leave_fair s.goto s.numbers when p.expr _ _ next
   stmt_quiet (b.Return e) = λ s p around next. (tt, tt)
   stmt_quiet (b.Raise r) = λ s p around next. (raised_is r, tt)

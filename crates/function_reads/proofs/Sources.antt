@@ -12,7 +12,8 @@ use Rattle.away_types.specs.FunctionChecks.{start, entry, body_of, function_note
 use Rattle.away_types.specs.ResolvedBodies.{resolved_stmt}
 use Rattle.sql_meaning.specs.Reads as read
 use Rattle.sql_meaning.specs.Reads.{Read, allows, reads, fits}
-use Rattle.block_forms.specs.Expressions.{Sources, sources, fixed_list, expressions}
+use Rattle.block_forms.specs.Expressions.{Sources, sources, expressions}
+use Rattle.block_forms.specs.FixedList.{fixed_list}
 use Rattle.block_forms.specs.OwnSlots.{named_slots}
 use Rattle.block_forms.specs.Places.{Each}
 use Rattle.typed_values.specs.Sorts.{Every}

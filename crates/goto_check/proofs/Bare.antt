@@ -1,5 +1,6 @@
 -- Who has a block is told by where parts are, whatever stands there: not by what follows a statement, and not by what is around it.
 use Rattle.std.proofs.Common.{◌≡◌, ℕ, ◌+◌, Bool, true, false, List, [], ◌∷◌, ◌++◌, length, slice_get, Option, Some, None, cond, nat_eq, refl, sym, ap, subst, ◌∙◌}
+use Rattle.std.specs.Prelude.{if◌then◌else◌}
 use Rattle.away_values.specs.declared.types.Ty.{Ty}
 use Rattle.away_values.specs.declared.values.Class.{Class}
 use Rattle.away_trees.specs.declared.queries.Expr.{Expr}
@@ -15,7 +16,7 @@ use Rattle.block_forms.specs.declared.places.Place.{Place}
 use Rattle.block_forms.specs.declared.forms.Block.{Block}
 use Rattle.block_forms.specs.declared.forms.Term.{Term}
 use Rattle.block_forms.specs.Around.{Around}
-use Rattle.block_forms.specs.Patterns.{Part, own, shared, same, never, jumps, node, no_of, slot_parts, set_parts, leave_parts}
+use Rattle.block_forms.specs.Patterns.{Part, own, shared, same, never, jumps, node, no_of, slot_parts, set_parts, leave_parts, exit_parts}
 use Rattle.block_forms.specs.Laid.{Setting, Laid, LaidArm, laying, laid, laid_row, after, a_node, with_expr, decl_size, kind_size, row_size, first_block, lack_parts, lack, inside_of, arms_size, else_parts, row_parts, arms_parts, decl_parts, decls_parts, assign_parts, kind_parts, again_of}
 use Rattle.goto_check.specs.declared.asking.Asking.{Asking}
 use Rattle.goto_check.specs.declared.asking.Question.{Question}
@@ -97,6 +98,13 @@ module _ (s : Setting) where
   bare_leave None k b to next to' next' = refl
   bare_leave (Some e) k b to next to' next' = refl
 
+  bare_exit : (when : Option Expr) (k b to next to' next' : ℕ) → bare (exit_parts s.goto s.numbers when k b to next) ≡ bare (exit_parts s.goto s.numbers when k b to' next')
+  bare_exit when k b to next to' next' = by (nat_eq b s.goto.entry)
+    where
+      by : (v : Bool) → bare (if v then never ∷ [] else leave_parts s.goto s.numbers when k b to next) ≡ bare (if v then never ∷ [] else leave_parts s.goto s.numbers when k b to' next')
+      by true = refl
+      by false = bare_leave when k b to next to' next'
+
   bare_decls : (ds : List Decl) (p : Place) (n m : ℕ) → bare (decls_parts s ds p n) ≡ bare (decls_parts s ds p m)
   bare_decls [] p n m = refl
   bare_decls (d ∷ ds) p n m =
@@ -152,7 +160,7 @@ module _ (s : Setting) where
         bare_both (kind_parts s k p (first_block s (length L) (p.node + 1) (again_of s k p)) n) (row_parts s L (after p (kind_size k)) (record { label = label; exit = n; again = Some (again_of s k p) } ∷ A) (again_of s k p))
         (kind_parts s k p (first_block s (length L) (p.node + 1) (again_of s k p)) m) (row_parts s L (after p (kind_size k)) (record { label = label; exit = m; again = Some (again_of s k p) } ∷ B) (again_of s k p))
         (bare_kind k p _ n _ m) (bare_row body (after p (kind_size k)) _ _ _ _)
-    bare_stmt (b.Exit label when) p A B n m = bare_leave when p.expr _ _ n _ m
+    bare_stmt (b.Exit label when) p A B n m = bare_exit when p.expr _ _ n _ m
     bare_stmt (b.Continue label when) p A B n m = bare_leave when p.expr _ _ n _ m
     bare_stmt (b.Return e) p A B n m = refl
     bare_stmt (b.Raise r) p A B n m = refl

@@ -12,7 +12,7 @@ use Rattle.away_trees.proofs.StatementEquations.{of_block, of_loop, of_if, of_ca
 use Rattle.plsql_meaning.specs.Outcomes.{Label, case_not_found}
 use Rattle.plsql_meaning.specs.Statements.{class_of}
 use Rattle.block_forms.specs.Around.{exit_to, again_to}
-use Rattle.block_forms.specs.Patterns.{own, shared, never, source_term, jumps, returns, fails, node, leave_parts}
+use Rattle.block_forms.specs.Patterns.{own, shared, never, source_term, jumps, returns, fails, node, leave_parts, exit_parts}
 use Rattle.block_forms.specs.Laid.{laying, laid, laid_arm, laid_row, laid_arms, laid_else, place, a_node, with_expr, after, one_if, decls_size, row_size, arms_size, else_size, kind_size, block_parts, branch_parts, loop_parts, assign_parts}
 
 pub laid_block : (label : Label) (decls : List Decl) (body : List Stmt) (closing : Label) →
@@ -41,7 +41,7 @@ unfolding laid
 laid_assign name slot e = refl
 
 pub laid_exit : (label : Label) (when : Option Expr) →
-    laid (stmt.Exit label when) ≡ record { size = place 1 (one_if when) 0 0; parts = λ s p around next. leave_parts s.goto s.numbers when p.expr (node s.goto p.node) (exit_to s.goto.finish around label) next }
+    laid (stmt.Exit label when) ≡ record { size = place 1 (one_if when) 0 0; parts = λ s p around next. exit_parts s.goto s.numbers when p.expr (node s.goto p.node) (exit_to s.goto.finish around label) next }
 unfolding laid
 laid_exit label when = refl
 

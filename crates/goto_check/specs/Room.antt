@@ -1,8 +1,9 @@
 -- Places and numbers in machine words, and where they have room.
-use Rattle.std.specs.Prelude.{◌+◌, ◌*◌, ◌<◌, ◌^◌}
+use Rattle.std.specs.Prelude.{◌+◌, ◌*◌, ◌≤◌, ◌<◌, ◌^◌}
 use Rattle.goto_check.specs.declared.spots.Spot.{Spot}
 use Rattle.block_forms.specs.declared.places.Place.{Place}
 use Rattle.block_forms.specs.declared.places.Numbers.{Numbers}
+use Rattle.block_forms.specs.FixedList.{many}
 use Rattle.block_forms.specs.Laid.{place}
 
 -- a spot as a place
@@ -17,7 +18,7 @@ pub record Small (p : Place) : Type 0 where
 
 -- up to a place all numbers of nodes, expressions and slots are machine words
 pub record Room (n : Numbers) (p : Place) : Type 0 where
-  pub fixed : n.fixed + 16 < 2 ^ 64
+  pub fixed : n.fixed + many ≤ 2 ^ 64
   pub node : p.node + 1 < 2 ^ 64
   pub expr : p.expr + 1 < 2 ^ 64
   pub slot : p.slot < 2 ^ 64

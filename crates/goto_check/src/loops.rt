@@ -1,37 +1,31 @@
 //! The patterns of loops, without what their bodies ask.
 
-ghost use Rattle.std.specs.Prelude.{◌≡◌, ◌+◌, ◌*◌, ◌<◌, ◌^◌};
+ghost use Rattle.std.specs.Prelude.{◌≡◌, ◌+◌, ◌*◌, ◌≤◌, ◌<◌, ◌^◌};
+ghost use Rattle.block_forms.specs.FixedList.{many};
 ghost use Rattle.block_forms.specs.Laid.{after, kind_size, again_of, kind_parts};
-ghost use Rattle.block_forms.specs.Patterns.{by_way, bound_parts, step_parts, turn_parts, for_parts, head_after, for_test};
+ghost use Rattle.block_forms.specs.Patterns.{bound_parts, step_parts, turn_parts, for_parts, head_after, for_test};
 ghost use Rattle.goto_check.specs.Asking.{IsAsked, numbers_in, setting_in};
 ghost use Rattle.goto_check.specs.Told.{told};
 ghost use Rattle.goto_check.specs.Room.{here, Room};
 ghost use Rattle.goto_check.specs.Wanted.{wanted};
 
 use crate::asking::{Asking, Question, ask_own, ask_shared};
-use crate::patterns::{NULL_NOT_ALLOWED, is_null, source_term};
+use crate::patterns::{NULL_NOT_ALLOWED, entry_term, is_null, source_term};
 use crate::read::{after_bound, first_test, jump_of, no_of, node, yes_of};
 use crate::runs::{Run, join};
 use crate::shapes::{Reads, Shape, Wanted};
 use crate::spots::Spot;
 use away_trees::{Expr, LoopKind};
 use away_values::{Class, Ty};
-use block_forms::Goto;
+use block_forms::{Fixed, Goto};
 
 /// invalid_parameter_value
 const INVALID_PARAMETER: Class = Class { code: *b"22023" };
 
-/// An entry for counting down, and another for counting up.
-fn by_way(reverse: bool, down: usize, up: usize) -> usize
-    ensures { result ≡ by_way reverse down up }
-{
-    if reverse { down } else { up }
-}
-
 /// A bound is set, and is not NULL.
 #[tactic(auto, using(crate::proofs::Telling::told_rules))]
 fn ask_bound(a: &Asking<'_>, b: usize, slot: usize, want: &Wanted<'_>, next: usize) -> Run
-    requires { a.now.fixed + 16 < 2 ^ 64 }
+    requires { a.now.fixed + many ≤ 2 ^ 64 }
     ensures { result ≡ told a.now (bound_parts a.now.goto.now (numbers_in a.now) b slot (wanted want.now) next) }
 {
     let test = jump_of(a.goto, b);
@@ -64,24 +58,18 @@ fn ask_step(
     step: usize,
     head: usize,
 ) -> Run
-    requires { a.now.fixed + 16 < 2 ^ 64 }
+    requires { a.now.fixed + many ≤ 2 ^ 64 }
     ensures { result ≡ told a.now (step_parts a.now.goto.now (numbers_in a.now) by.now expr b step head) }
 {
     match by {
         None => {
-            let one = Wanted {
-                expr: a.fixed + 13,
-                reads: Reads::Nothing,
-            };
+            let one = entry_term(a.fixed, Fixed::One, Reads::Nothing);
             ask_own(a, b, &Shape::Sets(step, &one, head))
         }
         Some(e) => {
             let test = no_of(a.goto, jump_of(a.goto, b));
             let fault = yes_of(a.goto, test);
-            let not_positive = Wanted {
-                expr: a.fixed + 6,
-                reads: Reads::One(step),
-            };
+            let not_positive = entry_term(a.fixed, Fixed::NotPositive, Reads::One(step));
             join(
                 ask_bound(a, b, step, &source_term(expr, e), test),
                 join(
@@ -112,25 +100,14 @@ fn ask_turn(
     body: usize,
     next: usize,
 ) -> Run
-    requires { a.now.fixed + 16 < 2 ^ 64 }
+    requires { a.now.fixed + many ≤ 2 ^ 64 }
     ensures { result ≡ told a.now (turn_parts a.now.goto.now (numbers_in a.now) reverse c.var c.cur c.last c.step head test body next) }
 {
-    let in_range = Wanted {
-        expr: a.fixed + by_way(reverse, 8, 7),
-        reads: Reads::Two(c.cur, c.last),
-    };
-    let copy = Wanted {
-        expr: a.fixed + 14,
-        reads: Reads::One(c.cur),
-    };
-    let leaves_range = Wanted {
-        expr: a.fixed + by_way(reverse, 10, 9),
-        reads: Reads::Two(c.step, c.cur),
-    };
-    let moved = Wanted {
-        expr: a.fixed + by_way(reverse, 12, 11),
-        reads: Reads::Two(c.cur, c.step),
-    };
+    let in_range = entry_term(a.fixed, Fixed::in_range(reverse), Reads::Two(c.cur, c.last));
+    let copy = entry_term(a.fixed, Fixed::Copy, Reads::One(c.cur));
+    let past_end = Fixed::past_end(reverse);
+    let leaves_range = entry_term(a.fixed, past_end, Reads::Two(c.step, c.cur));
+    let moved = entry_term(a.fixed, Fixed::next(reverse), Reads::Two(c.cur, c.step));
     let turn = yes_of(a.goto, head);
     let back = no_of(a.goto, test);
     join(
@@ -150,7 +127,7 @@ fn for_test(a: &Asking<'_>, reverse: bool, p: Spot) -> usize
     ensures { result ≡ for_test a.now.goto.now (numbers_in a.now) reverse p.fors }
 {
     let cur = a.counters + 3 * p.fors;
-    let leaves_range = a.fixed + by_way(reverse, 10, 9);
+    let leaves_range = a.fixed + Fixed::past_end(reverse).position() as usize;
     first_test(leaves_range, cur + 2, cur, a.goto.blocks.as_slice())
 }
 

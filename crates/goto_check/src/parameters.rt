@@ -1,6 +1,7 @@
 //! What the patterns of parameters and of the whole function ask.
 
-ghost use Rattle.std.specs.Prelude.{◌≡◌, ◌+◌, ◌<◌, ◌^◌, length};
+ghost use Rattle.std.specs.Prelude.{◌≡◌, ◌+◌, ◌≤◌, ◌<◌, ◌^◌, length};
+ghost use Rattle.block_forms.specs.FixedList.{many};
 ghost use Rattle.block_forms.specs.Laid.{after, laid};
 ghost use Rattle.block_forms.specs.Lowered.{param_parts, params_parts, parts_in, body_place};
 ghost use Rattle.goto_check.specs.Asking.{numbers_in, setting_in};
@@ -23,7 +24,7 @@ const NO_RETURN: Class = Class { code: *b"2F005" };
 
 #[tactic(auto, using(crate::proofs::Telling::told_rules))]
 fn ask_param(a: &Asking<'_>, strict: bool, result_type: Ty, k: usize, ty: Ty) -> Run
-    requires fixed { a.now.fixed + 16 < 2 ^ 64 }
+    requires fixed { a.now.fixed + many ≤ 2 ^ 64 }
     requires more { k + 1 < 2 ^ 64 }
     ensures { result ≡ told a.now (param_parts (setting_in a.now) strict result_type k ty) }
 {
@@ -44,7 +45,7 @@ fn ask_param(a: &Asking<'_>, strict: bool, result_type: Ty, k: usize, ty: Ty) ->
 
 #[tactic(auto, using(crate::proofs::Telling::told_rules))]
 fn ask_params(a: &Asking<'_>, strict: bool, result_type: Ty, k: usize, params: &[(Name, Ty)]) -> Run
-    requires fixed { a.now.fixed + 16 < 2 ^ 64 }
+    requires fixed { a.now.fixed + many ≤ 2 ^ 64 }
     requires more { k + length params.now < 2 ^ 64 }
     ensures { result ≡ told a.now (params_parts (setting_in a.now) strict result_type k params.now) }
 {

@@ -1,63 +1,47 @@
 //! The patterns of an assignment, of EXIT and of CONTINUE.
 
-ghost use Rattle.std.specs.Prelude.{◌≡◌, ◌+◌, ◌<◌, ◌^◌};
-ghost use Rattle.block_forms.specs.Patterns.{null_entry, is_null_entry, null_of, is_null, source_term, set_parts, slot_parts, leave_parts};
+ghost use Rattle.std.specs.Prelude.{◌≡◌, ◌+◌, ◌≤◌, ◌^◌};
+ghost use Rattle.block_forms.specs.FixedList.{many};
+ghost use Rattle.block_forms.specs.Patterns.{entry_term, null_of, is_null, source_term, set_parts, slot_parts, leave_parts, exit_parts};
 ghost use Rattle.goto_check.specs.Asking.{numbers_in};
 ghost use Rattle.goto_check.specs.Told.{told};
-ghost use Rattle.goto_check.specs.Wanted.{wanted};
+ghost use Rattle.goto_check.specs.Wanted.{wanted, wanted_slots};
 
-use crate::asking::{Asking, ask_own, ask_shared};
+use crate::asking::{Asking, ask_never, ask_own, ask_shared};
 use crate::read::{jump_of, yes_of};
 use crate::runs::{Run, join};
 use crate::shapes::{Reads, Shape, Wanted};
 use away_trees::Expr;
 use away_types::Slot;
 use away_values::{Class, Ty};
+use block_forms::Fixed;
 
 /// null_value_not_allowed
 pub(crate) const NULL_NOT_ALLOWED: Class = Class { code: *b"22004" };
 
-/// The entry of the fixed list that is NULL of a type.
-fn null_entry(ty: Ty) -> usize
-    ensures { result ≡ null_entry ty }
+/// An entry of the fixed list that reads these slots.
+pub(crate) fn entry_term<'a>(fixed: usize, entry: Fixed, reads: Reads<'a>) -> Wanted<'a>
+    requires { fixed + many ≤ 2 ^ 64 }
+    ensures { wanted result ≡ entry_term fixed entry (wanted_slots reads.entry) }
 {
-    match ty {
-        Ty::Bigint => 0,
-        Ty::Boolean => 1,
-        Ty::Text => 2,
-        Ty::Integer => 15,
-    }
-}
-
-fn is_null_entry(ty: Ty) -> usize
-    ensures { result ≡ is_null_entry ty }
-{
-    match ty {
-        Ty::Bigint => 3,
-        Ty::Boolean => 4,
-        Ty::Text => 5,
-        Ty::Integer => 16,
+    Wanted {
+        expr: fixed + entry.position() as usize,
+        reads,
     }
 }
 
 pub(crate) fn null_of<'a>(fixed: usize, ty: Ty) -> Wanted<'a>
-    requires { fixed + 16 < 2 ^ 64 }
+    requires { fixed + many ≤ 2 ^ 64 }
     ensures { wanted result ≡ null_of fixed ty }
 {
-    Wanted {
-        expr: fixed + null_entry(ty),
-        reads: Reads::Nothing,
-    }
+    entry_term(fixed, Fixed::Null(ty), Reads::Nothing)
 }
 
 pub(crate) fn is_null<'a>(fixed: usize, ty: Ty, slot: usize) -> Wanted<'a>
-    requires { fixed + 16 < 2 ^ 64 }
+    requires { fixed + many ≤ 2 ^ 64 }
     ensures { wanted result ≡ is_null fixed ty slot }
 {
-    Wanted {
-        expr: fixed + is_null_entry(ty),
-        reads: Reads::One(slot),
-    }
+    entry_term(fixed, Fixed::IsNull(ty), Reads::One(slot))
 }
 
 pub(crate) fn source_term<'a>(expr: usize, e: &'a Expr) -> Wanted<'a>
@@ -79,7 +63,7 @@ fn ask_set(
     want: &Wanted<'_>,
     next: usize,
 ) -> Run
-    requires { a.now.fixed + 16 < 2 ^ 64 }
+    requires { a.now.fixed + many ≤ 2 ^ 64 }
     ensures { result ≡ told a.now (set_parts a.now.goto.now (numbers_in a.now) not_null ty b slot (wanted want.now) next) }
 {
     if not_null {
@@ -107,7 +91,7 @@ pub(crate) fn ask_slot(
     want: &Wanted<'_>,
     next: usize,
 ) -> Run
-    requires { a.now.fixed + 16 < 2 ^ 64 }
+    requires { a.now.fixed + many ≤ 2 ^ 64 }
     ensures { result ≡ told a.now (slot_parts a.now.goto.now (numbers_in a.now) s b slot (wanted want.now) next) }
 {
     match s {
@@ -130,5 +114,23 @@ pub(crate) fn ask_leave(
     match when {
         None => ask_own(a, b, &Shape::Jump(false, to)),
         Some(e) => ask_own(a, b, &Shape::Branch(false, &source_term(expr, e), to, next)),
+    }
+}
+
+/// What EXIT asks: a jump or a branch, and never at the entry.
+pub(crate) fn ask_exit(
+    a: &Asking<'_>,
+    when: &Option<Expr>,
+    expr: usize,
+    b: usize,
+    to: usize,
+    next: usize,
+) -> Run
+    ensures { result ≡ told a.now (exit_parts a.now.goto.now (numbers_in a.now) when.now expr b to next) }
+{
+    if b == a.goto.entry as usize {
+        ask_never(a)
+    } else {
+        ask_leave(a, when, expr, b, to, next)
     }
 }

@@ -1,6 +1,7 @@
 //! What the patterns of statements ask.
 
-ghost use Rattle.std.specs.Prelude.{◌≡◌, ◌+◌, ◌<◌, ◌^◌, [], ◌∷◌, Some, None, slice_get};
+ghost use Rattle.std.specs.Prelude.{◌≡◌, ◌+◌, ◌≤◌, ◌<◌, ◌^◌, [], ◌∷◌, Some, None, slice_get};
+ghost use Rattle.block_forms.specs.FixedList.{many};
 ghost use Rattle.block_forms.specs.Laid as l;
 ghost use Rattle.block_forms.specs.Patterns as form;
 ghost use Rattle.plsql_meaning.specs.Statements as meaning;
@@ -16,7 +17,7 @@ use crate::asking::{Answer, Asking, Question, ask_never, ask_own, ask_same, ask_
 use crate::classes::class_of;
 use crate::enclosing::{Enclosing, again_to, exit_to};
 use crate::loops::{ask_kind, turns_to};
-use crate::patterns::{ask_leave, ask_slot, null_of, source_term};
+use crate::patterns::{ask_exit, ask_leave, ask_slot, null_of, source_term};
 use crate::read::{no_of, node};
 use crate::runs::{Run, join};
 use crate::shapes::{Shape, Wanted};
@@ -44,7 +45,7 @@ fn slot_at(slots: &[Slot], slot: usize) -> Option<Slot>
 }
 
 fn default_term<'a>(a: &Asking<'_>, default: &'a Option<Expr>, ty: Ty, expr: usize) -> Wanted<'a>
-    requires { a.now.fixed + 16 < 2 ^ 64 }
+    requires { a.now.fixed + many ≤ 2 ^ 64 }
     ensures { wanted result ≡ l.default_term (setting_in a.now) default.now ty expr }
 {
     match default {
@@ -213,7 +214,7 @@ pub(crate) fn ask_statement(
         Stmt::Exit(label, when) => {
             let to = exit_to(around, label, a.goto.finish as usize);
             behind(
-                ask_leave(a, when, p.expr, node(a.goto, p.node), to, next),
+                ask_exit(a, when, p.expr, node(a.goto, p.node), to, next),
                 s,
                 p,
             )

@@ -95,7 +95,7 @@ module _ (s : Setting) where
     nodes_are = λ start next. omega (arith, length-append (firsts_of ds start) (row_firsts ys (start + many_of ds) next), decls_nodes_are ds start, row_nodes_are s xs ys good (start + many_of ds) next);
     vars_are = omega (arith, length-append (map slot_of ds) (row_vars ys), decls_vars_are ds, row_vars_are s xs ys good);
     first_is = λ start next. refl;
-    stands = λ p around next start bs ns vs.
+    stands = λ p around next start late bs ns vs.
         let B = s.goto.blocks in
         let N = s.goto.nodes in
         let from = start + many_of ds in
@@ -123,5 +123,5 @@ module _ (s : Setting) where
         let decls : Fine B start (many_of ds) (decls_parts s ds (after p a_node) (first_block s (length xs) q.node next)) = subst (λ k. Fine B start (many_of ds) (decls_parts s ds (after p a_node) k)) (sym f_is) (decls_stand ds (after p a_node) f start b1 n1 v1) in
         fine_same B (node s.goto p.node) (first_block s (length ds) (p.node + 1) (first_block s (length xs) q.node next)) (decls_parts s ds (after p a_node) (first_block s (length xs) q.node next) ++ row_parts s xs q inner next) start (many_of ds + row_many ys)
         (node_is s p.node first (seg_head N (decl_firsts ++ body_firsts) first p.node ns) ∙ sym first_is)
-        (fine_join B (decls_parts s ds (after p a_node) (first_block s (length xs) q.node next)) (row_parts s xs q inner next) start (many_of ds) (row_many ys) decls (row_stands s xs ys good q inner next from b2 n2 v2));
+        (fine_join B (decls_parts s ds (after p a_node) (first_block s (length xs) q.node next)) (row_parts s xs q inner next) start (many_of ds) (row_many ys) decls (row_stands s xs ys good q inner next from (omega (arith, late)) b2 n2 v2));
   }

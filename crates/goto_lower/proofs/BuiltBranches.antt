@@ -1,5 +1,5 @@
 -- The blocks that are built for IF and CASE stand as their patterns ask.
-use Rattle.std.proofs.Common.{◌≡◌, ℕ, zero, suc, ◌+◌, Bool, true, false, List, [], ◌∷◌, ◌++◌, length, Option, Some, None, refl, sym, ap, ◌∙◌, subst, arith, length-append, append-nil}
+use Rattle.std.proofs.Common.{◌≡◌, ℕ, zero, suc, ◌+◌, ◌<◌, Bool, true, false, List, [], ◌∷◌, ◌++◌, length, Option, Some, None, refl, sym, ap, ◌∙◌, subst, arith, length-append, append-nil}
 use Rattle.std.specs.Prelude.{slice_get}
 use Rattle.away_values.specs.declared.values.Class.{Class}
 use Rattle.away_trees.specs.declared.queries.Expr.{Expr}
@@ -68,12 +68,12 @@ module _ (s : Setting) where
   arms_vars_are (x ∷ xs) (y ∷ ys) good =
       omega (arith, length-append (row_vars y.body) (arms_vars ys), row_vars_are s x.body y.body good.0.body, arms_vars_are xs ys good.1, ap (λ (z : Place). z.slot) good.0.size_is)
 
-  arms_stand : (xs : List LaidArm) (ys : List BuiltArm) → GoodArms xs ys → (p : Place) (around : Around) (next lck start : ℕ) → Seg s.goto.blocks start (Blocks ys p around next lck start) → Seg s.goto.nodes p.node (firsts_of ys next start) → Seg s.slots p.slot (arms_vars ys) →
+  arms_stand : (xs : List LaidArm) (ys : List BuiltArm) → GoodArms xs ys → (p : Place) (around : Around) (next lck start : ℕ) → s.goto.entry < start → Seg s.goto.blocks start (Blocks ys p around next lck start) → Seg s.goto.nodes p.node (firsts_of ys next start) → Seg s.slots p.slot (arms_vars ys) →
       Fine s.goto.blocks start (many_of ys) (arms_parts s xs p around next (first_of ys start lck)) × (lack s xs (first_of ys start lck) ≡ lck)
-  arms_stand [] [] good p around next lck start bs ns vs = ((tt, refl), refl)
-  arms_stand [] (y ∷ ys) good p around next lck start bs ns vs = absurd good
-  arms_stand (x ∷ xs) [] good p around next lck start bs ns vs = absurd good
-  arms_stand (x ∷ xs) (y ∷ ys) good p around next lck start bs ns vs =
+  arms_stand [] [] good p around next lck start late bs ns vs = ((tt, refl), refl)
+  arms_stand [] (y ∷ ys) good p around next lck start late bs ns vs = absurd good
+  arms_stand (x ∷ xs) [] good p around next lck start late bs ns vs = absurd good
+  arms_stand (x ∷ xs) (y ∷ ys) good p around next lck start late bs ns vs =
       let B = s.goto.blocks in
       let N = s.goto.nodes in
       let then = start + (1 + row_many y.body) in
@@ -98,8 +98,8 @@ module _ (s : Setting) where
       let vs1 : Seg V (after p with_expr).slot (row_vars y.body) = subst (λ k. Seg V k (row_vars y.body)) at_body (seg_left V (row_vars y.body) (arms_vars ys) p.slot vs) in
       let at_rest : p.slot + (l.row_size x.body).slot ≡ (after p x.size).slot = omega (arith, ap (λ (z : Place). z.slot) good.0.size_is) in
       let vs2 : Seg V (after p x.size).slot (arms_vars ys) = subst (λ k. Seg V k (arms_vars ys)) at_rest (seg_right V (row_vars y.body) (arms_vars ys) p.slot (l.row_size x.body).slot (row_vars_are s x.body y.body good.0.body) vs) in
-      let rec = arms_stand xs ys good.1 (after p x.size) around next lck then (subst (λ z. Seg B then (Blocks ys (after p z) around next lck then)) (sym good.0.size_same) bs2) ns3 vs2 in
-      let own_body = row_stands s x.body y.body good.0.body (after p with_expr) around next (start + 1) (seg_left B body_blocks rest_blocks (start + 1) bs1) ns2 vs1 in
+      let rec = arms_stand xs ys good.1 (after p x.size) around next lck then (omega (arith, late)) (subst (λ z. Seg B then (Blocks ys (after p z) around next lck then)) (sym good.0.size_same) bs2) ns3 vs2 in
+      let own_body = row_stands s x.body y.body good.0.body (after p with_expr) around next (start + 1) (omega (arith, late)) (seg_left B body_blocks rest_blocks (start + 1) bs1) ns2 vs1 in
       let here : start ≡ node s.goto p.node = sym (node_is s p.node start (seg_head N (body_firsts ++ rest_firsts) start p.node ns)) in
       let parts_in = row_parts s x.body (after p with_expr) around next in
       let parts_behind = arms_parts s xs (after p x.size) around next (no_of s.goto start) in
@@ -125,14 +125,14 @@ module _ (s : Setting) where
   Made ys other without = branched ys other without
 
   -- the arms, where they begin at the first block of the node
-  module _ (xs : List LaidArm) (ys : List BuiltArm) (good : GoodArms xs ys) (p : Place) (around : Around) (next lck start : ℕ) (others : List ℕ)
+  module _ (xs : List LaidArm) (ys : List BuiltArm) (good : GoodArms xs ys) (p : Place) (around : Around) (next lck start : ℕ) (late : s.goto.entry < start) (others : List ℕ)
       (bs : Seg s.goto.blocks start (Blocks ys (after p a_node) around next lck start))
       (ns : Seg s.goto.nodes p.node (first_of ys start lck ∷ (firsts_of ys next start ++ others))) (more : List Slot) (vs : Seg s.slots p.slot (arms_vars ys ++ more)) where
     first_is : node s.goto p.node ≡ first_of ys start lck
     first_is = node_is s p.node (first_of ys start lck) (seg_head s.goto.nodes (firsts_of ys next start ++ others) (first_of ys start lck) p.node ns)
 
     inner : Fine s.goto.blocks start (many_of ys) (arms_parts s xs (after p a_node) around next (first_of ys start lck)) × (lack s xs (first_of ys start lck) ≡ lck)
-    inner = arms_stand xs ys good (after p a_node) around next lck start bs (seg_left s.goto.nodes (firsts_of ys next start) others (p.node + 1) (seg_tail s.goto.nodes (firsts_of ys next start ++ others) (first_of ys start lck) p.node ns))
+    inner = arms_stand xs ys good (after p a_node) around next lck start late bs (seg_left s.goto.nodes (firsts_of ys next start) others (p.node + 1) (seg_tail s.goto.nodes (firsts_of ys next start ++ others) (first_of ys start lck) p.node ns))
         (subst (λ k. Seg s.slots k (arms_vars ys)) (let z : p.slot ≡ p.slot + 0 = omega arith in z) (seg_left s.slots (arms_vars ys) more p.slot vs))
 
     arms_there : Fine s.goto.blocks start (many_of ys) (arms_parts s xs (after p a_node) around next (node s.goto p.node))
@@ -156,8 +156,8 @@ module _ (s : Setting) where
     nodes_are = λ start next. omega (arith, arms_nodes_are xs ys good next start);
     vars_are = omega (arith, length-append (arms_vars ys) [], arms_vars_are xs ys good);
     first_is = λ start next. refl;
-    stands = λ p around next start bs ns vs. let ns' = no_others (firsts_of ys next start) p.node (first_of ys start next) ns in
-        fine_many s.goto.blocks (branch_parts s xs None None p around next) start (many_of ys + 0) (many_of ys) (let z : many_of ys + 0 ≡ many_of ys = omega arith in z) (with_else xs ys good p around next next start [] bs ns' [] vs None None 0 ((lack_is xs ys good p around next next start [] bs ns' [] vs, tt), refl));
+    stands = λ p around next start late bs ns vs. let ns' = no_others (firsts_of ys next start) p.node (first_of ys start next) ns in
+        fine_many s.goto.blocks (branch_parts s xs None None p around next) start (many_of ys + 0) (many_of ys) (let z : many_of ys + 0 ≡ many_of ys = omega arith in z) (with_else xs ys good p around next next start late [] bs ns' [] vs None None 0 ((lack_is xs ys good p around next next start late [] bs ns' [] vs, tt), refl));
   }
   good_branch xs ys good (Some c) = record {
     size_same = ap (λ z. after (after a_node z) nothing) (arms_size_same xs ys good);
@@ -165,14 +165,14 @@ module _ (s : Setting) where
     nodes_are = λ start next. omega (arith, arms_nodes_are xs ys good next start);
     vars_are = omega (arith, length-append (arms_vars ys) [], arms_vars_are xs ys good);
     first_is = λ start next. refl;
-    stands = λ p around next start bs ns vs.
+    stands = λ p around next start late bs ns vs.
         let lck = start + many_of ys in
         let own_blocks = Blocks ys (after p a_node) around next lck start in
         let bs' = seg_left s.goto.blocks own_blocks (fails c ∷ []) start bs in
         let ns' = no_others (firsts_of ys next start) p.node (first_of ys start lck) ns in
         let fault : slice_get s.goto.blocks lck ≡ Some (fails c) = seg_head s.goto.blocks [] (fails c) lck (seg_right s.goto.blocks own_blocks (fails c ∷ []) start (many_of ys) (arms_many_is xs ys good (after p a_node) around next lck start) bs) in
-        let lacks = lack_is xs ys good p around next lck start [] bs' ns' [] vs in
-        with_else xs ys good p around next lck start [] bs' ns' [] vs None (Some c) 1 ((ap (slice_get s.goto.blocks) lacks ∙ fault, tt), ap (λ k. k ∷ []) lacks);
+        let lacks = lack_is xs ys good p around next lck start late [] bs' ns' [] vs in
+        with_else xs ys good p around next lck start late [] bs' ns' [] vs None (Some c) 1 ((ap (slice_get s.goto.blocks) lacks ∙ fault, tt), ap (λ k. k ∷ []) lacks);
   }
 
   pub good_else : (xs : List LaidArm) (ys : List BuiltArm) → GoodArms xs ys → (ds : List Laid) (cs : List Built) → GoodRow s ds cs → (without : Option Class) → Good s (Branch xs (Some ds) without) (Made ys (Some cs) without)
@@ -191,7 +191,7 @@ module _ (s : Setting) where
         omega (arith, length-append (firsts_of ys next start) (f ∷ row_firsts cs (start + many_of ys) next), arms_nodes_are xs ys good next start, row_nodes_are s ds cs row (start + many_of ys) next);
     vars_are = omega (arith, length-append (arms_vars ys) (row_vars cs), arms_vars_are xs ys good, row_vars_are s ds cs row);
     first_is = λ start next. refl;
-    stands = λ p around next start bs ns vs.
+    stands = λ p around next start late bs ns vs.
         let B = s.goto.blocks in
         let N = s.goto.nodes in
         let from = start + many_of ys in
@@ -209,11 +209,11 @@ module _ (s : Setting) where
         let ns2 : Seg N (q.node + 1) body_firsts = seg_tail N body_firsts f q.node ns1 in
         let at_slot : p.slot + (l.arms_size xs).slot ≡ (after q a_node).slot = omega arith in
         let vs2 : Seg s.slots (after q a_node).slot (row_vars cs) = subst (λ k. Seg s.slots k (row_vars cs)) at_slot (seg_right s.slots (arms_vars ys) (row_vars cs) p.slot (l.arms_size xs).slot (arms_vars_are xs ys good) vs) in
-        let lacks = lack_is xs ys good p around next f start (f ∷ body_firsts) bs1 ns (row_vars cs) vs in
+        let lacks = lack_is xs ys good p around next f start late (f ∷ body_firsts) bs1 ns (row_vars cs) vs in
         let there = row_parts s ds (after q a_node) around next in
-        let inside : Fine B from (row_many cs) there = row_stands s ds cs row (after q a_node) around next from bs3 ns2 vs2 in
+        let inside : Fine B from (row_many cs) there = row_stands s ds cs row (after q a_node) around next from (omega (arith, late)) bs3 ns2 vs2 in
         let none = lack s xs (node s.goto p.node) in
-        with_else xs ys good p around next f start (f ∷ body_firsts) bs1 ns (row_vars cs) vs (Some ds) without (row_many cs)
+        with_else xs ys good p around next f start late (f ∷ body_firsts) bs1 ns (row_vars cs) vs (Some ds) without (row_many cs)
         (fine_same B none (node s.goto q.node) (same none (first_block s (length ds) (q.node + 1) next) ∷ there) from (row_many cs) (lacks ∙ sym (node_is s q.node f (seg_head N body_firsts f q.node ns1)))
         (fine_same B none (first_block s (length ds) (q.node + 1) next) there from (row_many cs) (lacks ∙ sym (row_first_is s ds cs row (q.node + 1) from next ns2)) inside));
   }

@@ -164,7 +164,7 @@ module _ (s : Setting) where
     nodes_are = λ start next. omega (arith, row_nodes_are s xs ys good (Head by start + 4) (Head by start + 1 + 1));
     vars_are = omega (arith, row_vars_are s xs ys good);
     first_is = λ start next. refl;
-    stands = λ p around next start bs ns vs.
+    stands = λ p around next start late bs ns vs.
         let again = Head by start + 1 + 1 in
         let begin = Head by start + 4 in
         let q = after p (place 1 (2 + one_if by) 1 1) in
@@ -180,7 +180,7 @@ module _ (s : Setting) where
         let v1 : Seg s.slots (p.slot + 1) (row_vars ys) = seg_tail s.slots (row_vars ys) (slot ty.Bigint) p.slot vs in
         let fors = for_stands found reverse e1 e2 by p first next start b0 in
         let first_is : first_block s (length xs) (p.node + 1) again ≡ first = row_first_is s xs ys good (p.node + 1) begin again n1 in
-        let rows = row_stands s xs ys good q (record { label = label; exit = next; again = Some again } ∷ around) again begin b2 n1 v1 in
+        let rows = row_stands s xs ys good q (record { label = label; exit = next; again = Some again } ∷ around) again begin (omega (arith, late)) b2 n1 v1 in
         let here : node s.goto p.node ≡ start = node_is s p.node start (seg_head s.goto.nodes firsts start p.node ns) in
         let test = for_test s.goto s.numbers reverse p.fors in
         let body = first_block s (length xs) (p.node + 1) test in

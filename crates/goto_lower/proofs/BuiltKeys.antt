@@ -16,9 +16,12 @@ use Rattle.block_forms.specs.declared.forms.Block.{Block}
 use Rattle.block_forms.specs.declared.forms.Term.{Term}
 use Rattle.block_forms.specs.declared.places.Place.{Place}
 use Rattle.block_forms.specs.declared.places.Numbers.{Numbers}
+use Rattle.block_forms.specs.declared.fixed_list.Fixed.{Fixed}
+use Rattle.block_forms.specs.declared.fixed_list.Fixed.TheVariants as fix
+use Rattle.block_forms.specs.FixedList.{position}
 use Rattle.block_forms.specs.Around.{Around, exit_to, again_to}
 use Rattle.block_forms.specs.Laid.{after, place, one_if, decl_size, with_expr, a_node, decls_size}
-use Rattle.block_forms.specs.Patterns.{term, source_term, is_null, in_range, not_positive, branches, jumps, fails}
+use Rattle.block_forms.specs.Patterns.{entry_term, source_term, is_null, in_range, not_positive, branches, jumps, fails}
 use Rattle.block_forms.specs.declared.forms.End.TheVariants.{Branch}
 use Rattle.goto_lower.specs.Building as spec
 use Rattle.goto_lower.specs.Building.{Built, BuiltArm, building, row_size, row_many, row_first, row_blocks, set_many, set_blocks, slot_blocks, decls_many, decls_first, decls_blocks, decl_blocks, default_of, arm_size, arms_size, arms_many, arms_first, arms_blocks, branched, looped, leave_block, step_many, step_blocks, head_at, turn_blocks, for_blocks, bound_blocks, cur_at, count_size}
@@ -53,14 +56,15 @@ module _ (n : Numbers) where
   source_key : (k : ℕ) (e : Expr) (y m : ℕ) → k < S → key S (branches false (source_term k e) y m).end ≡ []
   source_key k e y m lt = no_key S k (source_term k e).names y m (λ h. omega arith) (λ h. omega arith)
 
-  entry_key : (k : ℕ) (names : List ℕ) (y m : ℕ) → (k ≡ 9 → ⊥) → (k ≡ 10 → ⊥) → key S (Branch (term (S + k) names) y m) ≡ []
-  entry_key k names y m up down = no_key S (S + k) names y m (λ h. up (omega arith)) (λ h. down (omega arith))
+  entry_key : (e : Fixed) (names : List ℕ) (y m : ℕ) → (position e ≡ position fix.PastGreatest → ⊥) → (position e ≡ position fix.PastLeast → ⊥)
+      → key S (Branch (entry_term S e names) y m) ≡ []
+  entry_key e names y m up down = no_key S (S + position e) names y m (λ h. up (omega arith)) (λ h. down (omega arith))
 
   pub null_key : (t : Ty) (slot y m : ℕ) → key S (Branch (is_null S t slot) y m) ≡ []
-  null_key ty.Bigint slot y m = entry_key 3 (slot ∷ []) y m (λ h. absurd (omega arith)) (λ h. absurd (omega arith))
-  null_key ty.Boolean slot y m = entry_key 4 (slot ∷ []) y m (λ h. absurd (omega arith)) (λ h. absurd (omega arith))
-  null_key ty.Text slot y m = entry_key 5 (slot ∷ []) y m (λ h. absurd (omega arith)) (λ h. absurd (omega arith))
-  null_key ty.Integer slot y m = entry_key 16 (slot ∷ []) y m (λ h. absurd (omega arith)) (λ h. absurd (omega arith))
+  null_key ty.Bigint slot y m = entry_key (fix.IsNull ty.Bigint) (slot ∷ []) y m (λ h. absurd (omega arith)) (λ h. absurd (omega arith))
+  null_key ty.Boolean slot y m = entry_key (fix.IsNull ty.Boolean) (slot ∷ []) y m (λ h. absurd (omega arith)) (λ h. absurd (omega arith))
+  null_key ty.Text slot y m = entry_key (fix.IsNull ty.Text) (slot ∷ []) y m (λ h. absurd (omega arith)) (λ h. absurd (omega arith))
+  null_key ty.Integer slot y m = entry_key (fix.IsNull ty.Integer) (slot ∷ []) y m (λ h. absurd (omega arith)) (λ h. absurd (omega arith))
 
   set_keys : (strict : Bool) (t : Ty) (slot : ℕ) (e : Term) (next start : ℕ) → keys S (set_blocks n strict t slot e next start) ≡ []
   set_keys false t slot e next start = refl
@@ -187,11 +191,11 @@ module _ (n : Numbers) where
   step_keys None k slot head start = refl
   step_keys (Some e) k slot head start =
       keys_append S (bound_blocks n slot (source_term k e) start) (branches false (not_positive S slot) (start + 3 + 1) head ∷ fails invalid_parameter ∷ [])
-      ∙ (λ i. set_keys true ty.Bigint slot (source_term k e) (start + 3) start i ++ (entry_key 6 (slot ∷ []) (start + 3 + 1) head (λ h. absurd (omega arith)) (λ h. absurd (omega arith)) i ++ []))
+      ∙ (λ i. set_keys true ty.Bigint slot (source_term k e) (start + 3) start i ++ (entry_key fix.NotPositive (slot ∷ []) (start + 3 + 1) head (λ h. absurd (omega arith)) (λ h. absurd (omega arith)) i ++ []))
 
   range_key : (reverse : Bool) (cur last y m : ℕ) → key S (Branch (in_range S reverse cur last) y m) ≡ []
-  range_key false cur last y m = entry_key 7 (cur ∷ last ∷ []) y m (λ h. absurd (omega arith)) (λ h. absurd (omega arith))
-  range_key true cur last y m = entry_key 8 (cur ∷ last ∷ []) y m (λ h. absurd (omega arith)) (λ h. absurd (omega arith))
+  range_key false cur last y m = entry_key fix.AtMost (cur ∷ last ∷ []) y m (λ h. absurd (omega arith)) (λ h. absurd (omega arith))
+  range_key true cur last y m = entry_key fix.AtLeast (cur ∷ last ∷ []) y m (λ h. absurd (omega arith)) (λ h. absurd (omega arith))
 
   turn_keys : (reverse : Bool) (p : Place) (body next head : ℕ) → keys S (turn_blocks n reverse p body next head) ≡ cur_at n p ∷ []
   turn_keys reverse p body next head = λ i. range_key reverse (cur_at n p) (cur_at n p + 1) (head + 1) next i ++ (leaves_key S reverse (cur_at n p + 2) (cur_at n p) next (head + 1 + 1 + 1) i ++ [])

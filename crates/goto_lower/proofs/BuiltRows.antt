@@ -1,5 +1,5 @@
 -- The blocks that are built for a row of statements stand as its patterns ask.
-use Rattle.std.proofs.Common.{◌≡◌, ℕ, zero, suc, ◌+◌, List, [], ◌∷◌, ◌++◌, length, Option, Some, None, refl, sym, ap, ◌∙◌, subst, arith, length-append}
+use Rattle.std.proofs.Common.{◌≡◌, ℕ, zero, suc, ◌+◌, ◌<◌, List, [], ◌∷◌, ◌++◌, length, Option, Some, None, refl, sym, ap, ◌∙◌, subst, arith, length-append}
 use Rattle.std.specs.Prelude.{slice_get}
 use Rattle.block_forms.specs.Around.{Around}
 use Rattle.block_forms.specs.declared.forms.Block.{Block}
@@ -19,7 +19,7 @@ module _ (s : Setting) where
     pub nodes_are : (start next : ℕ) → length (y.firsts start next) ≡ x.size.node
     pub vars_are : length y.vars ≡ x.size.slot
     pub first_is : (start next : ℕ) → slice_get (y.firsts start next) 0 ≡ Some (y.first start next)
-    pub stands : (p : Place) (around : Around) (next start : ℕ) → Seg s.goto.blocks start (y.blocks p around next start) → Seg s.goto.nodes p.node (y.firsts start next) → Seg s.slots p.slot y.vars → Fine s.goto.blocks start y.many (x.parts s p around next)
+    pub stands : (p : Place) (around : Around) (next start : ℕ) → s.goto.entry < start → Seg s.goto.blocks start (y.blocks p around next start) → Seg s.goto.nodes p.node (y.firsts start next) → Seg s.slots p.slot y.vars → Fine s.goto.blocks start y.many (x.parts s p around next)
 
   abbrev pub GoodRow : List Laid → List Built → Type 0
   GoodRow [] [] = Unit {0}
@@ -63,21 +63,21 @@ module _ (s : Setting) where
   row_first_is (x ∷ xs) (y ∷ ys) good i start next seg =
       node_is i _ (seg_first s.goto.nodes (y.firsts start (row_first ys (start + y.many) next)) _ i (good.0.first_is start (row_first ys (start + y.many) next)) (seg_left s.goto.nodes (y.firsts start (row_first ys (start + y.many) next)) (row_firsts ys (start + y.many) next) i seg))
 
-  pub row_stands : (xs : List Laid) (ys : List Built) → GoodRow xs ys → (p : Place) (around : Around) (next start : ℕ) → Seg s.goto.blocks start (row_blocks ys p around next start) → Seg s.goto.nodes p.node (row_firsts ys start next) → Seg s.slots p.slot (row_vars ys) →
+  pub row_stands : (xs : List Laid) (ys : List Built) → GoodRow xs ys → (p : Place) (around : Around) (next start : ℕ) → s.goto.entry < start → Seg s.goto.blocks start (row_blocks ys p around next start) → Seg s.goto.nodes p.node (row_firsts ys start next) → Seg s.slots p.slot (row_vars ys) →
       Fine s.goto.blocks start (row_many ys) (row_parts s xs p around next)
-  row_stands [] [] good p around next start bs ns vs = (tt, refl)
-  row_stands [] (y ∷ ys) good p around next start bs ns vs = absurd good
-  row_stands (x ∷ xs) [] good p around next start bs ns vs = absurd good
-  row_stands (x ∷ xs) (y ∷ ys) good p around next start bs ns vs =
+  row_stands [] [] good p around next start late bs ns vs = (tt, refl)
+  row_stands [] (y ∷ ys) good p around next start late bs ns vs = absurd good
+  row_stands (x ∷ xs) [] good p around next start late bs ns vs = absurd good
+  row_stands (x ∷ xs) (y ∷ ys) good p around next start late bs ns vs =
       let then = row_first ys (start + y.many) next in
       let rest_nodes : Seg s.goto.nodes (p.node + x.size.node) (row_firsts ys (start + y.many) next) = seg_right s.goto.nodes (y.firsts start then) (row_firsts ys (start + y.many) next) p.node x.size.node (good.0.nodes_are start then) ns in
       let then_is : first_block s (length xs) (p.node + x.size.node) next ≡ then = row_first_is xs ys good.1 (p.node + x.size.node) (start + y.many) next rest_nodes in
-      let here : Fine s.goto.blocks start y.many (x.parts s p around then) = good.0.stands p around then start
+      let here : Fine s.goto.blocks start y.many (x.parts s p around then) = good.0.stands p around then start late
       (seg_left s.goto.blocks (y.blocks p around then start) (row_blocks ys (after p y.size) around next (start + y.many)) start bs)
       (seg_left s.goto.nodes (y.firsts start then) (row_firsts ys (start + y.many) next) p.node ns)
       (seg_left s.slots y.vars (row_vars ys) p.slot vs) in
       let others : Fine s.goto.blocks (start + y.many) (row_many ys) (row_parts s xs (after p x.size) around next) =
-      row_stands xs ys good.1 (after p x.size) around next (start + y.many)
+      row_stands xs ys good.1 (after p x.size) around next (start + y.many) (omega (arith, late))
       (subst (λ z. Seg s.goto.blocks (start + y.many) (row_blocks ys (after p z) around next (start + y.many))) (sym good.0.size_same)
       (seg_right s.goto.blocks (y.blocks p around then start) (row_blocks ys (after p y.size) around next (start + y.many)) start y.many (good.0.many_is p around then start) bs))
       rest_nodes

@@ -1,6 +1,7 @@
 -- The blocks that are built for a statement stand as its pattern asks, where those of its parts do.
-use Rattle.std.proofs.Common.{◌≡◌, ℕ, zero, suc, ◌+◌, Bool, true, false, List, [], ◌∷◌, ◌++◌, length, Option, Some, None, refl, sym, ap, ◌∙◌, subst, arith, length-append}
-use Rattle.std.specs.Prelude.{slice_get}
+use Rattle.std.proofs.Common.{◌≡◌, ℕ, zero, suc, ◌+◌, ◌<◌, Bool, true, false, List, [], ◌∷◌, ◌++◌, length, Option, Some, None, refl, sym, ap, ◌∙◌, subst, arith, length-append}
+use Rattle.std.specs.Prelude.{slice_get, nat_eq, if◌then◌else◌}
+use Rattle.std.proofs.lemmas.Bool.{ne_eqb}
 use Rattle.away_values.specs.declared.types.Ty.{Ty}
 use Rattle.away_values.specs.declared.types.Ty.TheVariants as ty
 use Rattle.away_trees.specs.declared.queries.Expr.{Expr}
@@ -11,7 +12,7 @@ use Rattle.away_types.specs.declared.slots.Slot.{Slot}
 use Rattle.block_forms.specs.Around.{Around, exit_to, again_to}
 use Rattle.block_forms.specs.declared.forms.Term.{Term}
 use Rattle.block_forms.specs.declared.forms.Block.{Block}
-use Rattle.block_forms.specs.Patterns.{Part, own, source_term, is_null, sets, branches, jumps, fails, node, jump_of, yes_of, no_of, end_in, jump_in, yes_in, no_in, set_parts, slot_parts, leave_parts}
+use Rattle.block_forms.specs.Patterns.{Part, own, source_term, is_null, sets, branches, jumps, fails, node, jump_of, yes_of, no_of, end_in, jump_in, yes_in, no_in, set_parts, slot_parts, leave_parts, exit_parts, never}
 use Rattle.plsql_meaning.specs.Outcomes.{Label, null_not_allowed}
 use Rattle.block_forms.specs.declared.places.Place.{Place}
 use Rattle.block_forms.specs.Laid.{Laid, Setting, after, place, nothing, first_block, row_parts, laying, a_node, with_expr}
@@ -36,23 +37,31 @@ module _ (s : Setting) where
   fine_block i start x bs ns = ((one_block i start x [] [] bs ns, tt), ap (λ k. k ∷ []) (begins i start [] ns))
 
   pub good_return : (e : Expr) → Good s (laying.stmt (st.Return e)) (built_step s.numbers s.slots s.goto.finish (st.Return e))
-  good_return e = record { size_same = refl; many_is = λ p around next start. refl; nodes_are = λ start next. refl; vars_are = refl; first_is = λ start next. refl; stands = λ p around next start bs ns vs. fine_block p.node start _ bs ns }
+  good_return e = record { size_same = refl; many_is = λ p around next start. refl; nodes_are = λ start next. refl; vars_are = refl; first_is = λ start next. refl; stands = λ p around next start late bs ns vs. fine_block p.node start _ bs ns }
 
   pub good_nothing : Good s (laying.stmt st.Nothing) (built_step s.numbers s.slots s.goto.finish st.Nothing)
-  good_nothing = record { size_same = refl; many_is = λ p around next start. refl; nodes_are = λ start next. refl; vars_are = refl; first_is = λ start next. refl; stands = λ p around next start bs ns vs. fine_block p.node start _ bs ns }
+  good_nothing = record { size_same = refl; many_is = λ p around next start. refl; nodes_are = λ start next. refl; vars_are = refl; first_is = λ start next. refl; stands = λ p around next start late bs ns vs. fine_block p.node start _ bs ns }
 
   pub good_raise : (r : Raised) → Good s (laying.stmt (st.Raise r)) (built_step s.numbers s.slots s.goto.finish (st.Raise r))
-  good_raise r = record { size_same = refl; many_is = λ p around next start. refl; nodes_are = λ start next. refl; vars_are = refl; first_is = λ start next. refl; stands = λ p around next start bs ns vs. ((one_block p.node start _ [] [] bs ns, tt), ap (λ k. k ∷ []) (begins p.node start [] ns)) }
+  good_raise r = record { size_same = refl; many_is = λ p around next start. refl; nodes_are = λ start next. refl; vars_are = refl; first_is = λ start next. refl; stands = λ p around next start late bs ns vs. ((one_block p.node start _ [] [] bs ns, tt), ap (λ k. k ∷ []) (begins p.node start [] ns)) }
 
   leaves : (when : Option Expr) (k i to next start : ℕ) → Seg s.goto.blocks start (leave_block when k to next ∷ []) → Seg s.goto.nodes i (start ∷ []) → Fine s.goto.blocks start 1 (leave_parts s.goto s.numbers when k (node s.goto i) to next)
   leaves None k i to next start bs ns = fine_block i start _ bs ns
   leaves (Some e) k i to next start bs ns = fine_block i start _ bs ns
 
+  exits : (when : Option Expr) (k i to next start : ℕ) → s.goto.entry < start → Seg s.goto.blocks start (leave_block when k to next ∷ []) → Seg s.goto.nodes i (start ∷ [])
+      → Fine s.goto.blocks start 1 (exit_parts s.goto s.numbers when k (node s.goto i) to next)
+  exits when k i to next start late bs ns =
+      let here : node s.goto i ≡ start = begins i start [] ns in
+      let apart : nat_eq (node s.goto i) s.goto.entry ≡ false = ne_eqb (node s.goto i) s.goto.entry (λ h. omega (arith, here, late, h)) in
+      subst (λ v. Fine s.goto.blocks start 1 (if v then never ∷ [] else leave_parts s.goto s.numbers when k (node s.goto i) to next)) (sym apart)
+      (leaves when k i to next start bs ns)
+
   pub good_exit : (label : Label) (when : Option Expr) → Good s (laying.stmt (st.Exit label when)) (built_step s.numbers s.slots s.goto.finish (st.Exit label when))
-  good_exit label when = record { size_same = refl; many_is = λ p around next start. refl; nodes_are = λ start next. refl; vars_are = refl; first_is = λ start next. refl; stands = λ p around next start bs ns vs. leaves when p.expr p.node (exit_to s.goto.finish around label) next start bs ns }
+  good_exit label when = record { size_same = refl; many_is = λ p around next start. refl; nodes_are = λ start next. refl; vars_are = refl; first_is = λ start next. refl; stands = λ p around next start late bs ns vs. exits when p.expr p.node (exit_to s.goto.finish around label) next start late bs ns }
 
   pub good_continue : (label : Label) (when : Option Expr) → Good s (laying.stmt (st.Continue label when)) (built_step s.numbers s.slots s.goto.finish (st.Continue label when))
-  good_continue label when = record { size_same = refl; many_is = λ p around next start. refl; nodes_are = λ start next. refl; vars_are = refl; first_is = λ start next. refl; stands = λ p around next start bs ns vs. leaves when p.expr p.node (again_to s.goto.finish around label) next start bs ns }
+  good_continue label when = record { size_same = refl; many_is = λ p around next start. refl; nodes_are = λ start next. refl; vars_are = refl; first_is = λ start next. refl; stands = λ p around next start late bs ns vs. leaves when p.expr p.node (again_to s.goto.finish around label) next start bs ns }
 
   -- ---- an assignment
 
@@ -92,21 +101,21 @@ module _ (s : Setting) where
   slot_length (Some x) slot e next start = set_length x.not_null x.ty slot e next start
 
   pub good_assign : (name : List ℕ) (slot : Option ℕ) (e : Expr) → Good s (laying.stmt (st.Assign name slot e)) (built_step s.numbers s.slots s.goto.finish (st.Assign name slot e))
-  good_assign name None e = record { size_same = refl; many_is = λ p around next start. refl; nodes_are = λ start next. refl; vars_are = refl; first_is = λ start next. refl; stands = λ p around next start bs ns vs. fine_block p.node start _ bs ns }
+  good_assign name None e = record { size_same = refl; many_is = λ p around next start. refl; nodes_are = λ start next. refl; vars_are = refl; first_is = λ start next. refl; stands = λ p around next start late bs ns vs. fine_block p.node start _ bs ns }
   good_assign name (Some slot) e = record {
     size_same = refl;
     many_is = λ p around next start. slot_length (slice_get s.slots slot) slot (source_term p.expr e) next start;
     nodes_are = λ start next. refl;
     vars_are = refl;
     first_is = λ start next. refl;
-    stands = λ p around next start bs ns vs.
+    stands = λ p around next start late bs ns vs.
         subst (λ b. Fine s.goto.blocks start (slot_many (slice_get s.slots slot)) (slot_parts s.goto s.numbers (slice_get s.slots slot) b slot (source_term p.expr e) next)) (sym (begins p.node start [] ns)) (slot_stands (slice_get s.slots slot) start slot (source_term p.expr e) next bs);
   }
 
   -- ---- loops
 
   -- a loop whose head is one block
-  module _ (label : Label) (xs : List Laid) (ys : List Built) (good : GoodRow s xs ys) (head : ℕ → ℕ → Block) (p q : Place) (around : Around) (next start : ℕ) (follows : q.node ≡ p.node + 1) (same_slot : q.slot ≡ p.slot)
+  module _ (label : Label) (xs : List Laid) (ys : List Built) (good : GoodRow s xs ys) (head : ℕ → ℕ → Block) (p q : Place) (around : Around) (next start : ℕ) (late : s.goto.entry < start) (follows : q.node ≡ p.node + 1) (same_slot : q.slot ≡ p.slot)
       (bs : Seg s.goto.blocks start (head (row_first ys (start + 1) start) next ∷ row_blocks ys q (record { label = label; exit = next; again = Some start } ∷ around) start (start + 1)))
       (ns : Seg s.goto.nodes p.node (start ∷ row_firsts ys (start + 1) start)) (vs : Seg s.slots p.slot (row_vars ys)) where
     abbrev Inside : ℕ → List Part
@@ -121,7 +130,7 @@ module _ (s : Setting) where
         let rest : Seg s.goto.nodes (p.node + 1) (row_firsts ys (start + 1) start) = seg_tail s.goto.nodes (row_firsts ys (start + 1) start) start p.node ns in
         let here : Looped start = fine_own s.goto.blocks start (head (first_block s (length xs) (p.node + 1) start) next) (Inside start) start (row_many ys) refl
         (seg_head s.goto.blocks inside (head (row_first ys (start + 1) start) next) start bs ∙ ap (λ k. Some (head k next)) (sym (row_first_is s xs ys good (p.node + 1) (start + 1) start rest)))
-        (row_stands s xs ys good q (record { label = label; exit = next; again = Some start } ∷ around) start (start + 1) (seg_tail s.goto.blocks inside (head (row_first ys (start + 1) start) next) start bs)
+        (row_stands s xs ys good q (record { label = label; exit = next; again = Some start } ∷ around) start (start + 1) (omega (arith, late)) (seg_tail s.goto.blocks inside (head (row_first ys (start + 1) start) next) start bs)
         (subst (λ i. Seg s.goto.nodes i (row_firsts ys (start + 1) start)) (sym follows) rest) (subst (λ i. Seg s.slots i (row_vars ys)) (sym same_slot) vs)) in
         subst Looped (sym (begins p.node start (row_firsts ys (start + 1) start) ns)) here
 
@@ -132,7 +141,7 @@ module _ (s : Setting) where
     nodes_are = λ start next. omega (arith, row_nodes_are s xs ys good (start + 1) start);
     vars_are = omega (arith, row_vars_are s xs ys good);
     first_is = λ start next. refl;
-    stands = λ p around next start bs ns vs. loop_stands label xs ys good (λ first next. jumps true first) p (after p a_node) around next start refl (let z : p.slot + 0 ≡ p.slot = omega arith in z) bs ns vs;
+    stands = λ p around next start late bs ns vs. loop_stands label xs ys good (λ first next. jumps true first) p (after p a_node) around next start late refl (let z : p.slot + 0 ≡ p.slot = omega arith in z) bs ns vs;
   }
 
   pub good_while : (label closing : Label) (e : Expr) (xs : List Laid) (ys : List Built) → GoodRow s xs ys → Good s (laying.stmt (st.Loop label (kind.While e) xs closing)) (built_step s.numbers s.slots s.goto.finish (st.Loop label (kind.While e) ys closing))
@@ -142,5 +151,5 @@ module _ (s : Setting) where
     nodes_are = λ start next. omega (arith, row_nodes_are s xs ys good (start + 1) start);
     vars_are = omega (arith, row_vars_are s xs ys good);
     first_is = λ start next. refl;
-    stands = λ p around next start bs ns vs. loop_stands label xs ys good (λ first next. branches true (source_term p.expr e) first next) p (after p with_expr) around next start refl (let z : p.slot + 0 ≡ p.slot = omega arith in z) bs ns vs;
+    stands = λ p around next start late bs ns vs. loop_stands label xs ys good (λ first next. branches true (source_term p.expr e) first next) p (after p with_expr) around next start late refl (let z : p.slot + 0 ≡ p.slot = omega arith in z) bs ns vs;
   }

@@ -117,7 +117,7 @@ built_stands f slots owned found =
     let m = param_many f.strict f.params in
     let k = (body_of f slots).many in
     let inside : Fine B 2 (m + k) (params_in ++ body_in) =
-    fine_join B params_in body_in 2 m k (params_stand s f.result f.strict 0 f.params 2 first b_firsts (seg_left B params body 2 b2) (whole N) at_body) (g.stands (body_place f) [] 1 (body_start f) b3 n1 v1) in
+    fine_join B params_in body_in 2 m k (params_stand s f.result f.strict 0 f.params 2 first b_firsts (seg_left B params body 2 b2) (whole N) at_body) (g.stands (body_place f) [] 1 (body_start f) (omega arith) b3 n1 v1) in
     let behind : Fine B 1 (1 + (m + k)) (shared 1 (fails no_return) ∷ (params_in ++ body_in)) = fine_shared B 1 (fails no_return) (params_in ++ body_in) 1 (m + k) refl refl inside in
     let all : Fine B 0 (1 + (1 + (m + k))) (all_parts f slots (built f slots)) =
     fine_shared B 0 (jumps false (node s.goto 0)) (shared 1 (fails no_return) ∷ (params_in ++ body_in)) 0 (1 + (m + k)) refl (ap (λ k. Some (jumps false k)) (sym at_entry)) behind in

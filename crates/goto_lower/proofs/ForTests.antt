@@ -5,7 +5,9 @@ use Rattle.std.proofs.lemmas.Bool.{eqb-true, eq-eqb, ne_eqb}
 use Rattle.block_forms.specs.declared.forms.Block.{Block}
 use Rattle.block_forms.specs.declared.forms.End.{End}
 use Rattle.block_forms.specs.declared.forms.End.TheVariants.{Jump, Branch, Return, Fail}
-use Rattle.block_forms.specs.Patterns.{term, is_pair, tests, first_test, by_way, leaves_range}
+use Rattle.block_forms.specs.declared.fixed_list.Fixed.TheVariants as fix
+use Rattle.block_forms.specs.FixedList.{position, past_end_entry}
+use Rattle.block_forms.specs.Patterns.{term, is_pair, tests, first_test, leaves_range}
 
 -- ---- rising lists
 
@@ -47,7 +49,7 @@ pair_second a c (x ∷ y ∷ z ∷ rest) t = absurd (cc)
 module _ (S : ℕ) where
   abbrev pub key : End → List ℕ
   key (Jump t) = []
-  key (Branch t y n) = if_tested (nat_eq t.expr (S + 9) || nat_eq t.expr (S + 10)) t.names
+  key (Branch t y n) = if_tested (nat_eq t.expr (S + position fix.PastGreatest) || nat_eq t.expr (S + position fix.PastLeast)) t.names
   key (Return t) = []
   key (Fail c) = []
 
@@ -60,30 +62,30 @@ module _ (S : ℕ) where
   keys_append (x ∷ xs) ys = ap (λ ks. key x.end ++ ks) (keys_append xs ys) ∙ sym (append_assoc (key x.end) (keys xs) (keys ys))
 
   -- a branch on another entry tests no counter
-  pub no_key : (k : ℕ) (names : List ℕ) (y n : ℕ) → (k ≡ S + 9 → ⊥) → (k ≡ S + 10 → ⊥) → key (Branch (term k names) y n) ≡ []
-  no_key k names y n up down = λ i. if_tested (ne_eqb k (S + 9) up i || ne_eqb k (S + 10) down i) names
+  pub no_key : (k : ℕ) (names : List ℕ) (y n : ℕ) → (k ≡ S + position fix.PastGreatest → ⊥) → (k ≡ S + position fix.PastLeast → ⊥) → key (Branch (term k names) y n) ≡ []
+  no_key k names y n up down = λ i. if_tested (ne_eqb k (S + position fix.PastGreatest) up i || ne_eqb k (S + position fix.PastLeast) down i) names
 
-  tested_by : (reverse : Bool) (k : ℕ) → nat_eq k (S + by_way reverse 10 9) ≡ true → (nat_eq k (S + 9) || nat_eq k (S + 10)) ≡ true
-  tested_by false k t = ap (λ v. v || nat_eq k (S + 10)) t
-  tested_by true k t = by (nat_eq k (S + 9)) (nat_eq k (S + 10)) t
+  tested_by : (reverse : Bool) (k : ℕ) → nat_eq k (S + position (past_end_entry reverse)) ≡ true → (nat_eq k (S + position fix.PastGreatest) || nat_eq k (S + position fix.PastLeast)) ≡ true
+  tested_by false k t = ap (λ v. v || nat_eq k (S + position fix.PastLeast)) t
+  tested_by true k t = by (nat_eq k (S + position fix.PastGreatest)) (nat_eq k (S + position fix.PastLeast)) t
     where
       by : (v w : Bool) → w ≡ true → (v || w) ≡ true
       by true w e = refl
       by false w e = e
 
-  key_of : (reverse : Bool) (a c : ℕ) (e : End) → tests (S + by_way reverse 10 9) a c e ≡ true → key e ≡ c ∷ []
+  key_of : (reverse : Bool) (a c : ℕ) (e : End) → tests (S + position (past_end_entry reverse)) a c e ≡ true → key e ≡ c ∷ []
   key_of reverse a c (Jump t) h = absurd (cc)
-  key_of reverse a c (Branch t y n) h = by (nat_eq t.expr (S + by_way reverse 10 9)) (is_pair a c t.names) refl refl h
+  key_of reverse a c (Branch t y n) h = by (nat_eq t.expr (S + position (past_end_entry reverse))) (is_pair a c t.names) refl refl h
     where
-      by : (v w : Bool) → nat_eq t.expr (S + by_way reverse 10 9) ≡ v → is_pair a c t.names ≡ w → v && w ≡ true → key (Branch t y n) ≡ c ∷ []
+      by : (v w : Bool) → nat_eq t.expr (S + position (past_end_entry reverse)) ≡ v → is_pair a c t.names ≡ w → v && w ≡ true → key (Branch t y n) ≡ c ∷ []
       by true true p q r = ap (λ v. if_tested v t.names) (tested_by reverse t.expr p) ∙ pair_second a c t.names q
       by true false p q r = absurd (cc)
       by false w p q r = absurd (cc)
   key_of reverse a c (Return t) h = absurd (cc)
   key_of reverse a c (Fail x) h = absurd (cc)
 
-  leaves_test : (reverse : Bool) (step cur y n : ℕ) → tests (S + by_way reverse 10 9) step cur (Branch (leaves_range S reverse step cur) y n) ≡ true
-  leaves_test reverse step cur y n = λ i. eq-eqb (S + by_way reverse 10 9) (S + by_way reverse 10 9) refl i && (eq-eqb step step refl i && eq-eqb cur cur refl i)
+  leaves_test : (reverse : Bool) (step cur y n : ℕ) → tests (S + position (past_end_entry reverse)) step cur (Branch (leaves_range S reverse step cur) y n) ≡ true
+  leaves_test reverse step cur y n = λ i. eq-eqb (S + position (past_end_entry reverse)) (S + position (past_end_entry reverse)) refl i && (eq-eqb step step refl i && eq-eqb cur cur refl i)
 
   pub leaves_key : (reverse : Bool) (step cur y n : ℕ) → key (Branch (leaves_range S reverse step cur) y n) ≡ cur ∷ []
   leaves_key reverse step cur y n = key_of reverse step cur (Branch (leaves_range S reverse step cur) y n) (leaves_test reverse step cur y n)
@@ -99,10 +101,10 @@ module _ (S : ℕ) where
 
   module _ (reverse : Bool) (a c : ℕ) where
     abbrev Tests : Block → Bool
-    Tests y = tests (S + by_way reverse 10 9) a c y.end
+    Tests y = tests (S + position (past_end_entry reverse)) a c y.end
 
     abbrev First : List Block → ℕ
-    First ys = first_test (S + by_way reverse 10 9) a c ys
+    First ys = first_test (S + position (past_end_entry reverse)) a c ys
 
     first_is : (ys : List Block) (low : ℕ) → Rising low (keys ys) → (b : ℕ) (x : Block) → slice_get ys b ≡ Some x → Tests x ≡ true → First ys ≡ b
     first_is [] low r b x e t = absurd (cc)
@@ -119,6 +121,6 @@ module _ (S : ℕ) where
         by false h same = omega arith
 
   pub test_found : (ys : List Block) → Rising 0 (keys ys) → (reverse : Bool) (step cur b y n : ℕ) (x : Block) → slice_get ys b ≡ Some x → x.end ≡ Branch (leaves_range S reverse step cur) y n →
-      first_test (S + by_way reverse 10 9) step cur ys ≡ b
+      first_test (S + position (past_end_entry reverse)) step cur ys ≡ b
   test_found ys r reverse step cur b y n x e end =
-      first_is reverse step cur ys 0 r b x e (ap (λ z. tests (S + by_way reverse 10 9) step cur z) end ∙ leaves_test reverse step cur y n)
+      first_is reverse step cur ys 0 r b x e (ap (λ z. tests (S + position (past_end_entry reverse)) step cur z) end ∙ leaves_test reverse step cur y n)

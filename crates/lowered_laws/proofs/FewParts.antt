@@ -20,8 +20,9 @@ use Rattle.block_forms.specs.declared.places.Place.{Place}
 use Rattle.block_forms.specs.Around.{Around, exit_to, again_to}
 use Rattle.block_forms.specs.Laid.{Setting, laying, laid, after, a_node, with_expr, decl_size, kind_size, row_size, arms_size, first_block, row_parts, decl_parts, decls_parts, default_term, arms_parts, lack, else_parts, kind_parts, again_of, inside_of}
 use Rattle.block_forms.specs.Lowered.{Lowered, setting, all_parts, param_parts, params_parts, body_place}
-use Rattle.block_forms.specs.Patterns.{node, no_of, set_parts, slot_parts, leave_parts, source_term}
+use Rattle.block_forms.specs.Patterns.{node, no_of, set_parts, slot_parts, leave_parts, exit_parts, source_term}
 use Rattle.lowered_laws.proofs.Filled.{filled, filled_append, as_many}
+use Rattle.block_forms.proofs.Exits.{exit_either}
 use Rattle.lowered_laws.proofs.Sums.{sum_cons}
 
 module _ (g : Goto) (n : Numbers) where
@@ -36,6 +37,9 @@ module _ (g : Goto) (n : Numbers) where
   few_leave : (when : Option Expr) (k b to next : ℕ) → filled (leave_parts g n when k b to next) ≤ 1
   few_leave None k b to next = omega arith
   few_leave (Some e) k b to next = omega arith
+
+  few_exit : (when : Option Expr) (k b to next : ℕ) → filled (exit_parts g n when k b to next) ≤ 1
+  few_exit when k b to next = exit_either g n when k b to next (λ ps. filled ps ≤ 1) (omega arith) (few_leave when k b to next)
 
 module _ (s : Setting) where
   few_decls : (ds : List Decl) (p : Place) (next : ℕ) → filled (decls_parts s ds p next) ≤ 3 * length ds
@@ -88,7 +92,7 @@ module _ (s : Setting) where
         let inner = after p (kind_size k) in
         let outer = record { label = label; exit = next; again = Some again } ∷ around in
         omega (arith, filled_append (kind_parts s k p start next) (row_parts s xs inner outer again), few_kind k p start next, few_row body inner outer again)
-    few (b.Exit label when) p around next = omega (arith, few_leave s.goto s.numbers when p.expr (node s.goto p.node) (exit_to s.goto.finish around label) next)
+    few (b.Exit label when) p around next = omega (arith, few_exit s.goto s.numbers when p.expr (node s.goto p.node) (exit_to s.goto.finish around label) next)
     few (b.Continue label when) p around next = omega (arith, few_leave s.goto s.numbers when p.expr (node s.goto p.node) (again_to s.goto.finish around label) next)
     few (b.Return e) p around next = omega arith
     few (b.Raise r) p around next = omega arith

@@ -12,7 +12,8 @@ use Rattle.block_forms.specs.declared.places.Place.{Place}
 use Rattle.block_forms.specs.Around.{Around}
 use Rattle.block_forms.specs.Laid.{Setting, Laid, LaidArm, after, a_node, with_expr, decl_size, row_size, arms_size, first_block, row_parts, arms_parts, lack, lack_parts, else_parts, branch_parts, inside_of, default_term, decl_parts, decls_parts, block_parts}
 use Rattle.block_forms.specs.Lowered.{AllStand}
-use Rattle.block_forms.specs.Patterns.{Part, node, no_of, set_parts, slot_parts, leave_parts}
+use Rattle.block_forms.specs.Patterns.{Part, node, no_of, set_parts, slot_parts, leave_parts, exit_parts}
+use Rattle.block_forms.proofs.Exits.{exit_leaves}
 use Rattle.lowered_laws.proofs.Leading.{in_list, lead_both, Led, AroundWithin, block_within}
 use Rattle.lowered_laws.proofs.Parts.{left, right}
 
@@ -70,6 +71,12 @@ module _ (s : Setting) where
       → IsLed c (leave_parts s.goto s.numbers when k c to next)
   leave_leads None k c to next stand ht hn = record { begins = in_list s.goto.blocks c _ stand.0; parts = (ht, tt) }
   leave_leads (Some e) k c to next stand ht hn = record { begins = in_list s.goto.blocks c _ stand.0; parts = ((ht, hn), tt) }
+
+  pub exit_leads : (when : Option Expr) (k c to next : ℕ) → Stand (exit_parts s.goto s.numbers when k c to next) → Within to → Within next
+      → IsLed c (exit_parts s.goto s.numbers when k c to next)
+  exit_leads when k c to next stand ht hn =
+      let same = exit_leaves s.goto s.numbers when k c to next stand in
+      subst (IsLed c) (sym same) (leave_leads when k c to next (subst Stand same stand) ht hn)
 
   -- ---- rows, arms and ELSE
 

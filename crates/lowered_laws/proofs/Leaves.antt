@@ -17,6 +17,7 @@ use Rattle.block_forms.specs.Around.{exit_to, again_to}
 use Rattle.block_forms.specs.Laid.{Setting, Laid, LaidArm, laying}
 use Rattle.block_forms.specs.Lowered.{AllStand}
 use Rattle.block_forms.specs.Patterns.{node, jump_of, yes_of, is_null, source_term, set_parts, slot_parts, leave_parts}
+use Rattle.block_forms.proofs.Exits.{exit_leaves}
 use Rattle.lowered_laws.proofs.InSight.{Sees, source_reads}
 use Rattle.lowered_laws.proofs.Rows.{InSight, SafeStatement}
 use Rattle.lowered_laws.proofs.Ways.{Slots, with_slot, Reads, Safe, safe_wider, safe_jump, safe_branch, safe_set, safe_return, safe_fail}
@@ -88,7 +89,10 @@ module _ (s : Setting) where
   exit_safe label when = record {
     slots = maybe_next when;
     goes = λ p around next see V stood k on.
-        leave_safe when p.expr k (node s.goto p.node) (exit_to s.goto.finish around label) next p.slot see V stood.sees stood.reads stood.stand
+        let target = exit_to s.goto.finish around label in
+        let here = node s.goto p.node in
+        leave_safe when p.expr k here target next p.slot see V stood.sees stood.reads
+        (subst (AllStand s.goto.blocks) (exit_leaves s.goto s.numbers when p.expr here target next stood.stand) stood.stand)
         (on.leaves label).0 on.follows;
   }
 

@@ -16,7 +16,7 @@ use Rattle.block_forms.specs.Places.{Each}
 use Rattle.block_forms.specs.Leading.{LeadsWithin}
 use Rattle.lowered_laws.proofs.Leading.{in_list, AllLead, lead_both, leads_at}
 use Rattle.lowered_laws.proofs.LeadingLoops.{loop_leads}
-use Rattle.lowered_laws.proofs.LeadingStatements.{Stand, Within, IsLed, both, StatementLeads, RowLeads, ArmsLead, ElseLeads, slot_leads, leave_leads, no_row, more_row, no_arms, more_arms, no_else, some_else, branch_leads, block_leads}
+use Rattle.lowered_laws.proofs.LeadingStatements.{Stand, Within, IsLed, both, StatementLeads, RowLeads, ArmsLead, ElseLeads, slot_leads, leave_leads, exit_leads, no_row, more_row, no_arms, more_arms, no_else, some_else, branch_leads, block_leads}
 use Rattle.lowered_laws.proofs.Parts.{left, right}
 
 module _ (s : Setting) where
@@ -41,7 +41,7 @@ module _ (s : Setting) where
     statement_leads (b.Loop' label kind _ body closing) = record { goes = loop_leads s label kind (stmts_of laying body) (row_leads body) }
     statement_leads (b.Exit label when) = record {
       goes = λ p around next stand on.
-          leave_leads s when p.expr (node s.goto p.node) (exit_to s.goto.finish around label) next stand (on.leaves label).0 on.follows;
+          exit_leads s when p.expr (node s.goto p.node) (exit_to s.goto.finish around label) next stand (on.leaves label).0 on.follows;
     }
     statement_leads (b.Continue label when) = record {
       goes = λ p around next stand on.

@@ -7,8 +7,11 @@ use Rattle.away_types.specs.declared.slots.Slot.{Slot}
 use Rattle.sql_meaning.specs.Context.{Rows}
 use Rattle.plsql_meaning.specs.Functions.{over}
 use Rattle.plsql_meaning.specs.Outcomes.{Env}
+use Rattle.block_forms.specs.declared.fixed_list.Fixed.{Fixed}
+use Rattle.block_forms.specs.declared.fixed_list.Fixed.TheVariants as fix
 use Rattle.block_forms.specs.declared.forms.Goto.{Goto}
-use Rattle.block_forms.specs.Expressions.{Sources, sources, fixed_list, expressions, entry_value}
+use Rattle.block_forms.specs.Expressions.{Sources, sources, expressions, entry_value}
+use Rattle.block_forms.specs.FixedList.{fixed_list, position, in_range_entry, past_end_entry, next_entry}
 use Rattle.block_forms.specs.Frames.{frame_of}
 use Rattle.block_forms.specs.Laid.{laid}
 use Rattle.block_forms.specs.Lowered.{setting, numbers_of}
@@ -67,26 +70,26 @@ module _ (f : Function) (slots : List Slot) (g : Goto) (tables : List Rows) wher
     abbrev held : List ℕ → Env → List Value
     held names env = map (λ i. get_or env i val.Null) names
 
-    entry : (k : ℕ) (names : List ℕ) (env : Env) → value_of sides (form.term ((numbers_of f).fixed + k) names) env ≡ fixed.fixed_value tables k
+    entry : (e : Fixed) (names : List ℕ) (env : Env) → value_of sides (form.entry_term (numbers_of f).fixed e names) env ≡ fixed.fixed_value tables e
         (held names env)
-    entry k names env =
+    entry e names env =
         ap (λ o. entry_value tables o (held names env))
-        (ap (λ n. slice_get (expressions f) (n + k)) fixed_is ∙ behind (sources f.body) fixed_list k)
+        (ap (λ n. slice_get (expressions f) (n + position e)) fixed_is ∙ behind (sources f.body) fixed_list (position e))
 
     pub known : Known sides
     known = record {
       sources = λ k e x env hid wide.
           ap (λ o. entry_value tables o (held (form.source_term k e).names (env ++ hid))) x.there
           ∙ source_value tables (numbers_of f).counters e x.reads env hid wide;
-      nulls = λ t env. entry (form.null_entry t) [] env ∙ fixed.null_of tables t;
-      null_tests = λ t slot env. entry (form.is_null_entry t) (slot ∷ []) env ∙ fixed.null_test tables t (at env slot);
-      positive_tests = λ slot env. entry 6 (slot ∷ []) env ∙ fixed.positive_test tables (at env slot);
-      ones = λ env. entry 13 [] env ∙ fixed.one tables;
-      copies = λ slot env. entry 14 (slot ∷ []) env ∙ fixed.copy tables (at env slot);
+      nulls = λ t env. entry (fix.Null t) [] env ∙ fixed.null_of tables t;
+      null_tests = λ t slot env. entry (fix.IsNull t) (slot ∷ []) env ∙ fixed.null_test tables t (at env slot);
+      positive_tests = λ slot env. entry fix.NotPositive (slot ∷ []) env ∙ fixed.positive_test tables (at env slot);
+      ones = λ env. entry fix.One [] env ∙ fixed.one tables;
+      copies = λ slot env. entry fix.Copy (slot ∷ []) env ∙ fixed.copy tables (at env slot);
       ranges =
-          λ reverse cur last env. entry (form.by_way reverse 8 7) (cur ∷ last ∷ []) env ∙ fixed.range tables reverse (at env cur) (at env last);
-      ends = λ reverse step cur env. entry (form.by_way reverse 10 9) (step ∷ cur ∷ []) env ∙ fixed.end tables reverse (at env step) (at env cur);
+          λ reverse cur last env. entry (in_range_entry reverse) (cur ∷ last ∷ []) env ∙ fixed.range tables reverse (at env cur) (at env last);
+      ends = λ reverse step cur env. entry (past_end_entry reverse) (step ∷ cur ∷ []) env ∙ fixed.end tables reverse (at env step) (at env cur);
       moves =
-          λ reverse cur step env. entry (form.by_way reverse 12 11) (cur ∷ step ∷ []) env ∙ fixed.move tables reverse (at env cur) (at env step);
+          λ reverse cur step env. entry (next_entry reverse) (cur ∷ step ∷ []) env ∙ fixed.move tables reverse (at env cur) (at env step);
       not_nulls = λ slot. strict_is slots slot;
     }

@@ -16,6 +16,7 @@ use Rattle.block_forms.specs.Laid.{Laid, LaidArm, laying}
 use Rattle.block_forms.specs.Patterns.{node, leave_parts}
 use Rattle.block_forms.specs.Patterns as form
 use Rattle.block_forms.specs.Targets.{Targets, targeting}
+use Rattle.block_forms.proofs.Exits.{exit_leaves}
 use Rattle.lowering_law.proofs.Assignments.{slot_goes}
 use Rattle.lowering_law.proofs.Fits.{Fits}
 use Rattle.lowering_law.proofs.Known.{Sides, width, GoesIn, AllStandIn, Entries, Known}
@@ -85,8 +86,10 @@ module _ (s : Sides) where
     slots = refl;
     exprs = one_if_there when;
     goes = λ known p slot around next env hid n begun.
-        leaves known around (exits label) (exit_to s.form.goto.finish around label) p.expr next (node s.form.goto p.node) when env hid
-        (3 * p.fors) n begun.wide refl begun.has.entries begun.stand;
+        let target = exit_to s.form.goto.finish around label in
+        let here = node s.form.goto p.node in
+        leaves known around (exits label) target p.expr next here when env hid (3 * p.fors) n begun.wide refl begun.has.entries
+        (subst (AllStandIn s) (exit_leaves s.form.goto s.form.numbers when p.expr here target next begun.stand) begun.stand);
   }
 
   pub continue_fits : (label : Label) (when : Option Expr)

@@ -16,7 +16,8 @@ use Rattle.plsql_meaning.specs.Functions.{answer_of, begun}
 use Rattle.plsql_meaning.specs.Outcomes.{Env, Outcome, normal, exits, continues, returns, faults, more, Done, no_return}
 use Rattle.plsql_meaning.specs.Statements.{running, meaning}
 use Rattle.block_forms.specs.declared.forms.Goto.{Goto}
-use Rattle.block_forms.specs.Expressions.{sources, sourcing, fixed_list}
+use Rattle.block_forms.specs.Expressions.{sources, sourcing}
+use Rattle.block_forms.specs.FixedList.{fixed_list}
 use Rattle.block_forms.specs.Laid.{laid, laying}
 use Rattle.block_forms.specs.Lowered.{Lowered, numbers_of, params_parts, body_place}
 use Rattle.block_forms.specs.MachineLaws.{stays_from, few_from, heads_from}

@@ -1,5 +1,5 @@
 -- Each entry of a checked function's table is clear where the query has it.
-use Rattle.std.proofs.Common.{◌≡◌, refl, ap, sym, subst, ◌∙◌, ℕ, ℤ, zero, suc, pos, ◌==◌, true, false, List, [], ◌∷◌, get_or}
+use Rattle.std.proofs.Common.{◌≡◌, refl, ap, sym, subst, ◌∙◌, ℕ, ℤ, zero, suc, pos, ◌==◌, true, false, List, [], ◌∷◌, map, get_or}
 use Rattle.std.proofs.lemmas.Bool.{eqb-true, eq-eqb}
 use Rattle.away_values.specs.declared.operators.ChainOp.TheVariants as chain
 use Rattle.away_values.specs.declared.operators.CmpOp.{CmpOp}
@@ -20,7 +20,10 @@ use Rattle.away_names.specs.Lookups.{Scope}
 use Rattle.away_names.specs.Trees.{named_expr}
 use Rattle.sql_meaning.specs.Placed.{column_of, placed, placed_at}
 use Rattle.sql_meaning.specs.Reads.{reads, slots_of}
-use Rattle.block_forms.specs.Expressions.{a, b as second, null_as, a_is_null, of_two, compared, fixed_list, sources, expressions}
+use Rattle.block_forms.specs.declared.fixed_list.Fixed.{Fixed}
+use Rattle.block_forms.specs.declared.fixed_list.Fixed.TheVariants as fix
+use Rattle.block_forms.specs.Expressions.{sources, expressions}
+use Rattle.block_forms.specs.FixedList.{a, b as second, null_as, a_is_null, of_two, compared, expression, entries, fixed_list}
 use Rattle.block_forms.specs.Places.{Each}
 use Rattle.typed_values.specs.Sorts.{Every}
 use Rattle.typed_values.proofs.Lists.{every_append}
@@ -119,44 +122,25 @@ module _ (schema : Schema) where
   one_placed : Placed schema (expr.Cast (expr.Int (pos 1)) ty.Bigint)
   one_placed t s ref tables own = whole s ref t (expr.Cast (expr.Int (pos 1)) ty.Bigint) (with_type s ref (expr.Int (pos 1)) ty.Bigint (c.cast ty.Bigint (c.int (pos 1))))
 
+  entry_placed : (e : Fixed) → Placed schema (expression e)
+  entry_placed (fix.Null t) = null_placed t
+  entry_placed (fix.IsNull t) = test_placed
+  entry_placed fix.NotPositive = not_positive_placed
+  entry_placed fix.AtMost = both_compared cmp.Le
+  entry_placed fix.AtLeast = both_compared cmp.Ge
+  entry_placed fix.PastGreatest = limit_compared cmp.Lt int.Sub _
+  entry_placed fix.PastLeast = limit_compared cmp.Gt int.Add _
+  entry_placed fix.Sum = step_placed int.Add
+  entry_placed fix.Difference = step_placed int.Sub
+  entry_placed fix.One = one_placed
+  entry_placed fix.Copy = first_placed
+
+  all_placed : (xs : List Fixed) → Every (Placed schema) (map expression xs)
+  all_placed [] = tt
+  all_placed (x ∷ xs) = (entry_placed x, all_placed xs)
+
   fixed_placed : Every (Placed schema) fixed_list
-  fixed_placed = (
-    null_placed ty.Bigint,
-    (
-      null_placed ty.Boolean,
-      (
-        null_placed ty.Text,
-        (
-          test_placed,
-          (
-            test_placed,
-            (
-              test_placed,
-              (
-                not_positive_placed,
-                (
-                  both_compared cmp.Le,
-                  (
-                    both_compared cmp.Ge,
-                    (
-                      limit_compared cmp.Lt int.Sub _,
-                      (
-                        limit_compared cmp.Gt int.Add _,
-                        (
-                          step_placed int.Add,
-                          (step_placed int.Sub, (one_placed, (first_placed, (null_placed ty.Integer, (test_placed, tt))))),
-                        ),
-                      ),
-                    ),
-                  ),
-                ),
-              ),
-            ),
-          ),
-        ),
-      ),
-    ),
-  )
+  fixed_placed = all_placed entries
 
   -- ---- by places
 

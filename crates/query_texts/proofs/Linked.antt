@@ -1,5 +1,5 @@
 -- No expression of a function that is read is a chain without links.
-use Rattle.std.proofs.Common.{◌≡◌, refl, subst, ℕ, zero, suc, true, false, List, [], ◌∷◌, ◌++◌, fold, Option, Some, None}
+use Rattle.std.proofs.Common.{◌≡◌, refl, subst, ℕ, zero, suc, true, false, List, [], ◌∷◌, ◌++◌, map, fold, Option, Some, None}
 use Rattle.away_grammar.specs.declared.grammar.Mark.{Mark}
 use Rattle.away_grammar.specs.declared.grammar.Mark.TheVariants as m
 use Rattle.away_grammar.specs.FunctionGrammar.{ReadsFunction}
@@ -22,7 +22,10 @@ use Rattle.away_trees.specs.Algebra.{expr_of, exprs_of, head_or, links_of}
 use Rattle.away_types.specs.CheckedFunctions.{IsChecked}
 use Rattle.away_types.specs.declared.slots.Slot.{Slot}
 use Rattle.away_values.specs.declared.operators.ChainOp.{ChainOp}
-use Rattle.block_forms.specs.Expressions.{expressions, fixed_list, sources}
+use Rattle.block_forms.specs.Expressions.{expressions, sources}
+use Rattle.block_forms.specs.declared.fixed_list.Fixed.{Fixed}
+use Rattle.block_forms.specs.declared.fixed_list.Fixed.TheVariants as fix
+use Rattle.block_forms.specs.FixedList.{expression, entries, fixed_list}
 use Rattle.block_forms.specs.Places.{Each}
 use Rattle.plsql_parse.specs.Refusals.{MayBeRead, most_nesting}
 use Rattle.said_functions.proofs.Files.{sources_are_read}
@@ -127,9 +130,26 @@ every_read : (es : List Expr) → Each (IsReadWithin most_nesting) es → Every 
 every_read [] h = tt
 every_read (e ∷ es) h = (read_linked (read_so (h 0 e refl).reads), every_read es (λ i x at. h (suc i) x at))
 
-fixed_linked : Every IsLinked fixed_list
+entry_linked : (x : Fixed) → IsLinked (expression x)
 unfolding b.hidden-the_row-Expr-Chain-1-2-1 denote.Hole.Carrier.hidden
-fixed_linked = (tt, (tt, (tt, (tt, (tt, (tt, (tt, (tt, (tt, (tt, (tt, (tt, (tt, (tt, (tt, (tt, (tt, tt)))))))))))))))))
+entry_linked (fix.Null t) = tt
+entry_linked (fix.IsNull t) = tt
+entry_linked fix.NotPositive = tt
+entry_linked fix.AtMost = tt
+entry_linked fix.AtLeast = tt
+entry_linked fix.PastGreatest = tt
+entry_linked fix.PastLeast = tt
+entry_linked fix.Sum = tt
+entry_linked fix.Difference = tt
+entry_linked fix.One = tt
+entry_linked fix.Copy = tt
+
+fixed_are_linked : (xs : List Fixed) → Every IsLinked (map expression xs)
+fixed_are_linked [] = tt
+fixed_are_linked (x ∷ xs) = (entry_linked x, fixed_are_linked xs)
+
+fixed_linked : Every IsLinked fixed_list
+fixed_linked = fixed_are_linked entries
 
 each_of : (es : List Expr) → Every IsLinked es → Each IsLinked es
 each_of [] h i x e = absurd cc

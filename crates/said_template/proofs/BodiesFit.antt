@@ -11,7 +11,7 @@ use Rattle.away_typing.specs.Typing.{Places, cast_kind}
 use Rattle.away_values.specs.declared.types.Ty.{Ty}
 use Rattle.away_values.specs.declared.types.Ty.TheVariants as ty
 use Rattle.block_forms.specs.declared.forms.Term.{Term}
-use Rattle.block_forms.specs.Expressions.{null_as}
+use Rattle.block_forms.specs.FixedList.{null_as}
 use Rattle.block_forms.specs.Forms.{Assignment}
 use Rattle.block_forms.specs.Places.{Each}
 use Rattle.call_forms.specs.declared.forms.Call.{Call}

@@ -11,7 +11,7 @@ use Rattle.away_trees.specs.declared.queries.Expr.{Expr}
 use Rattle.away_trees.specs.declared.queries.Expr.TheVariants as expr
 use Rattle.away_trees.specs.declared.schemas.Schema.{Schema}
 use Rattle.block_forms.specs.declared.forms.Term.{Term}
-use Rattle.block_forms.specs.Expressions.{null_as}
+use Rattle.block_forms.specs.FixedList.{null_as}
 use Rattle.block_forms.specs.Places.{Each}
 use Rattle.call_forms.specs.Bodies.{Body, sets, enters, picks, returns, fails, calls, endless}
 use Rattle.dotted_names.specs.Trees.{dotted_expr}

@@ -3,7 +3,8 @@ use Rattle.std.proofs.Common.{refl, ℕ, zero, suc, List, [], ◌∷◌, get_or}
 use Rattle.away_trees.specs.declared.queries.Expr.{Expr}
 use Rattle.away_trees.specs.declared.queries.Expr.TheVariants as expr
 use Rattle.away_trees.specs.declared.schemas.Schema.{Schema}
-use Rattle.block_forms.specs.Expressions.{fixed_list, sources, expressions}
+use Rattle.block_forms.specs.Expressions.{sources, expressions}
+use Rattle.block_forms.specs.FixedList.{fixed_list}
 use Rattle.block_forms.specs.Places.{Each}
 use Rattle.typed_values.specs.Sorts.{Every}
 use Rattle.typed_values.proofs.Lists.{every_append}

@@ -1,5 +1,5 @@
 -- The entries behind a function's source expressions can be said where the query has them, but for NULL of the type integer.
-use Rattle.std.proofs.Common.{◌≡◌, refl, ap, sym, subst, ◌∙◌, ℕ, ℤ, pos, negsuc, arith, ◌==◌, false, [], ◌∷◌}
+use Rattle.std.proofs.Common.{◌≡◌, refl, ap, sym, subst, ◌∙◌, ℕ, ℤ, pos, negsuc, arith, ◌==◌, false, List, [], ◌∷◌, map}
 use Rattle.std.proofs.lemmas.Bool.{eqb-true, eq-eqb}
 use Rattle.std.specs.Prelude.{◌^◌, ◌-◌, Some}
 use Rattle.away_values.specs.declared.operators.ChainOp.TheVariants as chain
@@ -24,7 +24,9 @@ use Rattle.away_trees.specs.Algebra.{Algebra}
 use Rattle.away_trees.proofs.Equations as eq
 use Rattle.away_names.specs.Lookups.{Scope}
 use Rattle.sql_meaning.specs.Placed.{column_of, placed}
-use Rattle.block_forms.specs.Expressions.{a, b as second, null_as, a_is_null, of_two, compared, fixed_list}
+use Rattle.block_forms.specs.declared.fixed_list.Fixed.{Fixed}
+use Rattle.block_forms.specs.declared.fixed_list.Fixed.TheVariants as fix
+use Rattle.block_forms.specs.FixedList.{a, b as second, null_as, a_is_null, of_two, compared, expression, entries, fixed_list}
 use Rattle.typed_values.specs.Sorts.{Every}
 use Rattle.dotted_names.specs.Trees.{dotted_expr}
 use Rattle.dotted_names.proofs.DottingRules as d
@@ -138,41 +140,25 @@ module _ (schema : Schema) where
       (at_or l.Primary (say_cast_to {d = 194} ty.Bigint tt
       (at_or l.Primary (say_cast_to {d = 193} ty.Bigint tt (at_or l.Primary (say.say_number (omega arith))))))))
 
+  entry_said : (e : Fixed) → IsSaidEntry schema (expression e)
+  entry_said (fix.Null ty.Bigint) = null_entry ty.Bigint tt
+  entry_said (fix.Null ty.Boolean) = null_entry ty.Boolean tt
+  entry_said (fix.Null ty.Text) = null_entry ty.Text tt
+  entry_said (fix.Null ty.Integer) = integer_entry
+  entry_said (fix.IsNull t) = test_entry
+  entry_said fix.NotPositive = not_positive_entry
+  entry_said fix.AtMost = both_entry cmp.Le m.LessEqual refl
+  entry_said fix.AtLeast = both_entry cmp.Ge m.GreaterEqual refl
+  entry_said fix.PastGreatest = limit_entry cmp.Lt m.Less refl int.Sub m.Minus refl (pos (2 ^ 63 - 1)) (at_or l.Primary (say.say_number (omega arith)))
+  entry_said fix.PastLeast = limit_entry cmp.Gt m.Greater refl int.Add m.Plus refl (negsuc (2 ^ 63 - 1)) (at_or l.Sign say.say_least)
+  entry_said fix.Sum = step_entry int.Add m.Plus refl
+  entry_said fix.Difference = step_entry int.Sub m.Minus refl
+  entry_said fix.One = one_entry
+  entry_said fix.Copy = first_entry
+
+  all_said : (xs : List Fixed) → Every (IsSaidEntry schema) (map expression xs)
+  all_said [] = tt
+  all_said (x ∷ xs) = (entry_said x, all_said xs)
+
   pub fixed_said : Every (IsSaidEntry schema) fixed_list
-  fixed_said = (
-    null_entry ty.Bigint tt,
-    (
-      null_entry ty.Boolean tt,
-      (
-        null_entry ty.Text tt,
-        (
-          test_entry,
-          (
-            test_entry,
-            (
-              test_entry,
-              (
-                not_positive_entry,
-                (
-                  both_entry cmp.Le m.LessEqual refl,
-                  (
-                    both_entry cmp.Ge m.GreaterEqual refl,
-                    (
-                      limit_entry cmp.Lt m.Less refl int.Sub m.Minus refl (pos (2 ^ 63 - 1)) (at_or l.Primary (say.say_number (omega arith))),
-                      (
-                        limit_entry cmp.Gt m.Greater refl int.Add m.Plus refl (negsuc (2 ^ 63 - 1)) (at_or l.Sign say.say_least),
-                        (
-                          step_entry int.Add m.Plus refl,
-                          (step_entry int.Sub m.Minus refl, (one_entry, (first_entry, (integer_entry, (test_entry, tt))))),
-                        ),
-                      ),
-                    ),
-                  ),
-                ),
-              ),
-            ),
-          ),
-        ),
-      ),
-    ),
-  )
+  fixed_said = all_said entries

@@ -17,7 +17,8 @@ use Rattle.away_types.specs.declared.slots.Slot.{Slot}
 use Rattle.away_types.specs.CheckedFunctions.{IsChecked}
 use Rattle.sql_meaning.specs.Placed.{placed_at}
 use Rattle.sql_meaning.specs.Reads.{slots_of}
-use Rattle.block_forms.specs.Expressions.{null_as, sources, expressions}
+use Rattle.block_forms.specs.Expressions.{sources, expressions}
+use Rattle.block_forms.specs.FixedList.{null_as}
 use Rattle.block_forms.specs.Places.{Each}
 use Rattle.dotted_names.specs.Trees.{dotted_expr}
 use Rattle.plsql_parse.specs.Refusals.{MayBeRead, most_nesting}

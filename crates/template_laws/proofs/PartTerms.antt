@@ -18,9 +18,12 @@ use Rattle.block_forms.specs.declared.forms.Block.{Block}
 use Rattle.block_forms.specs.declared.forms.End.{End}
 use Rattle.block_forms.specs.declared.forms.End.TheVariants as jump
 use Rattle.block_forms.specs.declared.forms.Term.{Term}
-use Rattle.block_forms.specs.Expressions.{fixed_list}
+use Rattle.block_forms.specs.declared.fixed_list.Fixed.{Fixed}
+use Rattle.block_forms.specs.declared.fixed_list.Fixed.TheVariants as fix
+use Rattle.block_forms.specs.FixedList.{fixed_list, expression, slots, position, in_range_entry, past_end_entry, next_entry}
+use Rattle.block_forms.proofs.FixedEntries.{found, reads_its_slots}
 use Rattle.block_forms.specs.Lowered.{AllStand, one_of, owners, sharers}
-use Rattle.block_forms.specs.Patterns.{Part, own, shared, same, never, term, source_term, null_entry, is_null_entry, null_of, is_null, not_positive, one, copy, by_way, in_range, leaves_range, moved}
+use Rattle.block_forms.specs.Patterns.{Part, own, shared, same, never, term, source_term, entry_term, null_of, is_null, not_positive, one, copy, in_range, leaves_range, moved}
 use Rattle.template_laws.specs.Terms.{OneForEach, SetOneForEach}
 
 pub is_class_of : (r : Raised) → is_class (class_of r).code ≡ true
@@ -114,44 +117,15 @@ module _ (table : List Expr) where
 
 -- ---- how many slots the entries of the fixed list have
 
-null_long : (t : Ty) → 0 ≡ length (slots_of (get_or fixed_list (null_entry t) expr.Null))
-unfolding b.hidden-the_row-Expr-0 denote.Hole.Carrier.hidden
-null_long ty.Bigint = refl
-null_long ty.Boolean = refl
-null_long ty.Text = refl
-null_long ty.Integer = refl
-
-test_long : (t : Ty) → 1 ≡ length (slots_of (get_or fixed_list (is_null_entry t) expr.Null))
-unfolding b.hidden-the_row-Expr-0 denote.Hole.Carrier.hidden
-test_long ty.Bigint = refl
-test_long ty.Boolean = refl
-test_long ty.Text = refl
-test_long ty.Integer = refl
-
-positive_long : 1 ≡ length (slots_of (get_or fixed_list 6 expr.Null))
-unfolding b.hidden-the_row-Expr-0 denote.Hole.Carrier.hidden
-positive_long = refl
-
-one_long : 0 ≡ length (slots_of (get_or fixed_list 13 expr.Null))
-unfolding b.hidden-the_row-Expr-0 denote.Hole.Carrier.hidden
-one_long = refl
-
-copy_long : 1 ≡ length (slots_of (get_or fixed_list 14 expr.Null))
-unfolding b.hidden-the_row-Expr-0 denote.Hole.Carrier.hidden
-copy_long = refl
-
-range_long : (reverse : Bool) → 2 ≡ length (slots_of (get_or fixed_list (by_way reverse 8 7) expr.Null))
-unfolding b.hidden-the_row-Expr-0 denote.Hole.Carrier.hidden
+range_long : (reverse : Bool) → 2 ≡ length (slots (in_range_entry reverse))
 range_long true = refl
 range_long false = refl
 
-end_long : (reverse : Bool) → 2 ≡ length (slots_of (get_or fixed_list (by_way reverse 10 9) expr.Null))
-unfolding b.hidden-the_row-Expr-0 b.hidden-the_row-Expr-Chain-1-2-1 denote.Hole.Carrier.hidden
+end_long : (reverse : Bool) → 2 ≡ length (slots (past_end_entry reverse))
 end_long true = refl
 end_long false = refl
 
-move_long : (reverse : Bool) → 2 ≡ length (slots_of (get_or fixed_list (by_way reverse 12 11) expr.Null))
-unfolding b.hidden-the_row-Expr-0 b.hidden-the_row-Expr-Chain-1-2-1 denote.Hole.Carrier.hidden
+move_long : (reverse : Bool) → 2 ≡ length (slots (next_entry reverse))
 move_long true = refl
 move_long false = refl
 
@@ -180,17 +154,19 @@ module _ (es : List Expr) where
   abbrev whole : List Expr
   whole = es ++ fixed_list
 
-  entry_fits : (k : ℕ) (names : List ℕ) → length names ≡ length (slots_of (get_or fixed_list k expr.Null)) → OneForEach whole (term (length es + k) names)
-  entry_fits k names long = one_fits (get_or fixed_list k expr.Null) whole (length es + k) names (get_behind es fixed_list k) long
+  entry_fits : (x : Fixed) (names : List ℕ) → length names ≡ length (slots x) → OneForEach whole (entry_term (length es) x names)
+  entry_fits x names long =
+      one_fits (expression x) whole (length es + position x) names (get_behind es fixed_list (position x) ∙ found x)
+      (long ∙ ap (λ ns. length ns) (sym (reads_its_slots x)))
 
   pub fixed_fits : FixedFits whole (length es)
   fixed_fits = record {
-    nulls = λ t. entry_fits (null_entry t) [] (null_long t);
-    null_tests = λ t slot. entry_fits (is_null_entry t) (slot ∷ []) (test_long t);
-    positives = λ slot. entry_fits 6 (slot ∷ []) (positive_long);
-    ones = entry_fits 13 [] one_long;
-    copies = λ slot. entry_fits 14 (slot ∷ []) copy_long;
-    ranges = λ reverse cur last. entry_fits (by_way reverse 8 7) (cur ∷ last ∷ []) (range_long reverse);
-    ends = λ reverse step cur. entry_fits (by_way reverse 10 9) (step ∷ cur ∷ []) (end_long reverse);
-    moves = λ reverse cur step. entry_fits (by_way reverse 12 11) (cur ∷ step ∷ []) (move_long reverse);
+    nulls = λ t. entry_fits (fix.Null t) [] refl;
+    null_tests = λ t slot. entry_fits (fix.IsNull t) (slot ∷ []) refl;
+    positives = λ slot. entry_fits fix.NotPositive (slot ∷ []) refl;
+    ones = entry_fits fix.One [] refl;
+    copies = λ slot. entry_fits fix.Copy (slot ∷ []) refl;
+    ranges = λ reverse cur last. entry_fits (in_range_entry reverse) (cur ∷ last ∷ []) (range_long reverse);
+    ends = λ reverse step cur. entry_fits (past_end_entry reverse) (step ∷ cur ∷ []) (end_long reverse);
+    moves = λ reverse cur step. entry_fits (next_entry reverse) (cur ∷ step ∷ []) (move_long reverse);
   }

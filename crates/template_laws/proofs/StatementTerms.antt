@@ -18,7 +18,8 @@ use Rattle.block_forms.specs.declared.places.Place.{Place}
 use Rattle.block_forms.specs.Around.{Around, exit_to, again_to}
 use Rattle.block_forms.specs.Expressions.{Sources, in_turn, if_there, defaults, of_kind, of_else, sourcing}
 use Rattle.block_forms.specs.Laid.{Setting, Laid, LaidArm, laying, after, a_node, with_expr, decl_size, decls_size, kind_size, row_size, arms_size, else_size, first_block, row_parts, default_term, decl_parts, decls_parts, assign_parts, arms_parts, lack, lack_parts, else_parts, branch_parts, inside_of, block_parts, again_of, kind_parts, loop_parts, one_if}
-use Rattle.block_forms.specs.Patterns.{Part, own, shared, branches, fails, not_positive, node, jump_of, yes_of, no_of, source_term, null_of, set_parts, slot_parts, leave_parts, bound_parts, step_parts, turn_parts, for_parts, cur_of, after_bound, for_head, for_test}
+use Rattle.block_forms.specs.Patterns.{Part, own, shared, branches, fails, not_positive, node, jump_of, yes_of, no_of, source_term, null_of, set_parts, slot_parts, leave_parts, exit_parts, bound_parts, step_parts, turn_parts, for_parts, cur_of, after_bound, for_head, for_test}
+use Rattle.block_forms.proofs.Exits.{exit_either}
 use Rattle.template_laws.specs.Terms.{OneForEach}
 use Rattle.template_laws.proofs.PartTerms.{AllFit, fit_both, Sits, sits_left, sits_right, source_fits, FixedFits, is_class_of}
 
@@ -42,6 +43,9 @@ module _ (table : List Expr) (s : Setting) (fixed : FixedFits table s.numbers.fi
   leave_fits : (when : Option Expr) (k c to next : ℕ) → At k (if_there when) → Fit (leave_parts s.goto s.numbers when k c to next)
   leave_fits None k c to next h = ((tt, tt), tt)
   leave_fits (Some e) k c to next h = ((tt, source_fits table k e h.0), tt)
+
+  exit_fits : (when : Option Expr) (k c to next : ℕ) → At k (if_there when) → Fit (exit_parts s.goto s.numbers when k c to next)
+  exit_fits when k c to next h = exit_either s.goto s.numbers when k c to next Fit (tt, tt) (leave_fits when k c to next h)
 
   -- ---- statements, rows, arms and ELSE
 
@@ -261,7 +265,7 @@ module _ (table : List Expr) (s : Setting) (fixed : FixedFits table s.numbers.fi
     }
     statement_fits (b.Exit label when) = record {
       count = leave_count when;
-      goes = λ p around next h. leave_fits when p.expr (node s.goto p.node) (exit_to s.goto.finish around label) next h;
+      goes = λ p around next h. exit_fits when p.expr (node s.goto p.node) (exit_to s.goto.finish around label) next h;
     }
     statement_fits (b.Continue label when) = record {
       count = leave_count when;

@@ -30,7 +30,10 @@ use Rattle.away_types.specs.declared.slots.Slot.{Slot}
 use Rattle.away_types.specs.CheckedFunctions.{IsChecked}
 use Rattle.away_typing.specs.Parameters.{Found, finding}
 use Rattle.away_typing.specs.Parameters as params
-use Rattle.block_forms.specs.Expressions.{Sources, sources, fixed_list, expressions}
+use Rattle.block_forms.specs.Expressions.{Sources, sources, expressions}
+use Rattle.block_forms.specs.declared.fixed_list.Fixed.{Fixed}
+use Rattle.block_forms.specs.declared.fixed_list.Fixed.TheVariants as fix
+use Rattle.block_forms.specs.FixedList.{expression, entries, fixed_list}
 use Rattle.block_forms.specs.Places.{Each}
 use Rattle.placed_names.proofs.Sources.{IsResolved, checked_sources}
 use Rattle.sql_meaning.proofs.Related.{AlikeOption, AlikeLink, AlikeArm, Relation, IsKept, expr_related}
@@ -355,36 +358,26 @@ sources_quiet : (schema : Schema) (es : Sources) → Every (IsResolved schema) e
 sources_quiet schema [] h = tt
 sources_quiet schema (e ∷ es) h = (resolved_quiet schema e h.0, sources_quiet schema es h.1)
 
-fixed_quiet : Every IsQuiet fixed_list
+entry_quiet : (x : Fixed) → IsQuiet (expression x)
 unfolding b.hidden-the_row-Expr-0 b.hidden-the_row-Expr-Chain-1-2-1 denote.Hole.Carrier.hidden
-fixed_quiet = (
-  (λ p. refl),
-  (
-    (λ p. refl),
-    (
-      (λ p. refl),
-      (
-        (λ p. refl),
-        (
-          (λ p. refl),
-          (
-            (λ p. refl),
-            (
-              (λ p. refl),
-              (
-                (λ p. refl),
-                (
-                  (λ p. refl),
-                  ((λ p. refl), ((λ p. refl), ((λ p. refl), ((λ p. refl), ((λ p. refl), ((λ p. refl), ((λ p. refl), ((λ p. refl), tt)))))))),
-                ),
-              ),
-            ),
-          ),
-        ),
-      ),
-    ),
-  ),
-)
+entry_quiet (fix.Null t) = λ p. refl
+entry_quiet (fix.IsNull t) = λ p. refl
+entry_quiet fix.NotPositive = λ p. refl
+entry_quiet fix.AtMost = λ p. refl
+entry_quiet fix.AtLeast = λ p. refl
+entry_quiet fix.PastGreatest = λ p. refl
+entry_quiet fix.PastLeast = λ p. refl
+entry_quiet fix.Sum = λ p. refl
+entry_quiet fix.Difference = λ p. refl
+entry_quiet fix.One = λ p. refl
+entry_quiet fix.Copy = λ p. refl
+
+fixed_are_quiet : (xs : List Fixed) → Every IsQuiet (map expression xs)
+fixed_are_quiet [] = tt
+fixed_are_quiet (x ∷ xs) = (entry_quiet x, fixed_are_quiet xs)
+
+fixed_quiet : Every IsQuiet fixed_list
+fixed_quiet = fixed_are_quiet entries
 
 each_of_every : (es : List Expr) → Every IsQuiet es → Each IsQuiet es
 each_of_every [] h i x e = cc

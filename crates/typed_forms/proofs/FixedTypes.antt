@@ -12,23 +12,25 @@ use Rattle.away_typing.specs.Kinds.{fits, same, only_if, meet, of_type, is_right
 use Rattle.away_typing.specs.Typing.{kind_at, pair, passed, cast_kind, castable}
 use Rattle.away_typing.specs.Trees.{kind_of, uses_of}
 use Rattle.sql_meaning.specs.Reads.{slots_of}
-use Rattle.block_forms.specs.Expressions.{fixed_list}
-use Rattle.block_forms.specs.Patterns.{term, null_entry, is_null_entry, null_of, is_null, not_positive, one, copy, by_way, in_range, leaves_range, moved}
+use Rattle.block_forms.specs.declared.fixed_list.Fixed.{Fixed}
+use Rattle.block_forms.specs.declared.fixed_list.Fixed.TheVariants as fix
+use Rattle.block_forms.specs.FixedList.{fixed_list, position, in_range_entry, past_end_entry, next_entry}
+use Rattle.block_forms.specs.Patterns.{entry_term, null_of, is_null, not_positive, one, copy, in_range, leaves_range, moved}
 use Rattle.block_forms.specs.Places.{EachPair}
 use Rattle.typed_forms.specs.Typed.{HasKind, HasTypeBy}
 use Rattle.typed_forms.proofs.PartTypes.{Has}
 use Rattle.typed_forms.proofs.Standing.{type_at, get_behind}
 
-abbrev entry : ℕ → Expr
-entry k = get_or fixed_list k expr.Null
+abbrev entry : Fixed → Expr
+entry x = get_or fixed_list (position x) expr.Null
 
 -- ---- one entry: its slots, its kind over slots of these types, and no aggregate
 
-record Entry (tables : List (List Ty)) (k : ℕ) (read : List ℕ) (slots : List Ty) (t : Ty) : Type 0 where
-  reads : slots_of (entry k) ≡ read
-  kind : fits t (kind_of (entry k) (record { slots = slots; frames = []; tables = tables })) ≡ true
-  limited : (uses_of (entry k)).limited ≡ false
-  outside_list : (outside (uses_of (entry k))).misused ≡ false
+record Entry (tables : List (List Ty)) (x : Fixed) (read : List ℕ) (slots : List Ty) (t : Ty) : Type 0 where
+  reads : slots_of (entry x) ≡ read
+  kind : fits t (kind_of (entry x) (record { slots = slots; frames = []; tables = tables })) ≡ true
+  limited : (uses_of (entry x)).limited ≡ false
+  outside_list : (outside (uses_of (entry x))).misused ≡ false
 
 abbrev no_slot : List ℕ
 no_slot = []
@@ -43,43 +45,43 @@ abbrev numbers : List Ty
 numbers = ty.Bigint ∷ ty.Bigint ∷ []
 
 module _ (tables : List (List Ty)) where
-  null_typed : (t : Ty) → HasKind t → Entry tables (null_entry t) no_slot [] t
+  null_typed : (t : Ty) → HasKind t → Entry tables (fix.Null t) no_slot [] t
   unfolding b.hidden-the_row-Expr-0 denote.Hole.Carrier.hidden kind_of uses_of outside unused fits same of_type cast_kind
   null_typed ty.Bigint h = record { reads = refl; kind = refl; limited = refl; outside_list = refl }
   null_typed ty.Boolean h = record { reads = refl; kind = refl; limited = refl; outside_list = refl }
   null_typed ty.Text h = record { reads = refl; kind = refl; limited = refl; outside_list = refl }
   null_typed ty.Integer h = absurd h
 
-  test_typed : (t : Ty) → HasKind t → Entry tables (is_null_entry t) a_alone (t ∷ []) ty.Boolean
+  test_typed : (t : Ty) → HasKind t → Entry tables (fix.IsNull t) a_alone (t ∷ []) ty.Boolean
   unfolding b.hidden-the_row-Expr-0 denote.Hole.Carrier.hidden kind_of uses_of outside unused of_slot fits same of_type kind_at passed is_right only_if
   test_typed ty.Bigint h = record { reads = refl; kind = refl; limited = refl; outside_list = refl }
   test_typed ty.Boolean h = record { reads = refl; kind = refl; limited = refl; outside_list = refl }
   test_typed ty.Text h = record { reads = refl; kind = refl; limited = refl; outside_list = refl }
   test_typed ty.Integer h = absurd h
 
-  positive_typed : Entry tables 6 a_alone (ty.Bigint ∷ []) ty.Boolean
+  positive_typed : Entry tables fix.NotPositive a_alone (ty.Bigint ∷ []) ty.Boolean
   unfolding b.hidden-the_row-Expr-0 denote.Hole.Carrier.hidden kind_of uses_of outside unused either of_slot fits same of_type kind_at is_right only_if meet
   positive_typed = record { reads = refl; kind = refl; limited = refl; outside_list = refl }
 
-  one_typed : Entry tables 13 no_slot [] ty.Bigint
+  one_typed : Entry tables fix.One no_slot [] ty.Bigint
   unfolding b.hidden-the_row-Expr-0 denote.Hole.Carrier.hidden kind_of uses_of outside unused fits same of_type cast_kind castable only_if
   one_typed = record { reads = refl; kind = refl; limited = refl; outside_list = refl }
 
-  copy_typed : Entry tables 14 a_alone (ty.Bigint ∷ []) ty.Bigint
+  copy_typed : Entry tables fix.Copy a_alone (ty.Bigint ∷ []) ty.Bigint
   unfolding b.hidden-the_row-Expr-0 denote.Hole.Carrier.hidden kind_of uses_of outside unused of_slot fits same of_type kind_at
   copy_typed = record { reads = refl; kind = refl; limited = refl; outside_list = refl }
 
-  range_typed : (reverse : Bool) → Entry tables (by_way reverse 8 7) a_and_b numbers ty.Boolean
+  range_typed : (reverse : Bool) → Entry tables (in_range_entry reverse) a_and_b numbers ty.Boolean
   unfolding b.hidden-the_row-Expr-0 denote.Hole.Carrier.hidden kind_of uses_of outside unused either of_slot fits same of_type kind_at is_right only_if meet
   range_typed true = record { reads = refl; kind = refl; limited = refl; outside_list = refl }
   range_typed false = record { reads = refl; kind = refl; limited = refl; outside_list = refl }
 
-  end_typed : (reverse : Bool) → Entry tables (by_way reverse 10 9) a_and_b numbers ty.Boolean
+  end_typed : (reverse : Bool) → Entry tables (past_end_entry reverse) a_and_b numbers ty.Boolean
   unfolding b.hidden-the_row-Expr-0 b.hidden-the_row-Expr-Chain-1-2-1 denote.Hole.Carrier.hidden kind_of uses_of outside unused either of_slot fits same of_type kind_at is_right only_if meet pair
   end_typed true = record { reads = refl; kind = refl; limited = refl; outside_list = refl }
   end_typed false = record { reads = refl; kind = refl; limited = refl; outside_list = refl }
 
-  move_typed : (reverse : Bool) → Entry tables (by_way reverse 12 11) a_and_b numbers ty.Bigint
+  move_typed : (reverse : Bool) → Entry tables (next_entry reverse) a_and_b numbers ty.Bigint
   unfolding b.hidden-the_row-Expr-0 b.hidden-the_row-Expr-Chain-1-2-1 denote.Hole.Carrier.hidden kind_of uses_of outside unused either of_slot fits same of_type kind_at is_right only_if meet pair
   move_typed true = record { reads = refl; kind = refl; limited = refl; outside_list = refl }
   move_typed false = record { reads = refl; kind = refl; limited = refl; outside_list = refl }
@@ -108,10 +110,10 @@ module _ (tables : List (List Ty)) (es : List Expr) (slots : List Slot) (result 
       subst (λ j. slice_get numbers j ≡ Some (type_at slots n)) (same_Some 1 i at_i) (ap Some (sym k ∙ ap (type_at slots) (same_Some y n at_n)))
   beside_two x y h k (suc (suc m)) i n at_i at_n = cc
 
-  entry_has : (k : ℕ) (read : List ℕ) (types : List Ty) (t : Ty) (names : List ℕ) → Entry tables k read types t → Beside read types names
-      → Has tables whole slots result t (term (length es + k) names)
-  entry_has k read types t names h beside below =
-      subst (HasTypeBy tables (type_at slots) names t) (sym (get_behind es fixed_list k))
+  entry_has : (x : Fixed) (read : List ℕ) (types : List Ty) (t : Ty) (names : List ℕ) → Entry tables x read types t → Beside read types names
+      → Has tables whole slots result t (entry_term (length es) x names)
+  entry_has x read types t names h beside below =
+      subst (HasTypeBy tables (type_at slots) names t) (sym (get_behind es fixed_list (position x)))
       (record {
         slots = types;
         beside = subst (λ read. Beside read types names) (sym h.reads) beside;
@@ -137,18 +139,18 @@ pub record FixedHave (tables : List (List Ty)) (table : List Expr) (slots : List
 
 pub fixed_have : (tables : List (List Ty)) (es : List Expr) (slots : List Slot) (result : Ty) → FixedHave tables (es ++ fixed_list) slots result (length es)
 fixed_have tables es slots result = record {
-  nulls = λ t h. entry_has tables es slots result (null_entry t) no_slot [] t [] (null_typed tables t h) (beside_none tables es slots result []);
-  null_tests = λ t x h e. entry_has tables es slots result (is_null_entry t) a_alone (t ∷ []) ty.Boolean (x ∷ []) (test_typed tables t h)
+  nulls = λ t h. entry_has tables es slots result (fix.Null t) no_slot [] t [] (null_typed tables t h) (beside_none tables es slots result []);
+  null_tests = λ t x h e. entry_has tables es slots result (fix.IsNull t) a_alone (t ∷ []) ty.Boolean (x ∷ []) (test_typed tables t h)
       (beside_one tables es slots result t x e);
-  positives = λ x e. entry_has tables es slots result 6 a_alone (ty.Bigint ∷ []) ty.Boolean (x ∷ []) (positive_typed tables)
+  positives = λ x e. entry_has tables es slots result fix.NotPositive a_alone (ty.Bigint ∷ []) ty.Boolean (x ∷ []) (positive_typed tables)
       (beside_one tables es slots result ty.Bigint x e);
-  ones = entry_has tables es slots result 13 no_slot [] ty.Bigint [] (one_typed tables) (beside_none tables es slots result []);
-  copies = λ x e. entry_has tables es slots result 14 a_alone (ty.Bigint ∷ []) ty.Bigint (x ∷ []) (copy_typed tables)
+  ones = entry_has tables es slots result fix.One no_slot [] ty.Bigint [] (one_typed tables) (beside_none tables es slots result []);
+  copies = λ x e. entry_has tables es slots result fix.Copy a_alone (ty.Bigint ∷ []) ty.Bigint (x ∷ []) (copy_typed tables)
       (beside_one tables es slots result ty.Bigint x e);
-  ranges = λ reverse x y d e. entry_has tables es slots result (by_way reverse 8 7) a_and_b numbers ty.Boolean (x ∷ y ∷ []) (range_typed tables reverse)
+  ranges = λ reverse x y d e. entry_has tables es slots result (in_range_entry reverse) a_and_b numbers ty.Boolean (x ∷ y ∷ []) (range_typed tables reverse)
       (beside_two tables es slots result x y d e);
-  ends = λ reverse x y d e. entry_has tables es slots result (by_way reverse 10 9) a_and_b numbers ty.Boolean (x ∷ y ∷ []) (end_typed tables reverse)
+  ends = λ reverse x y d e. entry_has tables es slots result (past_end_entry reverse) a_and_b numbers ty.Boolean (x ∷ y ∷ []) (end_typed tables reverse)
       (beside_two tables es slots result x y d e);
-  moves = λ reverse x y d e. entry_has tables es slots result (by_way reverse 12 11) a_and_b numbers ty.Bigint (x ∷ y ∷ []) (move_typed tables reverse)
+  moves = λ reverse x y d e. entry_has tables es slots result (next_entry reverse) a_and_b numbers ty.Bigint (x ∷ y ∷ []) (move_typed tables reverse)
       (beside_two tables es slots result x y d e);
 }

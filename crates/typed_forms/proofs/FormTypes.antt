@@ -14,7 +14,8 @@ use Rattle.block_forms.specs.declared.forms.Goto.{Goto}
 use Rattle.block_forms.specs.declared.forms.Ssa.{Ssa}
 use Rattle.block_forms.specs.declared.forms.SsaBlock.{SsaBlock}
 use Rattle.block_forms.specs.declared.forms.Term.{Term}
-use Rattle.block_forms.specs.Expressions.{sources, fixed_list, expressions}
+use Rattle.block_forms.specs.Expressions.{sources, expressions}
+use Rattle.block_forms.specs.FixedList.{fixed_list}
 use Rattle.block_forms.specs.Forms.{Assignment, Pairs}
 use Rattle.block_forms.specs.Laid.{Setting, laid}
 use Rattle.block_forms.specs.Lowered.{Lowered, TermBelow, SetBelow, EndBelow, setting, all_parts, param_parts, params_parts, body_place}

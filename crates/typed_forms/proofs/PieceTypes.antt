@@ -16,11 +16,12 @@ use Rattle.block_forms.specs.declared.forms.Term.{Term}
 use Rattle.block_forms.specs.declared.places.Place.{Place}
 use Rattle.block_forms.specs.Expressions.{if_there, of_kind}
 use Rattle.block_forms.specs.Laid.{Setting, default_term, decl_parts, assign_parts, kind_parts}
-use Rattle.block_forms.specs.Patterns.{Part, own, shared, branches, fails, not_positive, one, copy, moved, node, jump_of, yes_of, no_of, source_term, set_parts, slot_parts, leave_parts, bound_parts, step_parts, turn_parts, for_parts, cur_of, after_bound, for_head, for_test}
+use Rattle.block_forms.specs.Patterns.{Part, own, shared, branches, fails, not_positive, one, copy, moved, node, jump_of, yes_of, no_of, source_term, set_parts, slot_parts, leave_parts, exit_parts, bound_parts, step_parts, turn_parts, for_parts, cur_of, after_bound, for_head, for_test}
 use Rattle.block_forms.specs.Slots as slot
 use Rattle.block_forms.specs.Slots.{slot_of}
 use Rattle.call_forms.specs.Columned.{type_of_slot}
 use Rattle.call_forms.specs.Templated.{type_or_bigint}
+use Rattle.block_forms.proofs.Exits.{exit_either}
 use Rattle.typed_values.proofs.CleanNotes.{Clean, clean_parts, not_broken}
 use Rattle.typed_forms.specs.Typed.{HasKind, NoIntegers}
 use Rattle.typed_forms.proofs.FixedTypes.{FixedHave}
@@ -74,6 +75,10 @@ module _ (tables : List (List Ty)) (table : List Expr) (result : Ty) (s : Settin
       → Have (leave_parts s.goto s.numbers when k c to next)
   leave_has None k c to next h n = ((tt, tt), tt)
   leave_has (Some e) k c to next h n = ((tt, source k ty.Boolean e h.0 n), tt)
+
+  pub exit_has : (when : Option Expr) (k c to next : ℕ) → At k (if_there when) → Clean (maybe_asked a ty.Boolean when)
+      → Have (exit_parts s.goto s.numbers when k c to next)
+  exit_has when k c to next h n = exit_either s.goto s.numbers when k c to next Have (tt, tt) (leave_has when k c to next h n)
 
   -- what a declaration gives
 

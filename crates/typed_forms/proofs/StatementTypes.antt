@@ -28,7 +28,7 @@ use Rattle.typed_values.proofs.CleanNotes.{Clean, clean_parts}
 use Rattle.typed_forms.specs.Typed.{NoIntegers}
 use Rattle.typed_forms.proofs.FixedTypes.{FixedHave}
 use Rattle.typed_forms.proofs.PartTypes.{places, Has, AllHave, have_both, source_has}
-use Rattle.typed_forms.proofs.PieceTypes.{leave_has, decl_has, assigned_has, kind_has}
+use Rattle.typed_forms.proofs.PieceTypes.{leave_has, exit_has, decl_has, assigned_has, kind_has}
 use Rattle.typed_forms.proofs.Standing.{Row, row_left, row_right, row_same, Entry, SlotAt, type_at}
 
 module _ (tables : List (List Ty)) (table : List Expr) (result : Ty) (s : Setting) (fixed : FixedHave tables table s.slots result s.numbers.fixed)
@@ -324,7 +324,7 @@ module _ (tables : List (List Ty)) (table : List Expr) (result : Ty) (s : Settin
     statement_has (b.Exit label when) n = record {
       count = leave_count when;
       vars = refl;
-      goes = λ p around next h d. leave_has tables table result s fixed plain hidden when p.expr (node s.goto p.node)
+      goes = λ p around next h d. exit_has tables table result s fixed plain hidden when p.expr (node s.goto p.node)
           (exit_to s.goto.finish around label) next h n;
     }
     statement_has (b.Continue label when) n = record {
