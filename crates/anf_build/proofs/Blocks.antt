@@ -14,8 +14,9 @@ use Rattle.call_forms.specs.declared.forms.Anf.{Anf}
 use Rattle.call_forms.specs.declared.forms.AnfBlock.{AnfBlock}
 use Rattle.anf_build.specs.NormalForm.{IsNormalForm}
 use Rattle.anf_build.specs.Passing.{AreNames, IsBlockOf, arguments, arguments_of, call_of, live_pairs, name_or, named_or, parameters}
-use Rattle.anf_build.specs.Tables.{live_by}
-use Rattle.anf_build.proofs.Lists.{Differ, at_map, from_at_map, from_filter, from_lookup, in_filter, in_place, place_in, slots_differ, some_at, some_same}
+use Rattle.block_graph.specs.Tables.{live_by}
+use Rattle.block_graph.proofs.Lists.{at_map, from_at_map, from_filter, from_lookup, in_filter, in_place, place_in, some_at, some_same}
+use Rattle.anf_build.proofs.Lists.{Differ, slots_differ}
 use Rattle.anf_build.proofs.Names.{Assigns, exit_cases, fed_block, fed_name, live_by_end}
 
 pub map_length : {X Y : Type 0} (f : X → Y) (xs : List X) → length (map f xs) ≡ length xs

@@ -17,8 +17,9 @@ use Rattle.call_forms.specs.declared.forms.Anf.{Anf}
 use Rattle.call_forms.specs.declared.forms.AnfBlock.{AnfBlock}
 use Rattle.anf_build.specs.NormalForm.{IsNormalForm}
 use Rattle.anf_build.specs.Passing.{IsBlockOf, call_of, end_of, live_pairs, parameters}
-use Rattle.anf_build.specs.Tables.{live_by}
-use Rattle.anf_build.proofs.Lists.{Differ, differ_distinct, distinct_filter, from_at_map, from_filter, from_map, in_map, in_place, place_in, some_same}
+use Rattle.block_graph.specs.Tables.{live_by}
+use Rattle.block_graph.proofs.Lists.{from_at_map, from_filter, from_map, in_map, in_place, place_in, some_same}
+use Rattle.anf_build.proofs.Lists.{Differ, differ_distinct, distinct_filter}
 use Rattle.anf_build.proofs.Names.{ReadsSlot, live_by_read, slot_of_read}
 use Rattle.anf_build.proofs.Blocks.{Standing, is_call, is_own, is_parameter, made_of, map_differs, own_slot, pair_at, passes_own, standing, standing_made}
 

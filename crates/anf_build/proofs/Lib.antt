@@ -1,6 +1,4 @@
 mod Lists
-mod Marking
-mod Spreading
 mod Names
 mod Slots
 mod Blocks

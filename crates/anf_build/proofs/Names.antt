@@ -9,7 +9,7 @@ use Rattle.block_forms.specs.Named.{AssignmentRenamed, Feeds, Gives, TermRenamed
 use Rattle.block_forms.specs.Places.{In}
 use Rattle.call_forms.specs.Called.{Among}
 use Rattle.call_forms.specs.Useful.{ReadBySet, SetsAnother}
-use Rattle.anf_build.proofs.Lists.{compared, in_place, place_in, some_at, some_same, tests_other, tests_same}
+use Rattle.block_graph.proofs.Lists.{compared, in_place, place_in, some_at, some_same, tests_other, tests_same}
 
 -- ---- terms
 

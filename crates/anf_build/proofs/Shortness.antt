@@ -11,7 +11,7 @@ use Rattle.call_forms.specs.declared.forms.Anf.{Anf}
 use Rattle.anf_build.specs.NormalForm.{IsNormalForm}
 use Rattle.anf_build.specs.Passing.{arguments_of, call_of, end_of, live_pairs, named_or}
 use Rattle.anf_build.specs.Short.{AnfWithin, CallEndWithin, CallWithin, EndWithin, SetWithin, SsaWithin}
-use Rattle.anf_build.specs.Tables.{live_by}
+use Rattle.block_graph.specs.Tables.{live_by}
 use Rattle.anf_build.proofs.Lists.{fewer}
 use Rattle.anf_build.proofs.Blocks.{made_of, map_length, standing_made}
 

@@ -11,21 +11,13 @@ use Rattle.block_forms.specs.declared.forms.SsaBlock.{SsaBlock}
 use Rattle.block_forms.specs.Forms.{AtTargets, Pairs, at_key}
 use Rattle.block_forms.specs.Live.{Live, LiveEnd, LiveIn}
 use Rattle.block_forms.specs.Named.{EndRenamed, Feeds, Named, exit_map}
-use Rattle.anf_build.specs.Liveness.{IsClosed, marked}
-use Rattle.anf_build.specs.Tables.{AreLiveTables, live_by}
-use Rattle.anf_build.proofs.Lists.{from_lookup, some_at, within_or_past}
-use Rattle.anf_build.proofs.Marking.{more_set}
+use Rattle.block_graph.specs.Liveness.{marked}
+use Rattle.block_graph.specs.Tables.{AreLiveTables, live_by}
+use Rattle.block_graph.proofs.Lists.{from_lookup, some_at, within_or_past}
+use Rattle.block_graph.proofs.Marking.{live_marked}
 use Rattle.anf_build.proofs.Names.{exit_other, fed_block, fed_name, live_cases, name_of_read, set_reads}
 
 -- ---- tables
-
-marked_live : (g : List Block) (s : ℕ) (table : List Bool) → IsClosed g s table → (k b : ℕ) → Live g k b s → marked table b ≡ true
-marked_live g s table closed zero b h = absurd h
-marked_live g s table closed (suc k) b h = go (slice_get g b) refl h (marked_live g s table closed k)
-  where
-    go : (o : Option Block) → slice_get g b ≡ o → LiveIn o (λ c. Live g k c s) s → ((c : ℕ) → Live g k c s → marked table c ≡ true) → marked table b ≡ true
-    go None e i rest = absurd i
-    go (Some x) e i rest = closed b x e (more_set (λ c. Live g k c s) (λ c. marked table c ≡ true) s rest x i)
 
 module _ (g : List Block) (tables : List (List Bool)) (of : AreLiveTables g tables) where
   pub slot_within : (b s : ℕ) → live_by tables b s ≡ true → s < length tables
@@ -38,7 +30,7 @@ module _ (g : List Block) (tables : List (List Bool)) (of : AreLiveTables g tabl
   way_of b s h = (of s (slot_within b s h)).only b h
 
   pub live_of_way : (k b s : ℕ) → s < length tables → Live g k b s → live_by tables b s ≡ true
-  live_of_way k b s lt h = marked_live g s (get_or tables s []) (of s lt).closed k b h
+  live_of_way k b s lt h = live_marked g s (get_or tables s []) (of s lt).closed k b h
 
 -- ---- names of live slots
 

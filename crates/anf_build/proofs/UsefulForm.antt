@@ -19,7 +19,8 @@ use Rattle.call_forms.specs.Forms.{params_of}
 use Rattle.call_forms.specs.Useful.{EndPasses, PassesOn, ReadByEnd, ReadBySet, SetsAnother, UsedHere, UsefulParameters, UsefulWithin}
 use Rattle.anf_build.specs.NormalForm.{IsNormalForm}
 use Rattle.anf_build.specs.Passing.{IsBlockOf, arguments_of, call_of, end_of, live_pairs, named_or, parameters}
-use Rattle.anf_build.proofs.Lists.{at_map, from_at_map, from_lookup, in_lookup, some_same}
+use Rattle.block_graph.proofs.Lists.{at_map, from_at_map, from_lookup, some_same}
+use Rattle.anf_build.proofs.Lists.{in_lookup}
 use Rattle.anf_build.proofs.Names.{exit_other, fed_block, live_cases, name_of_read, set_reads, sets_another}
 use Rattle.anf_build.proofs.Slots.{has_name, live_of_way, slot_within, way_of}
 use Rattle.anf_build.proofs.Blocks.{Standing, made_of, map_differs, named_is, own_slot, pair_at, parameter_of, standing, standing_made}

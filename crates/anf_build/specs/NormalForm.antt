@@ -5,7 +5,7 @@ use Rattle.block_forms.specs.declared.forms.Ssa.{Ssa}
 use Rattle.block_forms.specs.Places.{Each}
 use Rattle.call_forms.specs.declared.forms.Anf.{Anf}
 use Rattle.anf_build.specs.Passing.{AreBlocksOf}
-use Rattle.anf_build.specs.Tables.{AreLiveTables}
+use Rattle.block_graph.specs.Tables.{AreLiveTables}
 
 -- the blocks of a form by some tables of live slots, which have each slot that a name has
 pub record IsNormalForm (g : Goto) (z : Ssa) (a : Anf) : Type 0 where

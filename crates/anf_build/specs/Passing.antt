@@ -12,7 +12,7 @@ use Rattle.call_forms.specs.declared.forms.Call.{Call}
 use Rattle.call_forms.specs.declared.forms.CallEnd.{CallEnd}
 use Rattle.call_forms.specs.declared.forms.AnfBlock.{AnfBlock}
 use Rattle.call_forms.specs.declared.forms.CallEnd.TheVariants.{Go, Pick, Return, Fail}
-use Rattle.anf_build.specs.Tables.{live_by}
+use Rattle.block_graph.specs.Tables.{live_by}
 
 -- ---- names by slot
 

@@ -1,6 +1,7 @@
 //! The normal form of an SSA form.
 
-ghost use Rattle.std.specs.Prelude.{◌≡◌, ℕ, length, IfOk};
+ghost use Rattle.std.specs.Prelude.{◌≡◌, ℕ, ◌<◌, length, IfOk};
+ghost use Rattle.block_forms.specs.Places.{Each};
 ghost use Rattle.call_forms.specs.Called.{Called};
 ghost use Rattle.call_forms.specs.Useful.{UsefulParameters};
 ghost use Rattle.anf_build.specs.NormalForm.{IsNormalForm};
@@ -9,12 +10,26 @@ ghost use Rattle.anf_build.specs.Premises.{IsNamed};
 ghost use Rattle.anf_build.specs.Short.{SsaWithin, AnfWithin};
 
 use crate::calls::block_of;
-use crate::tables::{live_tables, slots_of};
 use away_values::NoMemory;
 use block_forms::{Block, Goto, Ssa, SsaBlock};
+use block_graph::{live_tables, predecessors};
 use call_forms::{Anf, AnfBlock};
 use sqlite_items::Items;
 use std::alloc::{AllocError, Global};
+
+/// A number above each slot that a name has.
+fn slots_of(names: &[u32]) -> usize
+    ensures { Each (λ s. s < result) names.now }
+{
+    let mut slots = 0;
+    for slot in names {
+        let at = *slot as usize;
+        if slots <= at {
+            slots = at + 1;
+        }
+    }
+    slots
+}
 
 /// The blocks of the normal form.
 fn all_blocks(
@@ -39,7 +54,9 @@ pub(crate) fn normal_form(alloc: Global, g: &Goto, s: &Ssa) -> Result<Anf, Alloc
     ensures { IfOk result (λ a. IsNormalForm g.now s.now a) }
 {
     let from = g.blocks.as_slice();
-    let tables = live_tables(alloc, from, slots_of(s.names.as_slice()))?;
+    let sources = predecessors(alloc, from)?;
+    let slots = slots_of(s.names.as_slice());
+    let tables = live_tables(alloc, from, sources.as_slice(), slots)?;
     let blocks = all_blocks(alloc, tables.as_slice(), from, s.blocks.as_slice())?;
     Ok(Anf { blocks })
 }

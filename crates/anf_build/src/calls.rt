@@ -6,8 +6,8 @@ ghost use Rattle.anf_build.specs.Passing as passing;
 ghost use Rattle.anf_build.specs.Passing.{AreNames};
 
 use crate::exits::{exit_names, name_of};
-use crate::tables::is_live;
 use block_forms::{Block, End, SsaBlock, Term};
+use block_graph::is_live;
 use call_forms::{AnfBlock, Call, CallEnd};
 use sqlite_items::Items;
 use std::alloc::{AllocError, Global};
@@ -42,7 +42,7 @@ fn parameters(
     let mut names = Items::new(alloc);
     for pair in map {
         let (slot, name) = *pair;
-        if is_live(tables, block, slot) {
+        if is_live(tables, block, slot as usize) {
             names.push(name)?;
         }
     }
@@ -63,7 +63,7 @@ fn arguments(
     let mut args = Items::new(alloc);
     for pair in map {
         let (slot, name) = *pair;
-        if is_live(tables, callee, slot) {
+        if is_live(tables, callee, slot as usize) {
             args.push(name_of(names, slot, name))?;
         }
     }

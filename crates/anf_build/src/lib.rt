@@ -4,9 +4,6 @@
 mod build;
 mod calls;
 mod exits;
-mod liveness;
-mod sources;
-mod tables;
 
 pub use build::to_calls;
 

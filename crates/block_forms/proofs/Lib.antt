@@ -1,5 +1,6 @@
 pub mod Verdicts
 pub mod Pairs
+pub mod SameLists
 pub mod Keys
 pub mod AlikeMachines
 pub mod SourceEquations

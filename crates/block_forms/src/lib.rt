@@ -7,6 +7,7 @@ mod form;
 mod forms;
 mod laws;
 mod places;
+mod same;
 mod stage;
 #[cfg(test)]
 mod tests;
@@ -17,4 +18,5 @@ pub use form::{Form, GotoForm, SsaForm};
 pub use forms::{Block, End, Goto, Phi, Ssa, SsaBlock, Term};
 pub use laws::{runs_that_end_stay, the_fixed_list_stands, worked_forms_are_lowered};
 pub use places::{Numbers, Place};
+pub use same::{same_assignment, same_numbers, same_term};
 pub use stage::{Stage, Then};

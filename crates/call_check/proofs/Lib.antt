@@ -1,4 +1,3 @@
 pub mod Phis
-pub mod SameLists
 pub mod Counting
 pub mod Seeking

@@ -4,9 +4,8 @@ ghost use Rattle.std.specs.Prelude.{◌≡◌, ℕ, ◌↔◌, IsTrue, List, sli
 ghost use Rattle.block_forms.specs.Places.{Each};
 ghost use Rattle.call_forms.specs.Called.{PassesNames, Passes, CallOf, EndCalled, BlockCalled, HasName, EntryParameters};
 
-use crate::same::{same_assignment, same_term};
 use crate::sources::takes;
-use block_forms::{End, Phi, Ssa, SsaBlock};
+use block_forms::{End, Phi, Ssa, SsaBlock, same_assignment, same_term};
 use call_forms::{Anf, AnfBlock, Call, CallEnd};
 
 /// One name for each parameter: what the parameter takes from block b.

@@ -2,34 +2,8 @@
 
 ghost use Rattle.std.specs.Prelude.{◌≡◌, ℕ, ◌↔◌, IsTrue, List, length, map};
 
-use block_forms::Term;
+use block_forms::{same_assignment, same_numbers, same_term};
 use call_forms::{Anf, AnfBlock, Call, CallEnd};
-
-pub(crate) fn same_term(t: &Term, u: &Term) -> bool
-    ensures { IsTrue result ↔ (t.now ≡ u.now) }
-{
-    t.expr == u.expr && t.names.as_slice() == u.names.as_slice()
-}
-
-pub(crate) fn same_assignment(x: &Option<(u32, Term)>, y: &Option<(u32, Term)>) -> bool
-    ensures { IsTrue result ↔ (x.now ≡ y.now) }
-{
-    match x {
-        None => match y {
-            None => true,
-            Some(_) => false,
-        },
-        Some(a) => match y {
-            None => false,
-            Some(b) => {
-                if a.0 != b.0 {
-                    return false;
-                }
-                same_term(&a.1, &b.1)
-            }
-        },
-    }
-}
 
 fn same_call(x: &Call, y: &Call) -> bool
     ensures { IsTrue result ↔ (x.now ≡ y.now) }
@@ -66,12 +40,6 @@ fn same_end(x: &CallEnd, y: &CallEnd) -> bool
             _ => false,
         },
     }
-}
-
-fn same_numbers(xs: &[u32], ys: &[u32]) -> bool
-    ensures { IsTrue result ↔ (xs.now ≡ ys.now) }
-{
-    xs == ys
 }
 
 fn same_block(x: &AnfBlock, y: &AnfBlock) -> bool

@@ -8,7 +8,7 @@ use Rattle.away_grammar.specs.Grammar.{limit_clause, select, selects, query, nam
 use Rattle.away_grammar.specs.Printing.{printing, names_signs, query_signs}
 use Rattle.away_grammar.specs.Signs.{Sign}
 use Rattle.said_trees.specs.SaysIn.{SaysIn}
-use Rattle.said_trees.specs.SaysIn as s
+use Rattle.said_trees.specs.ReadsIn as s
 use Rattle.printed_nesting.proofs.Room.{Nested, nothing, Fine, looser, in_parentheses}
 use Rattle.printed_nesting.proofs.NestedExpressions as x
 use Rattle.printed_nesting.proofs.NestedQueries as q

@@ -16,7 +16,7 @@ use Rattle.said_trees.specs.SaysIn.{SaysIn}
 use Rattle.printed_nesting.specs.SignNesting.{SignsNestWithin}
 use Rattle.printed_nesting.proofs.PrintedNests.{prints_nested}
 use Rattle.printed_nesting.proofs.Room.{Nested}
-use Rattle.said_trees.proofs.SayingDepth.{said_so}
+use Rattle.said_trees.proofs.ReadingDepth.{read_so}
 use Rattle.printed_nesting.proofs.Textual.{signs_text_is}
 use Rattle.printed_nesting.proofs.WithinRoom.{signs_within, signs_plain, tokens_within}
 
@@ -37,7 +37,7 @@ few_tokens d tokens q few text lexes says within =
 pub said_text_reads : (d : ℕ) (ts : List Sign) (q : Query) → d ≤ most_nesting → AllSpoken ts → SaysIn d file ts q []
     → MayBeRead (query_text q) × ReadsQuery (query_text q) q
 said_text_reads d ts q few h says =
-    let reads : Reads file ts q [] = said_so says in
+    let reads : Reads file ts q [] = read_so says in
     let nested : Nested d (query_signs q) = prints_nested says in
     let lexed = text_reads ts q h reads in
     ((lexed.0, few_tokens d lexed.0 q few (text_is ts q h reads nested) lexed.1 lexed.2 (signs_within (query_signs q) nested)), (lexed.0, lexed.1, lexed.3))

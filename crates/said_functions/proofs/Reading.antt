@@ -18,7 +18,7 @@ pub record Walk (n : Sort) (r : ℕ) (b : Bool) (ts : List Sign) (t : Tree n) (r
   pub behind : Bool
   pub room : Room rest r behind
   pub same : loop_opens ts b ≡ loop_opens rest behind
-  pub reads : ReadsIn r n ts t rest
+  pub reads : ReadsIn true r n ts t rest
 
 -- what stands in no expression isn't walked
 abbrev pub Walked : (n : Sort) → ℕ → Bool → List Sign → Tree n → List Sign → Type 0

@@ -1,5 +1,5 @@
 -- Expressions that spoken signs read as.
-use Rattle.std.specs.Prelude.{ℕ, List}
+use Rattle.std.specs.Prelude.{ℕ, true, List}
 use Rattle.away_grammar.specs.declared.grammar.Level.TheVariants as l
 use Rattle.away_trees.specs.declared.queries.Expr.{Expr}
 use Rattle.away_grammar.specs.Grammar.{at}
@@ -12,4 +12,4 @@ pub record IsReadWithin (d : ℕ) (x : Expr) : Type 0 where
   pub signs : List Sign
   pub rest : List Sign
   pub spoken : AllSpoken signs
-  pub reads : ReadsIn d (at l.Or) signs x rest
+  pub reads : ReadsIn true d (at l.Or) signs x rest

@@ -27,7 +27,7 @@ use Rattle.dotted_names.proofs.Gives.{Every}
 use Rattle.typed_forms.specs.Typed.{HasKind}
 use Rattle.said_trees.specs.CanSay.{CanSay}
 use Rattle.said_trees.specs.SaysIn.{SaysIn}
-use Rattle.said_trees.specs.SaysIn as s
+use Rattle.said_trees.specs.ReadsIn as s
 use Rattle.said_template.proofs.SpokenNames.{NameIsSaid}
 
 -- ---- levels

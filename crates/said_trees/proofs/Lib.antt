@@ -1,5 +1,4 @@
 pub mod ReadingDepth
-pub mod SayingDepth
 pub mod SayNodes
 pub mod SayLevels
 pub mod SayQueries

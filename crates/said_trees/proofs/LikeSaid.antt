@@ -33,7 +33,7 @@ use Rattle.said_trees.proofs.SayQueries as say_query
 use Rattle.said_trees.proofs.LikeNodes as node
 
 -- what is left is spoken
-left : {d : ℕ} {n : Sort} {ts : List Sign} {t : Tree n} {rest : List Sign} → ReadsIn d n ts t rest → AllSpoken ts → AllSpoken rest
+left : {d : ℕ} {n : Sort} {ts : List Sign} {t : Tree n} {rest : List Sign} → ReadsIn true d n ts t rest → AllSpoken ts → AllSpoken rest
 left a h = (prints_clear (read_so a) h).1
 
 behind_perhaps : (w : Bool) (s : Sign) (ts : List Sign) → AllSpoken (perhaps w s ts) → AllSpoken ts
@@ -67,7 +67,7 @@ inside d c = deepened (suc (3 * d + 3)) (3 * suc d + 1) (omega arith) c
 
 -- ---- names
 
-names_said : {d : ℕ} {ts : List Sign} {ns : List (List ℕ)} {rest : List Sign} → ReadsIn d names ts ns rest → AllSpoken ts → (more : ℕ) → CanSay more names ns
+names_said : {d : ℕ} {ts : List Sign} {ns : List (List ℕ)} {rest : List Sign} → ReadsIn true d names ts ns rest → AllSpoken ts → (more : ℕ) → CanSay more names ns
 names_said r.last_name h more = say_query.say_last_name h.0
 names_said (r.another_name a) h more = say_query.say_another_name h.0 (names_said a h.1.1 more)
 
@@ -119,7 +119,7 @@ no_with (parts.union e h) = e
 
 -- ---- all productions
 
-pub like_said : {d : ℕ} {n : Sort} {ts : List Sign} {t : Tree n} {rest : List Sign} → ReadsIn d n ts t rest → AllSpoken ts → (u : Tree n) → Like n t u
+pub like_said : {d : ℕ} {n : Sort} {ts : List Sign} {t : Tree n} {rest : List Sign} → ReadsIn true d n ts t rest → AllSpoken ts → (u : Tree n) → Like n t u
     → CanSay (bound n d) n u
 like_said (r.chain {d = d} {level = v} {more = []} p a b) h u j = chain_wide d v p (say.say_one p (wide d (operands v) (like_said a h u j)))
 like_said (r.chain {d = d} {level = v} {first = f} {more = y ∷ ys} p a b) h u j =

@@ -1,12 +1,12 @@
--- What is read with a depth is read, and read with a greater depth.
-use Rattle.std.proofs.Common.{◌≡◌, ◌≤◌, ℕ, suc, ◌+◌, ◌-◌, List, sym, subst, arith}
+-- What is read with a depth is read, and read with a greater depth; and what is said likewise.
+use Rattle.std.proofs.Common.{◌≡◌, ◌≤◌, ℕ, suc, ◌+◌, ◌-◌, Bool, List, sym, subst, arith}
 use Rattle.away_grammar.specs.Signs.{Sign}
 use Rattle.away_grammar.specs.Grammar.{Sort, Tree, Reads}
 use Rattle.away_grammar.specs.Grammar as g
 use Rattle.said_trees.specs.ReadsIn.{ReadsIn}
 use Rattle.said_trees.specs.ReadsIn as s
 
-pub read_so : {d : ℕ} {n : Sort} {ts : List Sign} {t : Tree n} {rest : List Sign} → ReadsIn d n ts t rest → Reads n ts t rest
+pub read_so : {v : Bool} {d : ℕ} {n : Sort} {ts : List Sign} {t : Tree n} {rest : List Sign} → ReadsIn v d n ts t rest → Reads n ts t rest
 read_so (s.chain a b c) = g.chain a (read_so b) (read_so c)
 read_so s.no_link = g.no_link
 read_so (s.link a b c d) = g.link a b (read_so c) (read_so d)
@@ -82,13 +82,13 @@ read_so (s.with_file a b c d) = g.with_file a b (read_so c) (read_so d)
 suc_add : (d k : ℕ) → suc d + k ≡ suc (d + k)
 suc_add d k = omega arith
 
-up : (d k : ℕ) {n : Sort} {ts : List Sign} {t : Tree n} {rest : List Sign} → ReadsIn (suc (d + k)) n ts t rest → ReadsIn (suc d + k) n ts t rest
-up d k {n = n} {ts = ts} {t = t} {rest = rest} h = subst (λ m. ReadsIn m n ts t rest) (sym (suc_add d k)) h
+up : {v : Bool} (d k : ℕ) {n : Sort} {ts : List Sign} {t : Tree n} {rest : List Sign} → ReadsIn v (suc (d + k)) n ts t rest → ReadsIn v (suc d + k) n ts t rest
+up {v = v} d k {n = n} {ts = ts} {t = t} {rest = rest} h = subst (λ m. ReadsIn v m n ts t rest) (sym (suc_add d k)) h
 
-down : (d k : ℕ) {n : Sort} {ts : List Sign} {t : Tree n} {rest : List Sign} → ReadsIn (suc d + k) n ts t rest → ReadsIn (suc (d + k)) n ts t rest
-down d k {n = n} {ts = ts} {t = t} {rest = rest} h = subst (λ m. ReadsIn m n ts t rest) (suc_add d k) h
+down : {v : Bool} (d k : ℕ) {n : Sort} {ts : List Sign} {t : Tree n} {rest : List Sign} → ReadsIn v (suc d + k) n ts t rest → ReadsIn v (suc (d + k)) n ts t rest
+down {v = v} d k {n = n} {ts = ts} {t = t} {rest = rest} h = subst (λ m. ReadsIn v m n ts t rest) (suc_add d k) h
 
-deeper : (k : ℕ) {d : ℕ} {n : Sort} {ts : List Sign} {t : Tree n} {rest : List Sign} → ReadsIn d n ts t rest → ReadsIn (d + k) n ts t rest
+deeper : (k : ℕ) {v : Bool} {d : ℕ} {n : Sort} {ts : List Sign} {t : Tree n} {rest : List Sign} → ReadsIn v d n ts t rest → ReadsIn v (d + k) n ts t rest
 deeper k (s.chain a b c) = s.chain a (deeper k b) (deeper k c)
 deeper k s.no_link = s.no_link
 deeper k (s.link a b c d) = s.link a b (deeper k c) (deeper k d)
@@ -161,7 +161,7 @@ deeper k (s.recursive_of {d = j} a b c d) = up j k (s.recursive_of a b (deeper k
 deeper k (s.plain_file a b) = s.plain_file a (deeper k b)
 deeper k (s.with_file a b c d) = s.with_file a b (deeper k c) (deeper k d)
 
-pub deepen : (d more : ℕ) {n : Sort} {ts : List Sign} {t : Tree n} {rest : List Sign} → d ≤ more → ReadsIn d n ts t rest → ReadsIn more n ts t rest
-deepen d more {n = n} {ts = ts} {t = t} {rest = rest} h r =
+pub deepen : {v : Bool} (d more : ℕ) {n : Sort} {ts : List Sign} {t : Tree n} {rest : List Sign} → d ≤ more → ReadsIn v d n ts t rest → ReadsIn v more n ts t rest
+deepen {v = v} d more {n = n} {ts = ts} {t = t} {rest = rest} h r =
     let there : d + (more - d) ≡ more = omega arith in
-    subst (λ m. ReadsIn m n ts t rest) there (deeper (more - d) r)
+    subst (λ m. ReadsIn v m n ts t rest) there (deeper (more - d) r)

@@ -16,9 +16,9 @@ use Rattle.away_grammar.specs.Grammar.{Sort, Tree, at, links, list, arms, query,
 use Rattle.away_grammar.specs.Grammar.{type_named, perhaps, IsChain}
 use Rattle.sql_printer.specs.Spoken.{Spoken, AllSpoken}
 use Rattle.sql_printer.proofs.PrintClear.{count_spoken}
-use Rattle.said_trees.specs.SaysIn as s
+use Rattle.said_trees.specs.ReadsIn as s
 use Rattle.said_trees.specs.CanSay.{CanSay}
-use Rattle.said_trees.proofs.SayingDepth.{deepen}
+use Rattle.said_trees.proofs.ReadingDepth.{deepen}
 
 -- a greater depth
 pub deepened : (d more : ℕ) {n : Sort} {t : Tree n} → d ≤ more → CanSay d n t → CanSay more n t

@@ -15,7 +15,7 @@ use Rattle.away_grammar.specs.Signs.{mark, name}
 use Rattle.away_grammar.specs.Grammar.{at, item, items, from_item, from_items, from_clause, where_clause, key, keys, order_clause, limit_clause, select}
 use Rattle.away_grammar.specs.Grammar.{selects, query, names, recursive, file, perhaps, is_number, may_join}
 use Rattle.sql_printer.specs.Spoken.{Spoken}
-use Rattle.said_trees.specs.SaysIn as s
+use Rattle.said_trees.specs.ReadsIn as s
 use Rattle.said_trees.specs.CanSay.{CanSay}
 use Rattle.said_trees.proofs.SayNodes.{perhaps_spoken}
 

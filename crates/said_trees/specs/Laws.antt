@@ -1,5 +1,5 @@
 -- What holds of reading and saying with a depth.
-use Rattle.std.specs.Prelude.{ℕ, ◌+◌, ◌*◌, ◌≤◌, List, ◌≡◌}
+use Rattle.std.specs.Prelude.{ℕ, ◌+◌, ◌*◌, ◌≤◌, true, List, ◌≡◌}
 use Rattle.away_grammar.specs.declared.grammar.Level.TheVariants as l
 use Rattle.away_grammar.specs.Signs.{Sign}
 use Rattle.away_grammar.specs.Grammar.{Sort, at, links, list, arms, item, items, from_item, from_items, from_clause, where_clause, key, keys, order_clause}
@@ -46,18 +46,18 @@ bound n d = 3 * d + 3
 abbrev pub LikeIsSaid : Type 0
 LikeIsSaid =
     (d : ℕ) (n : Sort) (ts : List Sign) (t u : Tree n) (rest : List Sign)
-    → ReadsIn d n ts t rest → AllSpoken ts → Like n t u → CanSay (bound n d) n u
+    → ReadsIn true d n ts t rest → AllSpoken ts → Like n t u → CanSay (bound n d) n u
 
 -- What is read or said with a depth is read.
 abbrev pub ReadSo : Type 0
-ReadSo = (d : ℕ) (n : Sort) (ts : List Sign) (t : Tree n) (rest : List Sign) → ReadsIn d n ts t rest → Reads n ts t rest
+ReadSo = (d : ℕ) (n : Sort) (ts : List Sign) (t : Tree n) (rest : List Sign) → ReadsIn true d n ts t rest → Reads n ts t rest
 
 abbrev pub SaidSo : Type 0
 SaidSo = (d : ℕ) (n : Sort) (ts : List Sign) (t : Tree n) (rest : List Sign) → SaysIn d n ts t rest → Reads n ts t rest
 
 -- A depth may be greater.
 abbrev pub ReadDeeper : Type 0
-ReadDeeper = (d more : ℕ) (n : Sort) (ts : List Sign) (t : Tree n) (rest : List Sign) → d ≤ more → ReadsIn d n ts t rest → ReadsIn more n ts t rest
+ReadDeeper = (d more : ℕ) (n : Sort) (ts : List Sign) (t : Tree n) (rest : List Sign) → d ≤ more → ReadsIn true d n ts t rest → ReadsIn true more n ts t rest
 
 abbrev pub SaidDeeper : Type 0
 SaidDeeper = (d more : ℕ) (n : Sort) (ts : List Sign) (t : Tree n) (rest : List Sign) → d ≤ more → SaysIn d n ts t rest → SaysIn more n ts t rest

@@ -24,156 +24,164 @@ use Rattle.away_grammar.specs.Grammar.{Sort, at, links, list, arms, item, items,
 use Rattle.away_grammar.specs.Grammar.{limit_clause, select, selects, query, names, recursive, file, Tree, operator_of, comparison_of, test_of, literal_of}
 use Rattle.away_grammar.specs.Grammar.{called, type_named, operands, IsChain, chained, perhaps, qualified, is_number, may_join}
 
--- As this sort, the signs of the first list up to the second list read as the tree, with at most so many brackets one inside another.
-pub data ReadsIn : ℕ → (n : Sort) → List Sign → Tree n → List Sign → Type 0 where
+-- As this sort, the signs of the first list up to the second list read as the tree, with at most so many brackets one inside another. Where the flag k is
+-- false no `::` stands there: a cast is written by CAST.
+pub data ReadsIn : Bool → ℕ → (n : Sort) → List Sign → Tree n → List Sign → Type 0 where
   -- and {OR and}, and likewise for AND, `||`, `+ -` and `* / %`
-  chain : {d : ℕ} {level : Level} {ts middle rest : List Sign} {first : Expr} {more : List (ChainOp × Expr)}
-      → IsChain level → ReadsIn d (at (operands level)) ts first middle → ReadsIn d (links level) middle more rest
-      → ReadsIn d (at level) ts (chained first more) rest
-  no_link : {d : ℕ} {level : Level} {ts : List Sign} → ReadsIn d (links level) ts [] ts
-  link : {d : ℕ} {level : Level} {ts middle rest : List Sign} {o : ChainOp} {x : Expr} {more : List (ChainOp × Expr)} (sign : Mark)
-      → operator_of level sign ≡ Some o → ReadsIn d (at (operands level)) ts x middle → ReadsIn d (links level) middle more rest
-      → ReadsIn d (links level) (mark sign ∷ ts) ((o, x) ∷ more) rest
+  chain : {k : Bool} {d : ℕ} {level : Level} {ts middle rest : List Sign} {first : Expr} {more : List (ChainOp × Expr)}
+      → IsChain level → ReadsIn k d (at (operands level)) ts first middle → ReadsIn k d (links level) middle more rest
+      → ReadsIn k d (at level) ts (chained first more) rest
+  no_link : {k : Bool} {d : ℕ} {level : Level} {ts : List Sign} → ReadsIn k d (links level) ts [] ts
+  link : {k : Bool} {d : ℕ} {level : Level} {ts middle rest : List Sign} {o : ChainOp} {x : Expr} {more : List (ChainOp × Expr)} (sign : Mark)
+      → operator_of level sign ≡ Some o → ReadsIn k d (at (operands level)) ts x middle → ReadsIn k d (links level) middle more rest
+      → ReadsIn k d (links level) (mark sign ∷ ts) ((o, x) ∷ more) rest
   -- [NOT] is
-  affirmed : {d : ℕ} {ts rest : List Sign} {x : Expr} → ReadsIn d (at l.Is) ts x rest → ReadsIn d (at l.Not) ts x rest
-  negated : {d : ℕ} {ts rest : List Sign} {x : Expr} → ReadsIn d (at l.Is) ts x rest → ReadsIn d (at l.Not) (mark m.Not ∷ ts) (e.Not x) rest
+  affirmed : {k : Bool} {d : ℕ} {ts rest : List Sign} {x : Expr} → ReadsIn k d (at l.Is) ts x rest → ReadsIn k d (at l.Not) ts x rest
+  negated : {k : Bool} {d : ℕ} {ts rest : List Sign} {x : Expr} → ReadsIn k d (at l.Is) ts x rest → ReadsIn k d (at l.Not) (mark m.Not ∷ ts) (e.Not x) rest
   -- cmp [IS [NOT] (NULL | TRUE | FALSE)]
-  untested : {d : ℕ} {ts rest : List Sign} {x : Expr} → ReadsIn d (at l.Compare) ts x rest → ReadsIn d (at l.Is) ts x rest
-  tested : {d : ℕ} {ts rest : List Sign} {x : Expr} {n : Bool} {test : IsTest} (sign : Mark)
-      → test_of sign ≡ Some test → ReadsIn d (at l.Compare) ts x (mark m.Is ∷ perhaps n (mark m.Not) (mark sign ∷ rest))
-      → ReadsIn d (at l.Is) ts (e.Is x test n) rest
+  untested : {k : Bool} {d : ℕ} {ts rest : List Sign} {x : Expr} → ReadsIn k d (at l.Compare) ts x rest → ReadsIn k d (at l.Is) ts x rest
+  tested : {k : Bool} {d : ℕ} {ts rest : List Sign} {x : Expr} {n : Bool} {test : IsTest} (sign : Mark)
+      → test_of sign ≡ Some test → ReadsIn k d (at l.Compare) ts x (mark m.Is ∷ perhaps n (mark m.Not) (mark sign ∷ rest))
+      → ReadsIn k d (at l.Is) ts (e.Is x test n) rest
   -- range [(= | <> | < | <= | > | >=) range]
-  uncompared : {d : ℕ} {ts rest : List Sign} {x : Expr} → ReadsIn d (at l.Range) ts x rest → ReadsIn d (at l.Compare) ts x rest
-  compared : {d : ℕ} {ts after rest : List Sign} {x y : Expr} {o : CmpOp} (sign : Mark)
-      → comparison_of sign ≡ Some o → ReadsIn d (at l.Range) ts x (mark sign ∷ after) → ReadsIn d (at l.Range) after y rest
-      → ReadsIn d (at l.Compare) ts (e.Compare o x y) rest
+  uncompared : {k : Bool} {d : ℕ} {ts rest : List Sign} {x : Expr} → ReadsIn k d (at l.Range) ts x rest → ReadsIn k d (at l.Compare) ts x rest
+  compared : {k : Bool} {d : ℕ} {ts after rest : List Sign} {x y : Expr} {o : CmpOp} (sign : Mark)
+      → comparison_of sign ≡ Some o → ReadsIn k d (at l.Range) ts x (mark sign ∷ after) → ReadsIn k d (at l.Range) after y rest
+      → ReadsIn k d (at l.Compare) ts (e.Compare o x y) rest
   -- cat [[NOT] BETWEEN cat AND cat | [NOT] IN (list)]
-  unranged : {d : ℕ} {ts rest : List Sign} {x : Expr} → ReadsIn d (at l.Concat) ts x rest → ReadsIn d (at l.Range) ts x rest
-  between : {d : ℕ} {ts after middle rest : List Sign} {x low high : Expr} {n : Bool}
-      → ReadsIn d (at l.Concat) ts x (perhaps n (mark m.Not) (mark m.Between ∷ after)) → ReadsIn d (at l.Concat) after low (mark m.And ∷ middle)
-      → ReadsIn d (at l.Concat) middle high rest
-      → ReadsIn d (at l.Range) ts (e.Between n x low high) rest
-  one_of : {d : ℕ} {ts after rest : List Sign} {x : Expr} {xs : List Expr} {n : Bool}
-      → ReadsIn (suc d) (at l.Concat) ts x (perhaps n (mark m.Not) (mark m.In ∷ mark m.Open ∷ after)) → ReadsIn d list after xs (mark m.Close ∷ rest)
-      → ReadsIn (suc d) (at l.Range) ts (e.OneOf n x xs) rest
+  unranged : {k : Bool} {d : ℕ} {ts rest : List Sign} {x : Expr} → ReadsIn k d (at l.Concat) ts x rest → ReadsIn k d (at l.Range) ts x rest
+  between : {k : Bool} {d : ℕ} {ts after middle rest : List Sign} {x low high : Expr} {n : Bool}
+      → ReadsIn k d (at l.Concat) ts x (perhaps n (mark m.Not) (mark m.Between ∷ after)) → ReadsIn k d (at l.Concat) after low (mark m.And ∷ middle)
+      → ReadsIn k d (at l.Concat) middle high rest
+      → ReadsIn k d (at l.Range) ts (e.Between n x low high) rest
+  one_of : {k : Bool} {d : ℕ} {ts after rest : List Sign} {x : Expr} {xs : List Expr} {n : Bool}
+      → ReadsIn k (suc d) (at l.Concat) ts x (perhaps n (mark m.Not) (mark m.In ∷ mark m.Open ∷ after)) → ReadsIn k d list after xs (mark m.Close ∷ rest)
+      → ReadsIn k (suc d) (at l.Range) ts (e.OneOf n x xs) rest
   -- - 9223372036854775808 | [-] post
-  unsigned : {d : ℕ} {ts rest : List Sign} {x : Expr} → ReadsIn d (at l.Cast) ts x rest → ReadsIn d (at l.Sign) ts x rest
-  signed : {d : ℕ} {ts rest : List Sign} {x : Expr} → ReadsIn d (at l.Cast) ts x rest → ReadsIn d (at l.Sign) (mark m.Minus ∷ ts) (e.Neg x) rest
-  least : {d : ℕ} {rest : List Sign} → ReadsIn d (at l.Sign) (mark m.Minus ∷ integer (2 ^ 63) ∷ rest) (e.Int (negsuc (2 ^ 63 - 1))) rest
+  unsigned : {k : Bool} {d : ℕ} {ts rest : List Sign} {x : Expr} → ReadsIn k d (at l.Cast) ts x rest → ReadsIn k d (at l.Sign) ts x rest
+  signed : {k : Bool} {d : ℕ} {ts rest : List Sign} {x : Expr} → ReadsIn k d (at l.Cast) ts x rest → ReadsIn k d (at l.Sign) (mark m.Minus ∷ ts) (e.Neg x) rest
+  least : {k : Bool} {d : ℕ} {rest : List Sign} → ReadsIn k d (at l.Sign) (mark m.Minus ∷ integer (2 ^ 63) ∷ rest) (e.Int (negsuc (2 ^ 63 - 1))) rest
   -- prim [:: type [:: type]]
-  uncast : {d : ℕ} {ts rest : List Sign} {x : Expr} → ReadsIn d (at l.Primary) ts x rest → ReadsIn d (at l.Cast) ts x rest
+  uncast : {k : Bool} {d : ℕ} {ts rest : List Sign} {x : Expr} → ReadsIn k d (at l.Primary) ts x rest → ReadsIn k d (at l.Cast) ts x rest
   cast_once : {d : ℕ} {ts rest : List Sign} {x : Expr} {ty : Ty} (t : List ℕ) → type_named t ≡ Some ty
-      → ReadsIn d (at l.Primary) ts x (mark m.Colons ∷ name t ∷ rest) → ReadsIn d (at l.Cast) ts (e.Cast x ty) rest
+      → ReadsIn true d (at l.Primary) ts x (mark m.Colons ∷ name t ∷ rest) → ReadsIn true d (at l.Cast) ts (e.Cast x ty) rest
   cast_twice : {d : ℕ} {ts rest : List Sign} {x : Expr} {first second : Ty} (t u : List ℕ)
-      → type_named t ≡ Some first → type_named u ≡ Some second → ReadsIn d (at l.Primary) ts x (mark m.Colons ∷ name t ∷ mark m.Colons ∷ name u ∷ rest)
-      → ReadsIn d (at l.Cast) ts (e.Cast (e.Cast x first) second) rest
+      → type_named t ≡ Some first → type_named u ≡ Some second → ReadsIn true d (at l.Primary) ts x (mark m.Colons ∷ name t ∷ mark m.Colons ∷ name u ∷ rest)
+      → ReadsIn true d (at l.Cast) ts (e.Cast (e.Cast x first) second) rest
   -- what stands alone
-  number : {d : ℕ} {rest : List Sign} {n : ℕ} → n < 2 ^ 63 → ReadsIn d (at l.Primary) (integer n ∷ rest) (e.Int (pos n)) rest
-  text : {d : ℕ} {rest : List Sign} {t : List ℕ} → ReadsIn d (at l.Primary) (string t ∷ rest) (e.Str t) rest
-  literal : {d : ℕ} {rest : List Sign} {x : Expr} (sign : Mark) → literal_of sign ≡ Some x → ReadsIn d (at l.Primary) (mark sign ∷ rest) x rest
-  named : {d : ℕ} {rest : List Sign} {n : List ℕ} → ReadsIn d (at l.Primary) (name n ∷ rest) (e.Named n) rest
-  dotted : {d : ℕ} {rest : List Sign} {n c : List ℕ} → ReadsIn d (at l.Primary) (name n ∷ mark m.Dot ∷ name c ∷ rest) (e.Dotted n c) rest
-  typed_parameter : {d : ℕ} {rest : List Sign} {i : ℕ} {ty : Ty} (t : List ℕ) → type_named t ≡ Some ty
-      → ReadsIn (suc d) (at l.Primary) (mark m.Cast ∷ mark m.Open ∷ parameter i ∷ mark m.As ∷ name t ∷ mark m.Close ∷ rest) (e.Param i ty) rest
+  number : {k : Bool} {d : ℕ} {rest : List Sign} {n : ℕ} → n < 2 ^ 63 → ReadsIn k d (at l.Primary) (integer n ∷ rest) (e.Int (pos n)) rest
+  text : {k : Bool} {d : ℕ} {rest : List Sign} {t : List ℕ} → ReadsIn k d (at l.Primary) (string t ∷ rest) (e.Str t) rest
+  literal : {k : Bool} {d : ℕ} {rest : List Sign} {x : Expr} (sign : Mark) → literal_of sign ≡ Some x → ReadsIn k d (at l.Primary) (mark sign ∷ rest) x rest
+  named : {k : Bool} {d : ℕ} {rest : List Sign} {n : List ℕ} → ReadsIn k d (at l.Primary) (name n ∷ rest) (e.Named n) rest
+  dotted : {k : Bool} {d : ℕ} {rest : List Sign} {n c : List ℕ} → ReadsIn k d (at l.Primary) (name n ∷ mark m.Dot ∷ name c ∷ rest) (e.Dotted n c) rest
+  typed_parameter : {k : Bool} {d : ℕ} {rest : List Sign} {i : ℕ} {ty : Ty} (t : List ℕ) → type_named t ≡ Some ty
+      → ReadsIn k (suc d) (at l.Primary) (mark m.Cast ∷ mark m.Open ∷ parameter i ∷ mark m.As ∷ name t ∷ mark m.Close ∷ rest) (e.Param i ty) rest
   short_parameter : {d : ℕ} {rest : List Sign} {i : ℕ} {ty : Ty} (t : List ℕ) → type_named t ≡ Some ty
-      → ReadsIn d (at l.Primary) (parameter i ∷ mark m.Colons ∷ name t ∷ rest) (e.Param i ty) rest
-  parentheses : {d : ℕ} {ts rest : List Sign} {x : Expr} → ReadsIn d (at l.Or) ts x (mark m.Close ∷ rest)
-      → ReadsIn (suc d) (at l.Primary) (mark m.Open ∷ ts) x rest
-  scalar : {d : ℕ} {ts rest : List Sign} {q : Query} → ReadsIn d query ts q (mark m.Close ∷ rest)
-      → ReadsIn (suc d) (at l.Primary) (mark m.Open ∷ ts) (e.Scalar q) rest
-  cast : {d : ℕ} {ts rest : List Sign} {x : Expr} {ty : Ty} (t : List ℕ) → type_named t ≡ Some ty
-      → ReadsIn d (at l.Or) ts x (mark m.As ∷ name t ∷ mark m.Close ∷ rest)
-      → ReadsIn (suc d) (at l.Primary) (mark m.Cast ∷ mark m.Open ∷ ts) (e.Cast x ty) rest
-  exists : {d : ℕ} {ts rest : List Sign} {q : Query} → ReadsIn d query ts q (mark m.Close ∷ rest)
-      → ReadsIn (suc d) (at l.Primary) (mark m.Exists ∷ mark m.Open ∷ ts) (e.Exists q) rest
-  cases : {d : ℕ} {ts rest : List Sign} {a : Expr × Expr} {more : List (Expr × Expr)} → ReadsIn d arms ts (a ∷ more) (mark m.End ∷ rest)
-      → ReadsIn (suc d) (at l.Primary) (mark m.Case ∷ ts) (e.Cases (a ∷ more) None) rest
-  cases_else : {d : ℕ} {ts middle rest : List Sign} {a : Expr × Expr} {more : List (Expr × Expr)} {x : Expr}
-      → ReadsIn d arms ts (a ∷ more) (mark m.Else ∷ middle) → ReadsIn d (at l.Or) middle x (mark m.End ∷ rest)
-      → ReadsIn (suc d) (at l.Primary) (mark m.Case ∷ ts) (e.Cases (a ∷ more) (Some x)) rest
-  call_word : {d : ℕ} {ts rest : List Sign} {n : List ℕ} {xs : List Expr} (sign : Mark) → called sign ≡ Some n → ReadsIn d list ts xs (mark m.Close ∷ rest)
-      → ReadsIn (suc d) (at l.Primary) (mark sign ∷ mark m.Open ∷ ts) (e.Call n xs) rest
-  count_rows : {d : ℕ} {rest : List Sign}
-      → ReadsIn (suc d) (at l.Primary) (name (codes "count") ∷ mark m.Open ∷ mark m.Star ∷ mark m.Close ∷ rest) e.CountRows rest
-  call_empty : {d : ℕ} {rest : List Sign} {n : List ℕ} → ReadsIn (suc d) (at l.Primary) (name n ∷ mark m.Open ∷ mark m.Close ∷ rest) (e.Call n []) rest
-  call : {d : ℕ} {ts rest : List Sign} {n : List ℕ} {xs : List Expr} → ReadsIn d list ts xs (mark m.Close ∷ rest)
-      → ReadsIn (suc d) (at l.Primary) (name n ∷ mark m.Open ∷ ts) (e.Call n xs) rest
+      → ReadsIn true d (at l.Primary) (parameter i ∷ mark m.Colons ∷ name t ∷ rest) (e.Param i ty) rest
+  parentheses : {k : Bool} {d : ℕ} {ts rest : List Sign} {x : Expr} → ReadsIn k d (at l.Or) ts x (mark m.Close ∷ rest)
+      → ReadsIn k (suc d) (at l.Primary) (mark m.Open ∷ ts) x rest
+  scalar : {k : Bool} {d : ℕ} {ts rest : List Sign} {q : Query} → ReadsIn k d query ts q (mark m.Close ∷ rest)
+      → ReadsIn k (suc d) (at l.Primary) (mark m.Open ∷ ts) (e.Scalar q) rest
+  cast : {k : Bool} {d : ℕ} {ts rest : List Sign} {x : Expr} {ty : Ty} (t : List ℕ) → type_named t ≡ Some ty
+      → ReadsIn k d (at l.Or) ts x (mark m.As ∷ name t ∷ mark m.Close ∷ rest)
+      → ReadsIn k (suc d) (at l.Primary) (mark m.Cast ∷ mark m.Open ∷ ts) (e.Cast x ty) rest
+  exists : {k : Bool} {d : ℕ} {ts rest : List Sign} {q : Query} → ReadsIn k d query ts q (mark m.Close ∷ rest)
+      → ReadsIn k (suc d) (at l.Primary) (mark m.Exists ∷ mark m.Open ∷ ts) (e.Exists q) rest
+  cases : {k : Bool} {d : ℕ} {ts rest : List Sign} {a : Expr × Expr} {more : List (Expr × Expr)} → ReadsIn k d arms ts (a ∷ more) (mark m.End ∷ rest)
+      → ReadsIn k (suc d) (at l.Primary) (mark m.Case ∷ ts) (e.Cases (a ∷ more) None) rest
+  cases_else : {k : Bool} {d : ℕ} {ts middle rest : List Sign} {a : Expr × Expr} {more : List (Expr × Expr)} {x : Expr}
+      → ReadsIn k d arms ts (a ∷ more) (mark m.Else ∷ middle) → ReadsIn k d (at l.Or) middle x (mark m.End ∷ rest)
+      → ReadsIn k (suc d) (at l.Primary) (mark m.Case ∷ ts) (e.Cases (a ∷ more) (Some x)) rest
+  call_word : {k : Bool} {d : ℕ} {ts rest : List Sign} {n : List ℕ} {xs : List Expr} (sign : Mark) → called sign ≡ Some n
+      → ReadsIn k d list ts xs (mark m.Close ∷ rest)
+      → ReadsIn k (suc d) (at l.Primary) (mark sign ∷ mark m.Open ∷ ts) (e.Call n xs) rest
+  count_rows : {k : Bool} {d : ℕ} {rest : List Sign}
+      → ReadsIn k (suc d) (at l.Primary) (name (codes "count") ∷ mark m.Open ∷ mark m.Star ∷ mark m.Close ∷ rest) e.CountRows rest
+  call_empty : {k : Bool} {d : ℕ} {rest : List Sign} {n : List ℕ}
+      → ReadsIn k (suc d) (at l.Primary) (name n ∷ mark m.Open ∷ mark m.Close ∷ rest) (e.Call n []) rest
+  call : {k : Bool} {d : ℕ} {ts rest : List Sign} {n : List ℕ} {xs : List Expr} → ReadsIn k d list ts xs (mark m.Close ∷ rest)
+      → ReadsIn k (suc d) (at l.Primary) (name n ∷ mark m.Open ∷ ts) (e.Call n xs) rest
   -- expr {, expr}
-  last : {d : ℕ} {ts rest : List Sign} {x : Expr} → ReadsIn d (at l.Or) ts x rest → ReadsIn d list ts (x ∷ []) rest
-  another : {d : ℕ} {ts middle rest : List Sign} {x : Expr} {xs : List Expr} → ReadsIn d (at l.Or) ts x (mark m.Comma ∷ middle)
-      → ReadsIn d list middle xs rest → ReadsIn d list ts (x ∷ xs) rest
+  last : {k : Bool} {d : ℕ} {ts rest : List Sign} {x : Expr} → ReadsIn k d (at l.Or) ts x rest → ReadsIn k d list ts (x ∷ []) rest
+  another : {k : Bool} {d : ℕ} {ts middle rest : List Sign} {x : Expr} {xs : List Expr} → ReadsIn k d (at l.Or) ts x (mark m.Comma ∷ middle)
+      → ReadsIn k d list middle xs rest → ReadsIn k d list ts (x ∷ xs) rest
   -- {WHEN expr THEN expr}
-  no_arm : {d : ℕ} {ts : List Sign} → ReadsIn d arms ts [] ts
-  arm : {d : ℕ} {ts middle after rest : List Sign} {test value : Expr} {more : List (Expr × Expr)}
-      → ReadsIn d (at l.Or) ts test (mark m.Then ∷ middle) → ReadsIn d (at l.Or) middle value after → ReadsIn d arms after more rest
-      → ReadsIn d arms (mark m.When ∷ ts) ((test, value) ∷ more) rest
+  no_arm : {k : Bool} {d : ℕ} {ts : List Sign} → ReadsIn k d arms ts [] ts
+  arm : {k : Bool} {d : ℕ} {ts middle after rest : List Sign} {test value : Expr} {more : List (Expr × Expr)}
+      → ReadsIn k d (at l.Or) ts test (mark m.Then ∷ middle) → ReadsIn k d (at l.Or) middle value after → ReadsIn k d arms after more rest
+      → ReadsIn k d arms (mark m.When ∷ ts) ((test, value) ∷ more) rest
   -- expr [AS name]
-  item_alone : {d : ℕ} {ts rest : List Sign} {x : Expr} → ReadsIn d (at l.Or) ts x rest
-      → ReadsIn d item ts (roll-Item (record { expr = x; alias = None })) rest
-  item_as : {d : ℕ} {ts rest : List Sign} {x : Expr} {n : List ℕ} → ReadsIn d (at l.Or) ts x (mark m.As ∷ name n ∷ rest)
-      → ReadsIn d item ts (roll-Item (record { expr = x; alias = Some n })) rest
-  last_item : {d : ℕ} {ts rest : List Sign} {x : Item} → ReadsIn d item ts x rest → ReadsIn d items ts (x ∷ []) rest
-  another_item : {d : ℕ} {ts middle rest : List Sign} {x : Item} {xs : List Item} → ReadsIn d item ts x (mark m.Comma ∷ middle)
-      → ReadsIn d items middle xs rest → ReadsIn d items ts (x ∷ xs) rest
+  item_alone : {k : Bool} {d : ℕ} {ts rest : List Sign} {x : Expr} → ReadsIn k d (at l.Or) ts x rest
+      → ReadsIn k d item ts (roll-Item (record { expr = x; alias = None })) rest
+  item_as : {k : Bool} {d : ℕ} {ts rest : List Sign} {x : Expr} {n : List ℕ} → ReadsIn k d (at l.Or) ts x (mark m.As ∷ name n ∷ rest)
+      → ReadsIn k d item ts (roll-Item (record { expr = x; alias = Some n })) rest
+  last_item : {k : Bool} {d : ℕ} {ts rest : List Sign} {x : Item} → ReadsIn k d item ts x rest → ReadsIn k d items ts (x ∷ []) rest
+  another_item : {k : Bool} {d : ℕ} {ts middle rest : List Sign} {x : Item} {xs : List Item} → ReadsIn k d item ts x (mark m.Comma ∷ middle)
+      → ReadsIn k d items middle xs rest → ReadsIn k d items ts (x ∷ xs) rest
   -- [public .] name [[AS] name] | [LATERAL] ( query ) [AS] name [( name {, name} )]
-  table_alone : {d : ℕ} {rest : List Sign} {n : List ℕ} (q : Bool)
-      → ReadsIn d from_item (qualified q (name n ∷ rest)) (roll-FromItem (record { source = source.Table n; alias = n; columns = [] })) rest
-  table_as : {d : ℕ} {rest : List Sign} {n a : List ℕ} (q w : Bool)
-      → ReadsIn d from_item (qualified q (name n ∷ perhaps w (mark m.As) (name a ∷ rest)))
+  table_alone : {k : Bool} {d : ℕ} {rest : List Sign} {n : List ℕ} (q : Bool)
+      → ReadsIn k d from_item (qualified q (name n ∷ rest)) (roll-FromItem (record { source = source.Table n; alias = n; columns = [] })) rest
+  table_as : {k : Bool} {d : ℕ} {rest : List Sign} {n a : List ℕ} (q w : Bool)
+      → ReadsIn k d from_item (qualified q (name n ∷ perhaps w (mark m.As) (name a ∷ rest)))
       (roll-FromItem (record { source = source.Table n; alias = a; columns = [] })) rest
-  sub_alone : {d : ℕ} {ts rest : List Sign} {q : Query} {a : List ℕ} {v : Bool} (w : Bool)
-      → ReadsIn d query ts q (mark m.Close ∷ perhaps w (mark m.As) (name a ∷ rest))
-      → ReadsIn (suc d) from_item (perhaps v (mark m.Lateral) (mark m.Open ∷ ts))
+  sub_alone : {k : Bool} {d : ℕ} {ts rest : List Sign} {q : Query} {a : List ℕ} {v : Bool} (w : Bool)
+      → ReadsIn k d query ts q (mark m.Close ∷ perhaps w (mark m.As) (name a ∷ rest))
+      → ReadsIn k (suc d) from_item (perhaps v (mark m.Lateral) (mark m.Open ∷ ts))
       (roll-FromItem (record { source = source.Sub q v; alias = a; columns = [] })) rest
-  sub_columns : {d : ℕ} {ts after rest : List Sign} {q : Query} {a : List ℕ} {ns : List (List ℕ)} {v : Bool} (w : Bool)
-      → ReadsIn d query ts q (mark m.Close ∷ perhaps w (mark m.As) (name a ∷ mark m.Open ∷ after)) → ReadsIn d names after ns (mark m.Close ∷ rest)
-      → ReadsIn (suc d) from_item (perhaps v (mark m.Lateral) (mark m.Open ∷ ts))
+  sub_columns : {k : Bool} {d : ℕ} {ts after rest : List Sign} {q : Query} {a : List ℕ} {ns : List (List ℕ)} {v : Bool} (w : Bool)
+      → ReadsIn k d query ts q (mark m.Close ∷ perhaps w (mark m.As) (name a ∷ mark m.Open ∷ after)) → ReadsIn k d names after ns (mark m.Close ∷ rest)
+      → ReadsIn k (suc d) from_item (perhaps v (mark m.Lateral) (mark m.Open ∷ ts))
       (roll-FromItem (record { source = source.Sub q v; alias = a; columns = ns })) rest
-  last_from : {d : ℕ} {ts rest : List Sign} {x : FromItem} → ReadsIn d from_item ts x rest → ReadsIn d from_items ts (x ∷ []) rest
-  another_from : {d : ℕ} {ts middle rest : List Sign} {x : FromItem} {xs : List FromItem} → ReadsIn d from_item ts x (mark m.Comma ∷ middle)
-      → ReadsIn d from_items middle xs rest → ReadsIn d from_items ts (x ∷ xs) rest
+  last_from : {k : Bool} {d : ℕ} {ts rest : List Sign} {x : FromItem} → ReadsIn k d from_item ts x rest → ReadsIn k d from_items ts (x ∷ []) rest
+  another_from : {k : Bool} {d : ℕ} {ts middle rest : List Sign} {x : FromItem} {xs : List FromItem} → ReadsIn k d from_item ts x (mark m.Comma ∷ middle)
+      → ReadsIn k d from_items middle xs rest → ReadsIn k d from_items ts (x ∷ xs) rest
   -- name {, name}
-  last_name : {d : ℕ} {rest : List Sign} {n : List ℕ} → ReadsIn d names (name n ∷ rest) (n ∷ []) rest
-  another_name : {d : ℕ} {middle rest : List Sign} {n : List ℕ} {ns : List (List ℕ)} → ReadsIn d names middle ns rest
-      → ReadsIn d names (name n ∷ mark m.Comma ∷ middle) (n ∷ ns) rest
+  last_name : {k : Bool} {d : ℕ} {rest : List Sign} {n : List ℕ} → ReadsIn k d names (name n ∷ rest) (n ∷ []) rest
+  another_name : {k : Bool} {d : ℕ} {middle rest : List Sign} {n : List ℕ} {ns : List (List ℕ)} → ReadsIn k d names middle ns rest
+      → ReadsIn k d names (name n ∷ mark m.Comma ∷ middle) (n ∷ ns) rest
   -- expr [ASC | DESC]
-  key_alone : {d : ℕ} {ts rest : List Sign} {x : Expr} → is_number x ≡ false → ReadsIn d (at l.Or) ts x rest
-      → ReadsIn d key ts (roll-Key (record { expr = x; descending = false })) rest
-  ascending : {d : ℕ} {ts rest : List Sign} {x : Expr} → is_number x ≡ false → ReadsIn d (at l.Or) ts x (mark m.Asc ∷ rest)
-      → ReadsIn d key ts (roll-Key (record { expr = x; descending = false })) rest
-  descending : {d : ℕ} {ts rest : List Sign} {x : Expr} → is_number x ≡ false → ReadsIn d (at l.Or) ts x (mark m.Desc ∷ rest)
-      → ReadsIn d key ts (roll-Key (record { expr = x; descending = true })) rest
-  last_key : {d : ℕ} {ts rest : List Sign} {x : Key} → ReadsIn d key ts x rest → ReadsIn d keys ts (x ∷ []) rest
-  another_key : {d : ℕ} {ts middle rest : List Sign} {x : Key} {xs : List Key} → ReadsIn d key ts x (mark m.Comma ∷ middle) → ReadsIn d keys middle xs rest
-      → ReadsIn d keys ts (x ∷ xs) rest
+  key_alone : {k : Bool} {d : ℕ} {ts rest : List Sign} {x : Expr} → is_number x ≡ false → ReadsIn k d (at l.Or) ts x rest
+      → ReadsIn k d key ts (roll-Key (record { expr = x; descending = false })) rest
+  ascending : {k : Bool} {d : ℕ} {ts rest : List Sign} {x : Expr} → is_number x ≡ false → ReadsIn k d (at l.Or) ts x (mark m.Asc ∷ rest)
+      → ReadsIn k d key ts (roll-Key (record { expr = x; descending = false })) rest
+  descending : {k : Bool} {d : ℕ} {ts rest : List Sign} {x : Expr} → is_number x ≡ false → ReadsIn k d (at l.Or) ts x (mark m.Desc ∷ rest)
+      → ReadsIn k d key ts (roll-Key (record { expr = x; descending = true })) rest
+  last_key : {k : Bool} {d : ℕ} {ts rest : List Sign} {x : Key} → ReadsIn k d key ts x rest → ReadsIn k d keys ts (x ∷ []) rest
+  another_key : {k : Bool} {d : ℕ} {ts middle rest : List Sign} {x : Key} {xs : List Key} → ReadsIn k d key ts x (mark m.Comma ∷ middle)
+      → ReadsIn k d keys middle xs rest
+      → ReadsIn k d keys ts (x ∷ xs) rest
   -- SELECT item {, item} [FROM from {, from}] [WHERE expr] [ORDER BY key {, key}] [LIMIT expr]
-  no_from : {d : ℕ} {ts : List Sign} → ReadsIn d from_clause ts [] ts
-  from : {d : ℕ} {ts rest : List Sign} {xs : List FromItem} → ReadsIn d from_items ts xs rest → ReadsIn d from_clause (mark m.From ∷ ts) xs rest
-  no_where : {d : ℕ} {ts : List Sign} → ReadsIn d where_clause ts None ts
-  where_of : {d : ℕ} {ts rest : List Sign} {x : Expr} → ReadsIn d (at l.Or) ts x rest → ReadsIn d where_clause (mark m.Where ∷ ts) (Some x) rest
-  no_order : {d : ℕ} {ts : List Sign} → ReadsIn d order_clause ts [] ts
-  order_by : {d : ℕ} {ts rest : List Sign} {xs : List Key} → ReadsIn d keys ts xs rest → ReadsIn d order_clause (mark m.Order ∷ mark m.By ∷ ts) xs rest
-  no_limit : {d : ℕ} {ts : List Sign} → ReadsIn d limit_clause ts None ts
-  limit_of : {d : ℕ} {ts rest : List Sign} {x : Expr} → ReadsIn d (at l.Or) ts x rest → ReadsIn d limit_clause (mark m.Limit ∷ ts) (Some x) rest
-  select_of : {d : ℕ} {ts a b c z rest : List Sign} {xs : List Item} {fs : List FromItem} {w : Option Expr} {ks : List Key} {n : Option Expr}
-      → ReadsIn d items ts xs a → ReadsIn d from_clause a fs b → ReadsIn d where_clause b w c → ReadsIn d order_clause c ks z
-      → ReadsIn d limit_clause z n rest
-      → ReadsIn d select (mark m.Select ∷ ts) (roll-Select (record { list = xs; from = fs; filter = w; order = ks; limit = n })) rest
+  no_from : {k : Bool} {d : ℕ} {ts : List Sign} → ReadsIn k d from_clause ts [] ts
+  from : {k : Bool} {d : ℕ} {ts rest : List Sign} {xs : List FromItem} → ReadsIn k d from_items ts xs rest → ReadsIn k d from_clause (mark m.From ∷ ts) xs rest
+  no_where : {k : Bool} {d : ℕ} {ts : List Sign} → ReadsIn k d where_clause ts None ts
+  where_of : {k : Bool} {d : ℕ} {ts rest : List Sign} {x : Expr} → ReadsIn k d (at l.Or) ts x rest → ReadsIn k d where_clause (mark m.Where ∷ ts) (Some x) rest
+  no_order : {k : Bool} {d : ℕ} {ts : List Sign} → ReadsIn k d order_clause ts [] ts
+  order_by : {k : Bool} {d : ℕ} {ts rest : List Sign} {xs : List Key} → ReadsIn k d keys ts xs rest
+      → ReadsIn k d order_clause (mark m.Order ∷ mark m.By ∷ ts) xs rest
+  no_limit : {k : Bool} {d : ℕ} {ts : List Sign} → ReadsIn k d limit_clause ts None ts
+  limit_of : {k : Bool} {d : ℕ} {ts rest : List Sign} {x : Expr} → ReadsIn k d (at l.Or) ts x rest → ReadsIn k d limit_clause (mark m.Limit ∷ ts) (Some x) rest
+  select_of : {k : Bool} {d : ℕ} {ts a b c z rest : List Sign} {xs : List Item} {fs : List FromItem} {w : Option Expr} {ks : List Key} {n : Option Expr}
+      → ReadsIn k d items ts xs a → ReadsIn k d from_clause a fs b → ReadsIn k d where_clause b w c → ReadsIn k d order_clause c ks z
+      → ReadsIn k d limit_clause z n rest
+      → ReadsIn k d select (mark m.Select ∷ ts) (roll-Select (record { list = xs; from = fs; filter = w; order = ks; limit = n })) rest
   -- select {UNION ALL select}
-  last_select : {d : ℕ} {ts rest : List Sign} {s : Select} → ReadsIn d select ts s rest → ReadsIn d selects ts (s ∷ []) rest
-  another_select : {d : ℕ} {ts middle rest : List Sign} {s : Select} {ss : List Select} → ReadsIn d select ts s (mark m.Union ∷ mark m.All ∷ middle)
-      → ReadsIn d selects middle ss rest → ReadsIn d selects ts (s ∷ ss) rest
-  query_of : {d : ℕ} {ts rest : List Sign} {ss : List Select} → may_join ss ≡ true → ReadsIn d selects ts ss rest
-      → ReadsIn d query ts (roll-Query (record { recursive = None; selects = ss })) rest
+  last_select : {k : Bool} {d : ℕ} {ts rest : List Sign} {s : Select} → ReadsIn k d select ts s rest → ReadsIn k d selects ts (s ∷ []) rest
+  another_select : {k : Bool} {d : ℕ} {ts middle rest : List Sign} {s : Select} {ss : List Select}
+      → ReadsIn k d select ts s (mark m.Union ∷ mark m.All ∷ middle)
+      → ReadsIn k d selects middle ss rest → ReadsIn k d selects ts (s ∷ ss) rest
+  query_of : {k : Bool} {d : ℕ} {ts rest : List Sign} {ss : List Select} → may_join ss ≡ true → ReadsIn k d selects ts ss rest
+      → ReadsIn k d query ts (roll-Query (record { recursive = None; selects = ss })) rest
   -- WITH RECURSIVE name ( name {, name} ) AS ( select {UNION ALL select} UNION ALL select ): the last one is the second term
-  recursive_of : {d : ℕ} {ts after rest : List Sign} {n : List ℕ} {ns : List (List ℕ)} {s : Select} (ss : List Select) (second : Select)
-      → ReadsIn d names ts ns (mark m.Close ∷ mark m.As ∷ mark m.Open ∷ after) → ReadsIn d selects after (s ∷ (ss ++ second ∷ [])) (mark m.Close ∷ rest)
-      → ReadsIn (suc d) recursive (mark m.With ∷ mark m.Recursive ∷ name n ∷ mark m.Open ∷ ts)
+  recursive_of : {k : Bool} {d : ℕ} {ts after rest : List Sign} {n : List ℕ} {ns : List (List ℕ)} {s : Select} (ss : List Select) (second : Select)
+      → ReadsIn k d names ts ns (mark m.Close ∷ mark m.As ∷ mark m.Open ∷ after) → ReadsIn k d selects after (s ∷ (ss ++ second ∷ [])) (mark m.Close ∷ rest)
+      → ReadsIn k (suc d) recursive (mark m.With ∷ mark m.Recursive ∷ name n ∷ mark m.Open ∷ ts)
       (roll-Recursive (record { name = n; columns = ns; first = s ∷ ss; second = second })) rest
   -- [WITH ..] query [;]
-  plain_file : {d : ℕ} {ts rest : List Sign} {q : Query} (w : Bool) → ReadsIn d query ts q (perhaps w (mark m.Semicolon) rest) → ReadsIn d file ts q rest
-  with_file : {d : ℕ} {ts middle rest : List Sign} {r : Recursive} {ss : List Select} (w : Bool) → may_join ss ≡ true → ReadsIn d recursive ts r middle
-      → ReadsIn d selects middle ss (perhaps w (mark m.Semicolon) rest)
-      → ReadsIn d file ts (roll-Query (record { recursive = Some r; selects = ss })) rest
+  plain_file : {k : Bool} {d : ℕ} {ts rest : List Sign} {q : Query} (w : Bool) → ReadsIn k d query ts q (perhaps w (mark m.Semicolon) rest)
+      → ReadsIn k d file ts q rest
+  with_file : {k : Bool} {d : ℕ} {ts middle rest : List Sign} {r : Recursive} {ss : List Select} (w : Bool) → may_join ss ≡ true
+      → ReadsIn k d recursive ts r middle
+      → ReadsIn k d selects middle ss (perhaps w (mark m.Semicolon) rest)
+      → ReadsIn k d file ts (roll-Query (record { recursive = Some r; selects = ss })) rest
   -- name type [NOT NULL]
   -- {CREATE TABLE [public .] name ( column {, column} ) ;}

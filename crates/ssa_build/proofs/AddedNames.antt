@@ -3,11 +3,13 @@ use Rattle.std.proofs.Common.{◌≡◌, ℕ, suc, ◌+◌, ◌<◌, Bool, true,
 use Rattle.std.specs.List.{filter}
 use Rattle.ssa_build.specs.declared.layout.Layout.{Layout}
 use Rattle.ssa_build.specs.Forms.{Block}
-use Rattle.ssa_build.specs.Lists.{count_from}
+use Rattle.block_graph.specs.Ranges.{count_from}
 use Rattle.ssa_build.specs.Names.{NamesBelow, assigned, names_below, next_name, phi_slots, set_slots}
-use Rattle.ssa_build.proofs.Lists.{compared}
-use Rattle.ssa_build.proofs.LoopLists.{filter_no, filter_yes, map_push}
-use Rattle.ssa_build.proofs.Ordered.{count_more, get_new, get_old}
+use Rattle.block_graph.proofs.Lists.{compared}
+use Rattle.block_graph.proofs.Ranges.{filter_no, filter_yes}
+use Rattle.ssa_build.proofs.LoopLists.{map_push}
+use Rattle.block_graph.proofs.Ranges.{count_more}
+use Rattle.ssa_build.proofs.Ordered.{get_new, get_old}
 use Rattle.ssa_build.proofs.Placing.{length_more}
 
 -- ---- a slot more

@@ -9,17 +9,18 @@ use Rattle.ssa_build.specs.FullForms.{IsFullForm, after, live_in, phi_name, set_
 use Rattle.ssa_build.specs.FullJoins.{block_joins, joins_below, slot_join}
 use Rattle.ssa_build.specs.Joins.{Join, Merged, WellFormed}
 use Rattle.block_forms.specs.Places.{In}
-use Rattle.ssa_build.specs.Lists.{count_from}
+use Rattle.block_graph.specs.Ranges.{count_from}
 use Rattle.ssa_build.specs.Maximal.{full_block, full_phi, full_phis, numbered}
 use Rattle.ssa_build.specs.Numbers.{Numbers}
-use Rattle.ssa_build.specs.Sources.{sources_of}
+use Rattle.block_graph.specs.Predecessors.{predecessors_of}
 use Rattle.block_forms.specs.Trivial.{HasNoTrivial}
 use Rattle.ssa_build.proofs.BuiltForm.{built_form, full_form}
 use Rattle.ssa_build.proofs.Counting.{at_numbered, distinct_count, distinct_map, numbered_at}
 use Rattle.ssa_build.proofs.FullForm.{distinct_filter_plain, from_sets, full_named}
 use Rattle.ssa_build.proofs.JoinsOf.{IsJoinOf, JoinsOf, operand}
 use Rattle.ssa_build.proofs.Linked.{merges, reduces, well_formed}
-use Rattle.ssa_build.proofs.Lists.{compared, distinct_both, from_both, from_filter, from_map, in_left, in_map, in_place, in_right, other_number, place_in, same_place, some_at, some_same}
+use Rattle.block_graph.proofs.Lists.{compared, from_both, from_filter, from_map, in_left, in_map, in_place, in_right, other_number, place_in, some_at, some_same}
+use Rattle.ssa_build.proofs.Lists.{distinct_both, same_place}
 use Rattle.ssa_build.proofs.NamesApart.{numbering, phi_high, set_high, slot_named}
 use Rattle.ssa_build.proofs.Naming.{Differ, IsNamed, Sets}
 use Rattle.ssa_build.proofs.Premises.{Closed, Numbering, SetsBelow}
@@ -129,7 +130,7 @@ module _ (g : List Block) (f : FullForm) (form : IsFullForm g f) (sets : SetsBel
     from_joins i j h = from_below l.blocks j (subst (λ v. In v j) of (in_place joins i j h))
 
     is_join : (b s : ℕ) (j : Join) → slot_join f g b s ≡ j → IsJoinOf (φ_of b s) j
-    is_join b s j e = record { name = ap join_name e; operands = operands_of (λ p. after f g p s) (sources_of g b) ∙ ap (λ (v : Join). v.operands) e }
+    is_join b s j e = record { name = ap join_name e; operands = operands_of (λ p. after f g p s) (predecessors_of g b) ∙ ap (λ (v : Join). v.operands) e }
 
     block_here : (b : ℕ) → b < l.blocks → (x : Block) × (slice_get g b ≡ Some x) × (slice_get Z.blocks b ≡ Some (F b x))
     block_here b lt = let x = block_at b lt in (x.0, x.1, numbered_at F 0 b g x.0 x.1 ∙ ap (λ v. Some (F v x.0)) (let q : 0 + b ≡ b = omega arith in q))

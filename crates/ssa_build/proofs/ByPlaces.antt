@@ -9,7 +9,8 @@ use Rattle.block_forms.specs.Leading.{LeadsWithin}
 use Rattle.ssa_build.specs.Forms.{Block, Branch, End, Fail, Goto, Jump, Phi, Return, Ssa, SsaBlock, Term}
 use Rattle.block_forms.specs.Places.{In}
 use Rattle.ssa_build.proofs.Edges.{edge_from_leads, leads_from_edge}
-use Rattle.ssa_build.proofs.Lists.{in_lookup, in_place, none_some, other_number, same_number, same_place, some_at, some_same}
+use Rattle.block_graph.proofs.Lists.{in_place, none_some, other_number, same_number, some_at, some_same}
+use Rattle.ssa_build.proofs.Lists.{in_lookup, same_place}
 use Rattle.ssa_build.proofs.Naming.{Differ, Edge, IsNamed, Leads, SameEnd, SameSet, SameTerm, Spelled, exit_name, is_slot}
 use Rattle.ssa_build.proofs.SetOnce.{once_here, set_once, unset}
 

@@ -7,9 +7,10 @@ use Rattle.block_forms.specs.Places.{Each}
 use Rattle.ssa_build.specs.Forms.{Block, Branch, End, Fail, Jump, Return, Term}
 use Rattle.block_forms.specs.Places.{In}
 use Rattle.block_forms.specs.Live.{Live, LiveEnd, LiveIn, LiveSet}
-use Rattle.ssa_build.specs.Liveness.{marked}
-use Rattle.ssa_build.specs.Tables.{AreLiveTables, live_by}
-use Rattle.ssa_build.proofs.Lists.{place_of, within_or_past}
+use Rattle.block_graph.specs.Liveness.{marked}
+use Rattle.block_graph.specs.Tables.{AreLiveTables, live_by}
+use Rattle.block_graph.proofs.Lists.{within_or_past}
+use Rattle.ssa_build.proofs.Lists.{place_of}
 use Rattle.ssa_build.proofs.Naming.{Edge}
 use Rattle.ssa_build.proofs.Premises.{Closed, SetsBelow}
 

@@ -1,19 +1,12 @@
 -- Membership in numbers in order, and elements with their places.
 use Rattle.std.proofs.Common.{◌≡◌, ℕ, zero, suc, ◌+◌, ◌<◌, ◌≤◌, List, [], ◌∷◌, map, length, slice_get, Some, refl, ap, ◌∙◌, inl, inr, arith}
 use Rattle.block_forms.specs.Places.{In}
-use Rattle.ssa_build.specs.Lists.{count_from}
+use Rattle.block_graph.specs.Ranges.{count_from}
+use Rattle.block_graph.proofs.Ranges.{from_count}
 use Rattle.ssa_build.specs.Maximal.{numbered}
-use Rattle.ssa_build.proofs.Lists.{compared, from_map, in_along, none_some, some_same}
+use Rattle.block_graph.proofs.Lists.{from_map, none_some, some_same}
+use Rattle.ssa_build.proofs.Lists.{in_along}
 use Rattle.ssa_build.proofs.Naming.{Differ}
-
-pub from_count : (i n s : ℕ) → In (count_from i n) s → (i ≤ s) × (s < i + n)
-from_count i zero s m = absurd m
-from_count i (suc n) s (inl e) = (omega (arith, e), omega (arith, e))
-from_count i (suc n) s (inr m) = let r = from_count (suc i) n s m in (omega (arith, r.0), omega (arith, r.1))
-
-pub in_count : (i n s : ℕ) → i ≤ s → s < i + n → In (count_from i n) s
-in_count i zero s le lt = absurd (let no : ⊥ = omega (arith, le, lt) in no)
-in_count i (suc n) s le lt = elim (compared i s) [ inl e ↦ inl e | inr differ ↦ inr (in_count (suc i) n s (omega (arith, le, differ)) (omega (arith, lt))) ]
 
 pub distinct_count : (i n : ℕ) → Differ (count_from i n)
 distinct_count i zero = tt

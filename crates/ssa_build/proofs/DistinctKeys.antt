@@ -6,7 +6,7 @@ use Rattle.std.proofs.lemmas.Map.Keys.{IsDistinct-from_apart}
 use Rattle.std.proofs.lemmas.Map.Steps.{length-le_from_distinct_below}
 use Rattle.std.proofs.lemmas.Option.{get_or_from_slice_get}
 use Rattle.block_forms.specs.Places.{Distinct, Each, In}
-use Rattle.ssa_build.proofs.Lists.{at_map, from_map, place_in, some_at, tests_other}
+use Rattle.block_graph.proofs.Lists.{at_map, from_map, place_in, some_at, tests_other}
 
 in_tested : (q : ℕ) (ns : List ℕ) → list_any (eqb q) ns ≡ true → In ns q
 in_tested q [] h = absurd (let no : ⊥ = cc h in no)

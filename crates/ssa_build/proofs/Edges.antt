@@ -3,7 +3,7 @@ use Rattle.std.proofs.Common.{◌≡◌, ◌⊎◌, ℕ, Bool, true, false, ◌|
 use Rattle.block_forms.specs.Lowered.{end_leads}
 use Rattle.block_forms.specs.Named.{leads}
 use Rattle.ssa_build.specs.Forms.{Block, Branch, End, Fail, Jump, Return}
-use Rattle.ssa_build.proofs.Lists.{same_number, tests_same}
+use Rattle.block_graph.proofs.Lists.{same_number, tests_same}
 use Rattle.ssa_build.proofs.Naming.{Edge, Leads}
 
 or_true : (a b : Bool) → (a || b) ≡ true → (a ≡ true) ⊎ (b ≡ true)

@@ -8,7 +8,7 @@ use Rattle.ssa_build.specs.FewNames.{NamesAreFew}
 use Rattle.ssa_build.specs.Forms.{Goto, Phi, Ssa, SsaBlock}
 use Rattle.ssa_build.specs.SetNames.{NamesAreSet}
 use Rattle.ssa_build.proofs.DistinctKeys.{few_keys}
-use Rattle.ssa_build.proofs.Lists.{within_or_past}
+use Rattle.block_graph.proofs.Lists.{within_or_past}
 use Rattle.ssa_build.proofs.Totals.{total, total_ones, total_places}
 
 mapped_there : (m : Pairs) (o : Option ℕ) (n : ℕ) → Maps m o n → (s : ℕ) × (o ≡ Some s)

@@ -1,7 +1,7 @@
 -- What the operands so far tell.
 use Rattle.std.proofs.Common.{◌≡◌, ◌≢◌, ◌⊎◌, ℕ, ◌+◌, ◌<◌, List, length, get_or, Option, Some, None, sym, ap, ◌∙◌, subst, inl, inr, arith}
 use Rattle.ssa_build.specs.Joins.{IsRoot, Join, JoinsAtMost, walk}
-use Rattle.ssa_build.proofs.Lists.{compared}
+use Rattle.block_graph.proofs.Lists.{compared}
 
 abbrev pub at_most : List ℕ → ℕ → Join → ℕ → ℕ → Type 0
 at_most into merges j m i = (k : ℕ) → k < i → (walk into merges (get_or j.operands k 0) ≡ j.name) ⊎ (walk into merges (get_or j.operands k 0) ≡ m)

@@ -7,12 +7,14 @@ use Rattle.block_forms.specs.Named.{leads}
 use Rattle.block_forms.specs.Places.{first_of}
 use Rattle.ssa_build.specs.Forms.{Block, Branch, End, Fail, Jump, Phi, Return, Ssa, SsaBlock, Term}
 use Rattle.block_forms.specs.Places.{In}
-use Rattle.ssa_build.specs.Lists.{count_from}
+use Rattle.block_graph.specs.Ranges.{count_from}
 use Rattle.block_forms.specs.Live.{LiveEnd, LiveSet}
 use Rattle.ssa_build.specs.Maximal.{after_block, after_set, entry_name, full, full_block, full_phi, full_phis, live_slots, name_after, named_end, named_set, sources}
-use Rattle.ssa_build.proofs.Counting.{at_numbered, distinct_count, distinct_map, in_count, length_numbered}
+use Rattle.block_graph.proofs.Ranges.{in_count}
+use Rattle.ssa_build.proofs.Counting.{at_numbered, distinct_count, distinct_map, length_numbered}
 use Rattle.ssa_build.proofs.Edges.{edge_from_leads, leads_from_edge}
-use Rattle.ssa_build.proofs.Lists.{compared, from_filter, from_lookup, from_map, in_filter, in_lookup, in_map, other_number, some_same, tests_other, tests_same}
+use Rattle.block_graph.proofs.Lists.{compared, from_filter, from_lookup, from_map, in_filter, in_map, other_number, some_same, tests_other, tests_same}
+use Rattle.ssa_build.proofs.Lists.{in_lookup}
 use Rattle.ssa_build.proofs.Naming.{Assigns, Differ, Edge, Flows, IsNamed, IsPhi, Leads, SameEnd, SameSet, Sets, Spelled, exit_name, is_slot, renewed}
 use Rattle.ssa_build.proofs.Premises.{Closed, Numbering}
 

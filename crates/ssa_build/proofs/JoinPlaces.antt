@@ -11,11 +11,11 @@ use Rattle.ssa_build.specs.FullForms.{IsFullForm, after, live_in}
 use Rattle.ssa_build.specs.FullJoins.{block_joins, block_places, join_at, joins_at, joins_below, place, places_below, slot_join}
 use Rattle.ssa_build.specs.JoinPlaces.{AreJoins, IsPlace, joins_of, names_of}
 use Rattle.ssa_build.specs.Joins.{Join, WellFormed}
-use Rattle.ssa_build.specs.Lists.{count_from}
-use Rattle.ssa_build.specs.Sources.{sources_of}
-use Rattle.ssa_build.proofs.Counting.{from_count}
+use Rattle.block_graph.specs.Ranges.{count_from}
+use Rattle.block_graph.specs.Predecessors.{predecessors_of}
+use Rattle.block_graph.proofs.Ranges.{from_count}
 use Rattle.ssa_build.proofs.LoopLists.{sources_held, sources_within}
-use Rattle.ssa_build.proofs.Lists.{at_map, from_both, from_filter, from_map, in_place}
+use Rattle.block_graph.proofs.Lists.{at_map, from_both, from_filter, from_map, in_place}
 
 map_both : {X Y : Type 0} (f : X → Y) (xs ys : List X) → map f (xs ++ ys) ≡ map f xs ++ map f ys
 map_both f [] ys = refl
@@ -102,7 +102,7 @@ within_places x i j at = let lt : i < length (joins_of x) = slice_get_within (jo
 -- ---- the operands of a join, by the blocks that they come from
 
 module _ (x : Joins) (are : AreJoins x) (p : Place) (place_in : IsPlace x.full.now.layout p) (r sources : List ℕ) (is : r ≡ get_or x.full.now.sources.items p.block r) (same : sources ≡ r) where
-  held : sources ≡ sources_of x.blocks.now p.block
+  held : sources ≡ predecessors_of x.blocks.now p.block
   held = sources_held x.blocks.now x.full.now.sources.items p.block r sources are.sources (subst (λ v. p.block < v) (sym are.sized) place_in.0) is same
 
   pub source_in : (k : ℕ) → k < length sources → get_or sources k 0 < x.full.now.layout.blocks
@@ -113,7 +113,7 @@ module _ (x : Joins) (are : AreJoins x) (p : Place) (place_in : IsPlace x.full.n
       ap (λ v. get_or (map (λ b. after x.full.now x.blocks.now b p.slot) v) k 0) (sym held) ∙ get_or_map (λ b. after x.full.now x.blocks.now b p.slot) sources k lt
 
   pub as_many : length (join_at x.full.now x.blocks.now p).operands ≡ length sources
-  as_many = length_map (λ b. after x.full.now x.blocks.now b p.slot) (sources_of x.blocks.now p.block) ∙ ap length (sym held)
+  as_many = length_map (λ b. after x.full.now x.blocks.now b p.slot) (predecessors_of x.blocks.now p.block) ∙ ap length (sym held)
 
 -- ---- the places of the full form
 

@@ -6,7 +6,8 @@ use Rattle.block_forms.specs.Forms.{at_key}
 use Rattle.block_forms.specs.Places.{first_of}
 use Rattle.ssa_build.specs.Forms.{Block, Phi, Ssa, SsaBlock}
 use Rattle.block_forms.specs.Places.{In}
-use Rattle.ssa_build.proofs.Lists.{compared, distinct_filter, from_at_map, from_filter, from_lookup, from_map, same_map, some_same}
+use Rattle.block_graph.proofs.Lists.{compared, from_at_map, from_filter, from_lookup, from_map, some_same}
+use Rattle.ssa_build.proofs.Lists.{distinct_filter, same_map}
 use Rattle.ssa_build.proofs.Merges.{Renames, SetsStaying, replaced, replaced_block, replaced_in, replaced_phi}
 use Rattle.ssa_build.proofs.Naming.{Assigns, Differ, Edge, Flows, IsNamed, IsPhi, SameEnd, SameSet, Sets, exit_name}
 use Rattle.ssa_build.proofs.OfSlots.{assigned_slot}

@@ -18,8 +18,6 @@ mod Counting
 mod Edges
 mod FullForm
 mod Linked
-mod Marking
-mod Widening
 mod Ranks
 mod Renumbered
 mod Closing
@@ -39,7 +37,6 @@ pub mod DistinctKeys
 mod Totals
 mod FewNames
 mod ByPlaces
-mod AddedSources
 mod AddedNames
 mod Sized
 mod Dead

@@ -9,7 +9,8 @@ use Rattle.ssa_build.specs.Merging.{is_end, replacing}
 use Rattle.block_forms.specs.Trivial.{HasNoTrivial}
 use Rattle.ssa_build.proofs.JoinsOf.{JoinsOf, operand}
 use Rattle.ssa_build.proofs.Keeping.{keeps}
-use Rattle.ssa_build.proofs.Lists.{from_map, in_get_or, in_map, place_of, some_same, within_or_past}
+use Rattle.block_graph.proofs.Lists.{from_map, in_map, some_same, within_or_past}
+use Rattle.ssa_build.proofs.Lists.{in_get_or, place_of}
 use Rattle.ssa_build.proofs.Merges.{JoinsOnly, Merges, Renumbers, replaced}
 use Rattle.ssa_build.proofs.Naming.{Assigns, IsNamed}
 use Rattle.ssa_build.proofs.OfSlots.{operand_slot}

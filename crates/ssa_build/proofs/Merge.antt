@@ -2,7 +2,7 @@
 use Rattle.std.proofs.Common.{◌≡◌, ◌≢◌, ◌⊎◌, ℕ, suc, ◌<◌, if◌then◌else◌, List, length, get_or, set, slice_get, Some, nat_eq, refl, sym, ap, ◌∙◌, subst, inl, inr, get_or-set_same, get_or-set_other}
 use Rattle.std.proofs.lemmas.List.{length-set}
 use Rattle.ssa_build.specs.Joins.{IsReduced, IsRoot, IsWithin, Join, JoinsAtMost, Merged, Merging, WellFormed, walk}
-use Rattle.ssa_build.proofs.Lists.{compared, some_same, tests_other, tests_same}
+use Rattle.block_graph.proofs.Lists.{compared, some_same, tests_other, tests_same}
 use Rattle.ssa_build.proofs.Walks.{walk_merged, walk_root, walk_within}
 
 pub merges_start : (slots : List ℕ) (joins : List Join) (into : List ℕ) → WellFormed slots joins → length into ≡ length slots → ((n : ℕ) → n < length into → IsRoot into n) → Merging slots joins into 0

@@ -6,10 +6,10 @@ use Rattle.ssa_build.specs.declared.layout.Layout.{Layout}
 use Rattle.ssa_build.specs.Forms.{Block, Term}
 use Rattle.ssa_build.specs.Layout.{IsLayout}
 use Rattle.block_forms.specs.Places.{In}
-use Rattle.ssa_build.specs.Lists.{count_from}
+use Rattle.block_graph.specs.Ranges.{count_from}
 use Rattle.ssa_build.specs.Names.{NamesBelow, assigned, has_phi, names_below, next_name, phi_slots, set_slots}
-use Rattle.ssa_build.proofs.Counting.{from_count}
-use Rattle.ssa_build.proofs.Lists.{compared, from_both, from_filter, in_place, tests_other, within_or_past}
+use Rattle.block_graph.proofs.Ranges.{from_count}
+use Rattle.block_graph.proofs.Lists.{compared, from_both, from_filter, in_place, tests_other, within_or_past}
 use Rattle.ssa_build.proofs.Ordered.{at_count, at_left, at_right, length_count, map_count, passed_at, passed_few}
 use Rattle.ssa_build.proofs.Premises.{Numbering, SetsBelow}
 

@@ -10,15 +10,16 @@ use Rattle.ssa_build.specs.Forms.{Block, Phi, SsaBlock, Term}
 use Rattle.ssa_build.specs.FullForms.{IsFullForm, live_in, phi_name, set_name}
 use Rattle.ssa_build.specs.FullJoins.{joins_below}
 use Rattle.ssa_build.specs.Joins.{IsRoot, Join, Merged}
-use Rattle.ssa_build.specs.Lists.{count_from}
+use Rattle.block_graph.specs.Ranges.{count_from}
 use Rattle.ssa_build.specs.Maximal.{full_block, full_phi, full_phis, named_set, numbered}
 use Rattle.ssa_build.specs.Merging.{is_end, new_name, replacing}
 use Rattle.ssa_build.specs.Names.{has_phi}
 use Rattle.ssa_build.specs.Numbers.{Numbers}
 use Rattle.ssa_build.proofs.Built.{from_here, from_joins}
 use Rattle.ssa_build.proofs.BuiltForm.{built_form}
-use Rattle.ssa_build.proofs.Counting.{in_count, numbered_at}
-use Rattle.ssa_build.proofs.Lists.{at_map, in_filter, in_map, some_at, tests_same, within_or_past}
+use Rattle.block_graph.proofs.Ranges.{in_count}
+use Rattle.ssa_build.proofs.Counting.{numbered_at}
+use Rattle.block_graph.proofs.Lists.{at_map, in_filter, in_map, some_at, tests_same, within_or_past}
 use Rattle.ssa_build.proofs.Merges.{replaced_block, replaced_set}
 use Rattle.ssa_build.proofs.NamesApart.{phi_high, phi_is, set_is, slot_named}
 use Rattle.ssa_build.proofs.NamesTraced.{IsOfPhi, IsOfSet, traced}

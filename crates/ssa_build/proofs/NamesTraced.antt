@@ -4,10 +4,11 @@ use Rattle.std.proofs.lemmas.List.Elements.{filter-append}
 use Rattle.std.specs.List.{filter}
 use Rattle.ssa_build.specs.declared.layout.Layout.{Layout}
 use Rattle.ssa_build.specs.Forms.{Block, Term}
-use Rattle.ssa_build.specs.Lists.{count_from}
+use Rattle.block_graph.specs.Ranges.{count_from}
 use Rattle.ssa_build.specs.Names.{assigned, has_phi, names_below, next_name, phi_slots, set_slots}
-use Rattle.ssa_build.proofs.Lists.{within_or_past}
-use Rattle.ssa_build.proofs.Ordered.{count_more, length_count}
+use Rattle.block_graph.proofs.Lists.{within_or_past}
+use Rattle.block_graph.proofs.Ranges.{count_more}
+use Rattle.ssa_build.proofs.Ordered.{length_count}
 
 module _ (p : ℕ → Bool) where
   abbrev passed : ℕ → List ℕ

@@ -4,7 +4,8 @@ use Rattle.std.proofs.lemmas.Option.{slice_get_within}
 use Rattle.block_forms.specs.Forms.{at_key}
 use Rattle.ssa_build.specs.Forms.{Block, Phi, Ssa, SsaBlock, Term}
 use Rattle.block_forms.specs.Places.{In}
-use Rattle.ssa_build.proofs.Lists.{from_lookup, in_lookup, same_number, some_at, some_same}
+use Rattle.block_graph.proofs.Lists.{from_lookup, same_number, some_at, some_same}
+use Rattle.ssa_build.proofs.Lists.{in_lookup}
 use Rattle.ssa_build.proofs.Naming.{Assigns, IsNamed, SameSet, exit_name, is_slot, renewed}
 
 module _ (slots params entry : ℕ) (g : List Block) (z : Ssa) (named : IsNamed slots params entry g z) where

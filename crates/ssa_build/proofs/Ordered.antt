@@ -4,15 +4,9 @@ use Rattle.std.proofs.lemmas.Option.{get_or_from_slice_get}
 use Rattle.std.proofs.lemmas.List.Elements.{filter-append}
 use Rattle.std.proofs.lemmas.List.Sums.{count_by-le-length, length-filter}
 use Rattle.std.specs.List.{filter}
-use Rattle.ssa_build.specs.Lists.{count_from}
-use Rattle.ssa_build.proofs.Lists.{at_map}
-
-count_on : (i n : ℕ) → count_from i (suc n) ≡ count_from i n ++ (i + n) ∷ []
-count_on i zero = ap (λ v. v ∷ []) (let e : i ≡ i + 0 = omega arith in e)
-count_on i (suc n) = ap (λ l. i ∷ l) (count_on (suc i) n ∙ ap (λ v. count_from (suc i) n ++ v ∷ []) (let e : suc i + n ≡ i + suc n = omega arith in e))
-
-pub count_more : (n : ℕ) → count_from 0 (n + 1) ≡ count_from 0 n ++ n ∷ []
-count_more n = ap (count_from 0) (let e : n + 1 ≡ suc n = omega arith in e) ∙ count_on 0 n ∙ ap (λ v. count_from 0 n ++ v ∷ []) (let e : 0 + n ≡ n = omega arith in e)
+use Rattle.block_graph.specs.Ranges.{count_from}
+use Rattle.block_graph.proofs.Ranges.{count_more}
+use Rattle.block_graph.proofs.Lists.{at_map}
 
 pub pushed : (xs ys : List ℕ) (n : ℕ) → ys ≡ xs ++ count_from 0 n → ys ++ n ∷ [] ≡ xs ++ count_from 0 (n + 1)
 pushed xs ys n e = ap (λ l. l ++ n ∷ []) e ∙ append_assoc xs (count_from 0 n) (n ∷ []) ∙ ap (λ l. xs ++ l) (sym (count_more n))

@@ -1,7 +1,7 @@
 -- Blocks by place, and blocks by their parts.
 use Rattle.std.proofs.Common.{◌≡◌, ℕ, zero, suc, ◌+◌, List, [], ◌∷◌, ◌++◌, map, length, slice_get, Option, Some, refl, sym, ap, ◌∙◌, subst, arith}
 use Rattle.ssa_build.specs.Forms.{End, Phi, SsaBlock, Term}
-use Rattle.ssa_build.proofs.Lists.{none_some, some_same}
+use Rattle.block_graph.proofs.Lists.{none_some, some_same}
 
 pub map_plain : {X : Type 0} (xs : List X) → map (λ x. x) xs ≡ xs
 map_plain [] = refl

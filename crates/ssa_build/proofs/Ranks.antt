@@ -2,7 +2,7 @@
 use Rattle.std.proofs.Common.{◌≡◌, ◌⊎◌, ℕ, zero, suc, ◌+◌, ◌<◌, ◌≤◌, List, [], ◌∷◌, ◌++◌, length, get_or, refl, sym, ap, ◌∙◌, subst, inl, inr, arith}
 use Rattle.ssa_build.specs.Joins.{IsRoot}
 use Rattle.ssa_build.specs.Numbers.{Numbers}
-use Rattle.ssa_build.proofs.Lists.{compared}
+use Rattle.block_graph.proofs.Lists.{compared}
 
 pub at_old : (xs : List ℕ) (v k : ℕ) → k < length xs → get_or (xs ++ v ∷ []) k 0 ≡ get_or xs k 0
 at_old [] v k lt = absurd (let no : ⊥ = omega arith in no)

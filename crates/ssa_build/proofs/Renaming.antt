@@ -5,7 +5,7 @@ use Rattle.block_forms.specs.Places.{In}
 use Rattle.ssa_build.specs.Merging.{is_end}
 use Rattle.block_forms.specs.Trivial.{HasNoTrivial, IsTrivial}
 use Rattle.ssa_build.proofs.Keeping.{each_block}
-use Rattle.ssa_build.proofs.Lists.{compared, in_map, other_number, same_number}
+use Rattle.block_graph.proofs.Lists.{compared, in_map, other_number, same_number}
 use Rattle.ssa_build.proofs.Merges.{JoinsOnly, Merges, Renames, Renumbers, SetsStaying, replaced, replaced_block, replaced_in, replaced_phi}
 use Rattle.ssa_build.proofs.Naming.{IsNamed, Sets}
 use Rattle.ssa_build.proofs.OfSlots.{assigned_slot, operand_slot}

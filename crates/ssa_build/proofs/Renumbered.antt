@@ -6,7 +6,7 @@ use Rattle.ssa_build.specs.Forms.{Block, Ssa}
 use Rattle.ssa_build.specs.Joins.{IsRoot}
 use Rattle.ssa_build.specs.Merging.{replacing}
 use Rattle.ssa_build.specs.Numbers.{Numbers}
-use Rattle.ssa_build.proofs.Lists.{compared, within_or_past}
+use Rattle.block_graph.proofs.Lists.{compared, within_or_past}
 use Rattle.ssa_build.proofs.Merges.{Merges, Renumbers}
 use Rattle.ssa_build.proofs.Naming.{IsNamed}
 

@@ -5,7 +5,7 @@ use Rattle.block_forms.specs.Forms.{at_key}
 use Rattle.block_forms.specs.Places.{first_of}
 use Rattle.ssa_build.specs.Forms.{Branch, End, Fail, Jump, Phi, Return, SsaBlock, Term}
 use Rattle.block_forms.specs.Places.{In}
-use Rattle.ssa_build.proofs.Lists.{from_filter, from_map, in_filter, in_map, none_some, some_same}
+use Rattle.block_graph.proofs.Lists.{from_filter, from_map, in_filter, in_map, none_some, some_same}
 use Rattle.ssa_build.proofs.Merges.{SetsStaying, replaced_block, replaced_end, replaced_in, replaced_phi, replaced_set, replaced_term}
 use Rattle.ssa_build.proofs.Naming.{Assigns, IsPhi, SameEnd, SameSet, SameTerm, Sets, Spelled, is_slot, renewed}
 

@@ -8,15 +8,16 @@ use Rattle.ssa_build.specs.declared.layout.Layout.{Layout}
 use Rattle.ssa_build.specs.Blocks.{term}
 use Rattle.ssa_build.specs.Forms.{Block, Branch, End, Fail, Jump, Phi, Return, SsaBlock, Term}
 use Rattle.ssa_build.specs.FullForms.{after, before, live_in, phi_name, set_name}
-use Rattle.ssa_build.specs.Lists.{count_from}
+use Rattle.block_graph.specs.Ranges.{count_from}
 use Rattle.ssa_build.specs.Maximal.{after_set, full_block, full_phi, full_phis, named_end, named_set, numbered}
 use Rattle.ssa_build.specs.Merging.{is_end, new_name, replacing}
 use Rattle.ssa_build.specs.Output.{new_after, new_block, new_end, new_phi, new_phis, new_set, phi}
-use Rattle.ssa_build.specs.Sources.{sources_of}
+use Rattle.block_graph.specs.Predecessors.{predecessors_of}
 use Rattle.ssa_build.specs.Writing.{AreNewBlocks}
 use Rattle.ssa_build.proofs.BuiltForm.{built_form}
 use Rattle.ssa_build.proofs.Counting.{length_numbered, numbered_at}
-use Rattle.ssa_build.proofs.Lists.{at_map, same_map, some_at}
+use Rattle.block_graph.proofs.Lists.{at_map, some_at}
+use Rattle.ssa_build.proofs.Lists.{same_map}
 use Rattle.ssa_build.proofs.Merges.{replaced_block, replaced_end, replaced_in, replaced_phi, replaced_set}
 use Rattle.ssa_build.proofs.Placing.{same_block, same_list}
 
@@ -67,7 +68,7 @@ module _ (f : FullForm) (g : List Block) (into numbers : List ℕ) where
   phis_same b = go (nat_eq b l.entry)
     where
       one : (s : ℕ) → new_phi f g into numbers b s ≡ replaced_phi τ stays (φ_of b s)
-      one s = ap (phi (τ (phi_name f b s))) (sym (map_map (replaced_in τ stays) (λ p. (p, after f g p s)) (sources_of g b)))
+      one s = ap (phi (τ (phi_name f b s))) (sym (map_map (replaced_in τ stays) (λ p. (p, after f g p s)) (predecessors_of g b)))
 
       go : (c : Bool) → (if c then [] else map (new_phi f g into numbers b) (filter (λ s. live b s && stays (phi_name f b s)) (count_from 0 l.slots))) ≡ map (replaced_phi τ stays) (filter (λ φ. stays φ.name) (full_phis l.slots l.entry g live (phi_name f) (set_name f) c b))
       go true = refl

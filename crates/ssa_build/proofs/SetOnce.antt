@@ -6,7 +6,8 @@ use Rattle.block_forms.specs.Named.{assigns_to, phis_with_name, places_that_set}
 use Rattle.ssa_build.specs.Forms.{Phi, SsaBlock, Term}
 use Rattle.block_forms.specs.Places.{In}
 use Rattle.ssa_build.proofs.Keeping.{has_phi}
-use Rattle.ssa_build.proofs.Lists.{compared, in_along, in_map, tests_other, tests_same}
+use Rattle.block_graph.proofs.Lists.{compared, in_map, tests_other, tests_same}
+use Rattle.ssa_build.proofs.Lists.{in_along}
 use Rattle.ssa_build.proofs.Naming.{Assigns, Differ, IsPhi, Sets}
 
 abbrev pub here : SsaBlock → ℕ → ℕ

@@ -5,7 +5,7 @@ use Rattle.block_forms.specs.Lowered.{one_of}
 use Rattle.block_forms.specs.Named.{assigns_to, phis_with_name, places_that_set}
 use Rattle.block_forms.specs.Places.{In}
 use Rattle.ssa_build.specs.Forms.{Phi, SsaBlock, Term}
-use Rattle.ssa_build.proofs.Lists.{none_some, some_same, tests_same}
+use Rattle.block_graph.proofs.Lists.{none_some, some_same, tests_same}
 use Rattle.ssa_build.proofs.Naming.{Assigns, Sets}
 use Rattle.ssa_build.proofs.SetOnce.{here}
 

@@ -6,7 +6,7 @@ use Rattle.ssa_build.specs.declared.layout.Layout.{Layout}
 use Rattle.ssa_build.specs.Forms.{Block}
 use Rattle.ssa_build.specs.FullForms.{IsSized, live_in}
 use Rattle.ssa_build.specs.Layout.{IsLayout}
-use Rattle.ssa_build.specs.Lists.{count_from}
+use Rattle.block_graph.specs.Ranges.{count_from}
 use Rattle.ssa_build.specs.Names.{NamesBelow, next_name}
 use Rattle.ssa_build.proofs.Ordered.{length_count}
 

@@ -5,7 +5,7 @@ use Rattle.block_forms.specs.Forms.{Assignment}
 use Rattle.block_forms.specs.Lowered.{one_of}
 use Rattle.block_forms.specs.Named.{assigns_to, phis_with_name, places_that_set}
 use Rattle.ssa_build.specs.Forms.{Phi, SsaBlock}
-use Rattle.ssa_build.proofs.Lists.{compared, tests_other, tests_same}
+use Rattle.block_graph.proofs.Lists.{compared, tests_other, tests_same}
 
 -- of n numbers from i on
 abbrev pub total : (ℕ → ℕ) → ℕ → ℕ → ℕ

@@ -1,6 +1,6 @@
 -- Which of so many places were visited: the first ones, or the last ones.
 use Rattle.std.proofs.Common.{◌≡◌, ◌⊎◌, ℕ, ◌+◌, ◌-◌, ◌<◌, ◌≤◌, inl, inr, arith}
-use Rattle.ssa_build.proofs.Lists.{compared}
+use Rattle.block_graph.proofs.Lists.{compared}
 
 abbrev pub first : ℕ → ℕ → Type 0
 first done i = i < done

@@ -1,7 +1,7 @@
 -- Walks along entries, and what one more merge does to them.
 use Rattle.std.proofs.Common.{◌≡◌, ◌≢◌, ◌⊎◌, ℕ, zero, suc, ◌+◌, ◌-◌, ◌<◌, ◌≤◌, true, false, if◌then◌else◌, List, [], ◌∷◌, length, get_or, set, nat_eq, refl, sym, ap, ◌∙◌, inl, inr, arith, get_or-set_same, get_or-set_other}
 use Rattle.ssa_build.specs.Joins.{IsRoot, IsWithin, one_if, roots, walk}
-use Rattle.ssa_build.proofs.Lists.{compared, tests_other, tests_same}
+use Rattle.block_graph.proofs.Lists.{compared, tests_other, tests_same}
 
 pub walk_within : (into : List ℕ) (k n : ℕ) → IsWithin into → n < length into → walk into k n < length into
 walk_within into zero n w h = h

@@ -5,8 +5,8 @@ use Rattle.ssa_build.specs.Forms.{Block}
 use Rattle.ssa_build.specs.Layout.{IsLayout}
 use Rattle.ssa_build.specs.Maximal.{name_after}
 use Rattle.ssa_build.specs.Names.{NamesBelow}
-use Rattle.ssa_build.specs.Sources.{AreSources}
-use Rattle.ssa_build.specs.Tables.{AreLiveTables, live_by}
+use Rattle.block_graph.specs.Predecessors.{ArePredecessors}
+use Rattle.block_graph.specs.Tables.{AreLiveTables, live_by}
 
 abbrev pub phi_name : FullForm → ℕ → ℕ → ℕ
 phi_name f b s = get_or (get_or f.names.phis.items b []) s 0
@@ -43,4 +43,4 @@ pub record IsFullForm (g : List Block) (f : FullForm) : Type 0 where
   pub tables : IsSized f
   pub live : AreLiveTables g f.live.items
   pub names : NamesBelow f.layout (live_in f) g f.layout.blocks f.names.slots.items f.names.phis.items f.names.sets.items
-  pub sources : AreSources g (length g) f.sources.items
+  pub sources : ArePredecessors g (length g) f.sources.items

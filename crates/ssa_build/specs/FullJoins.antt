@@ -6,15 +6,15 @@ use Rattle.ssa_build.specs.declared.places.Place.{Place}
 use Rattle.ssa_build.specs.Forms.{Block}
 use Rattle.ssa_build.specs.FullForms.{after, live_in, phi_name}
 use Rattle.ssa_build.specs.Joins.{Join}
-use Rattle.ssa_build.specs.Lists.{count_from}
-use Rattle.ssa_build.specs.Sources.{sources_of}
+use Rattle.block_graph.specs.Ranges.{count_from}
+use Rattle.block_graph.specs.Predecessors.{predecessors_of}
 
 abbrev pub join : ℕ → ℕ → List ℕ → Join
 join n s os = record { name = n; spare = s; operands = os }
 
 -- the spare name of a slot is its first
 abbrev pub slot_join : FullForm → List Block → ℕ → ℕ → Join
-slot_join f g b s = join (phi_name f b s) s (map (λ p. after f g p s) (sources_of g b))
+slot_join f g b s = join (phi_name f b s) s (map (λ p. after f g p s) (predecessors_of g b))
 
 abbrev pub block_joins : FullForm → List Block → ℕ → List Join
 block_joins f g b = if nat_eq b f.layout.entry then [] else map (slot_join f g b) (filter (live_in f b) (count_from 0 f.layout.slots))

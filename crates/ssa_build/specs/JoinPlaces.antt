@@ -6,7 +6,7 @@ use Rattle.ssa_build.specs.declared.places.Place.{Place}
 use Rattle.ssa_build.specs.FullForms.{IsSized}
 use Rattle.ssa_build.specs.FullJoins.{joins_at}
 use Rattle.ssa_build.specs.Joins.{Join, WellFormed}
-use Rattle.ssa_build.specs.Sources.{AreSources}
+use Rattle.block_graph.specs.Predecessors.{ArePredecessors}
 
 abbrev pub IsPlace : Layout → Place → Type 0
 IsPlace l p = (p.block < l.blocks) × (p.slot < l.slots)
@@ -21,6 +21,6 @@ joins_of x = joins_at x.full.now x.blocks.now x.places.now
 pub record AreJoins (x : Joins) : Type 0 where
   pub tables : IsSized x.full.now
   pub sized : length x.blocks.now ≡ x.full.now.layout.blocks
-  pub sources : AreSources x.blocks.now (length x.blocks.now) x.full.now.sources.items
+  pub sources : ArePredecessors x.blocks.now (length x.blocks.now) x.full.now.sources.items
   pub places : (i : ℕ) (p : Place) → slice_get x.places.now i ≡ Some p → IsPlace x.full.now.layout p
   pub formed : WellFormed (names_of x) (joins_of x)

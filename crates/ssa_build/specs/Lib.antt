@@ -1,11 +1,7 @@
 pub mod Forms
-pub mod Lists
 pub mod Blocks
-pub mod Liveness
-pub mod Tables
 pub mod Layout
 pub mod Names
-pub mod Sources
 pub mod Maximal
 pub mod FullForms
 pub mod Joins

@@ -4,7 +4,7 @@ use Rattle.std.specs.List.{filter}
 use Rattle.block_forms.specs.Named.{leads}
 use Rattle.ssa_build.specs.Blocks.{term}
 use Rattle.ssa_build.specs.Forms.{Block, Branch, End, Fail, Jump, Phi, Return, Ssa, SsaBlock, Term}
-use Rattle.ssa_build.specs.Lists.{count_from}
+use Rattle.block_graph.specs.Ranges.{count_from}
 
 -- each element by its place, from i on
 abbrev pub numbered : {X Y : Type 0} → (ℕ → X → Y) → ℕ → List X → List Y

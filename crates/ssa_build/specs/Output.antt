@@ -5,9 +5,9 @@ use Rattle.ssa_build.specs.declared.full.FullForm.{FullForm}
 use Rattle.ssa_build.specs.Blocks.{term}
 use Rattle.ssa_build.specs.Forms.{Block, Branch, End, Fail, Jump, Phi, Return, SsaBlock, Term}
 use Rattle.ssa_build.specs.FullForms.{after, before, live_in, phi_name, set_name}
-use Rattle.ssa_build.specs.Lists.{count_from}
+use Rattle.block_graph.specs.Ranges.{count_from}
 use Rattle.ssa_build.specs.Merging.{is_end, new_name, replacing}
-use Rattle.ssa_build.specs.Sources.{sources_of}
+use Rattle.block_graph.specs.Predecessors.{predecessors_of}
 
 abbrev pub phi : ℕ → List (ℕ × ℕ) → Phi
 phi n os = record { name = n; operands = os }
@@ -22,7 +22,7 @@ module _ (f : FullForm) (g : List Block) (into numbers : List ℕ) where
 
   -- the φ of a slot, as it is written
   abbrev pub new_phi : ℕ → ℕ → Phi
-  new_phi b s = phi (new_name into numbers (phi_name f b s)) (map (λ p. (p, new_after p s)) (sources_of g b))
+  new_phi b s = phi (new_name into numbers (phi_name f b s)) (map (λ p. (p, new_after p s)) (predecessors_of g b))
 
   abbrev pub term_before : ℕ → Term → Term
   term_before b t = term t.expr (map (new_before b) t.names)

@@ -7,9 +7,8 @@ ghost use Rattle.ssa_build.specs.Layout.{IsLayout};
 
 use crate::layout::Layout;
 use crate::names::{Names, full_names};
-use crate::sources::all_sources;
-use crate::tables::live_tables;
 use block_forms::Block;
+use block_graph::{live_tables, predecessors};
 use sqlite_items::Items;
 use std::alloc::{AllocError, Global};
 
@@ -19,7 +18,7 @@ pub(crate) struct FullForm {
     pub(crate) layout: Layout,
     pub(crate) live: Vec<Items<bool>>,
     pub(crate) names: Names,
-    pub(crate) sources: Vec<Items<u32>>,
+    pub(crate) sources: Vec<Items<usize>>,
 }
 
 /// The tables of the full form.
@@ -33,9 +32,9 @@ pub(crate) fn full_form(
     ensures layout { IfOk result (λ f. f.layout ≡ layout) }
     ensures tables { IfOk result (λ f. IsFullForm blocks.now f) }
 {
-    let live = live_tables(alloc, blocks, layout.slots as u32)?;
+    let sources = predecessors(alloc, blocks)?;
+    let live = live_tables(alloc, blocks, sources.as_slice(), layout.slots)?;
     let names = full_names(alloc, layout, blocks, &live)?;
-    let sources = all_sources(alloc, blocks)?;
     Ok(FullForm {
         layout,
         live,

@@ -47,7 +47,7 @@ pub(crate) fn joined_names(joins: &Joins<'_>, place: Place, into: &[u32], merges
     let joined = phi_name(joins.full, block, place.slot as usize);
     let mut only: Option<u32> = None;
     for source in joins.full.sources[block].as_slice() {
-        let operand = name_after(joins.full, joins.blocks, *source as usize, place.slot);
+        let operand = name_after(joins.full, joins.blocks, *source, place.slot);
         let name = root(into, merges, operand);
         if name != joined {
             match only {

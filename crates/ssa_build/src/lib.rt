@@ -6,15 +6,12 @@ mod full;
 mod joins;
 mod laws;
 mod layout;
-mod liveness;
 mod names;
 mod numbers;
 mod output;
 mod phis;
 mod places;
 mod renames;
-mod sources;
-mod tables;
 mod writing;
 
 pub use build::build_ssa;

@@ -2,13 +2,13 @@
 
 ghost use Rattle.std.specs.Prelude.{◌≡◌, ◌+◌, ◌^◌, ◌<◌, ◌++◌, length, IfOk};
 ghost use Rattle.ssa_build.specs.Layout.{IsLayout};
-ghost use Rattle.ssa_build.specs.Lists.{count_from};
+ghost use Rattle.block_graph.specs.Ranges.{count_from};
 ghost use Rattle.ssa_build.specs.Names as names_of;
-ghost use Rattle.ssa_build.specs.Tables.{live_by};
+ghost use Rattle.block_graph.specs.Tables.{live_by};
 
 use crate::layout::Layout;
-use crate::liveness::is_marked;
 use block_forms::Block;
+use block_graph::is_live;
 use sqlite_items::Items;
 use std::alloc::{AllocError, Global};
 
@@ -22,15 +22,12 @@ pub(crate) struct Names {
 
 /// Whether a slot has a φ in a block.
 fn has_phi(layout: Layout, live: &[Items<bool>], block: usize, slot: usize) -> bool
-    requires long { length live.now ≡ layout.slots }
-    requires slot_in { slot < layout.slots }
-    requires block_in { block < 2 ^ 32 }
     ensures { result ≡ names_of.has_phi layout (live_by live.now) block slot }
 {
     if block == layout.entry {
         false
     } else {
-        is_marked(live[slot].as_slice(), block as u32)
+        is_live(live, block, slot)
     }
 }
 
@@ -53,8 +50,6 @@ fn push_phis(
     block: usize,
     names: &mut Vec<u32>,
 ) -> Result<Items<u32>, AllocError>
-    requires long { length live.now ≡ layout.slots }
-    requires block_in { block < 2 ^ 32 }
     requires room { length names.old.items + layout.slots < 2 ^ 32 }
     ensures names { IfOk result (λ _. names.new.items ≡ names.old.items ++ names_of.phi_slots layout (live_by live.now) block layout.slots) }
     ensures row { IfOk result (λ row. row ≡ names_of.next_row layout (live_by live.now) block (length names.old.items)) }

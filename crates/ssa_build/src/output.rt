@@ -6,12 +6,12 @@ ghost use Rattle.ssa_build.specs.FullForms.{IsSized};
 ghost use Rattle.ssa_build.specs.Merging as merging_of;
 ghost use Rattle.ssa_build.specs.Merging.{replacing};
 ghost use Rattle.ssa_build.specs.Renamings as renamed;
-ghost use Rattle.ssa_build.specs.Sources.{sources_of};
+ghost use Rattle.block_graph.specs.Predecessors.{predecessors_of};
 
 use crate::full::{name_after, name_before, phi_name};
-use crate::liveness::is_marked;
 use crate::renames::Renaming;
 use block_forms::{Phi, Term};
+use block_graph::is_live;
 use sqlite_items::Items;
 use std::alloc::{AllocError, Global};
 
@@ -121,7 +121,7 @@ pub(crate) fn new_map(
 {
     let mut names = Items::new(alloc);
     for slot in 0..renaming.full.layout.slots {
-        if is_marked(renaming.full.live[slot].as_slice(), block as u32) {
+        if is_live(&renaming.full.live, block, slot) {
             let name = new_before(renaming, block, slot as u32);
             names.push((slot as u32, name))?;
         }
@@ -133,7 +133,7 @@ pub(crate) fn new_map(
 pub(crate) fn new_operands(
     alloc: Global,
     renaming: &Renaming<'_>,
-    sources: &[u32],
+    sources: &[usize],
     slot: u32,
 ) -> Result<Items<(u32, u32)>, AllocError>
     requires tables { IsSized renaming.now.full.now }
@@ -144,8 +144,8 @@ pub(crate) fn new_operands(
 {
     let mut operands = Items::new(alloc);
     for source in sources {
-        let name = new_after(renaming, *source as usize, slot);
-        operands.push((*source, name))?;
+        let name = new_after(renaming, *source, slot);
+        operands.push((*source as u32, name))?;
     }
     Ok(operands)
 }
@@ -154,19 +154,19 @@ pub(crate) fn new_operands(
 pub(crate) fn new_phis(
     alloc: Global,
     renaming: &Renaming<'_>,
-    sources: &[u32],
+    sources: &[usize],
     block: usize,
 ) -> Result<Items<Phi>, AllocError>
     requires tables { IsSized renaming.now.full.now }
     requires sized { length renaming.now.blocks.now ≡ renaming.now.full.now.layout.blocks }
     requires sources_in { (k : ℕ) → k < length sources.now → get_or sources.now k 0 < renaming.now.full.now.layout.blocks }
-    requires sources_are { sources.now ≡ sources_of renaming.now.blocks.now block }
+    requires sources_are { sources.now ≡ predecessors_of renaming.now.blocks.now block }
     requires block_in { block < renaming.now.full.now.layout.blocks }
     ensures { IfOk result (λ v. v ≡ renamed.slot_phis renaming.now block) }
 {
     let mut phis = Items::new(alloc);
     for slot in 0..renaming.full.layout.slots {
-        if is_marked(renaming.full.live[slot].as_slice(), block as u32) {
+        if is_live(&renaming.full.live, block, slot) {
             let name = phi_name(renaming.full, block, slot);
             if is_end(renaming.into, name) {
                 phis.push(Phi {

@@ -5,8 +5,8 @@ ghost use Rattle.ssa_build.specs.FullForms.{IsSized};
 ghost use Rattle.ssa_build.specs.FullJoins.{block_places, places_below};
 
 use crate::full::FullForm;
-use crate::liveness::is_marked;
 use crate::places::Place;
+use block_graph::is_live;
 use std::alloc::{AllocError, Global};
 
 /// Adds the places of the φs of a block.
@@ -23,7 +23,7 @@ fn push_block_places(
         return Ok(());
     }
     for slot in 0..full.layout.slots {
-        if is_marked(full.live[slot].as_slice(), block as u32) {
+        if is_live(&full.live, block, slot) {
             places.push(Place {
                 block: block as u32,
                 slot: slot as u32,

@@ -5,7 +5,7 @@ ghost use Rattle.block_forms.specs.Lowered.{BlockBelow, EndBelow, SetBelow};
 ghost use Rattle.block_forms.specs.Places.{Each};
 ghost use Rattle.ssa_build.specs.FullForms.{IsSized};
 ghost use Rattle.ssa_build.specs.Renamings as renamed;
-ghost use Rattle.ssa_build.specs.Sources.{AreSources};
+ghost use Rattle.block_graph.specs.Predecessors.{ArePredecessors};
 
 use crate::output::{new_map, new_name, new_phis, term_after, term_before};
 use crate::renames::Renaming;
@@ -74,7 +74,7 @@ fn block_phis(
 ) -> Result<Items<Phi>, AllocError>
     requires tables { IsSized renaming.now.full.now }
     requires sized { length renaming.now.blocks.now ≡ renaming.now.full.now.layout.blocks }
-    requires sources { AreSources renaming.now.blocks.now (length renaming.now.blocks.now) renaming.now.full.now.sources.items }
+    requires sources { ArePredecessors renaming.now.blocks.now (length renaming.now.blocks.now) renaming.now.full.now.sources.items }
     requires block_in { block < renaming.now.full.now.layout.blocks }
     ensures { IfOk result (λ v. v ≡ renamed.phis_of renaming.now block) }
 {
@@ -89,7 +89,7 @@ fn block_phis(
 fn new_block(alloc: Global, renaming: &Renaming<'_>, block: usize) -> Result<SsaBlock, AllocError>
     requires tables { IsSized renaming.now.full.now }
     requires sized { length renaming.now.blocks.now ≡ renaming.now.full.now.layout.blocks }
-    requires sources { AreSources renaming.now.blocks.now (length renaming.now.blocks.now) renaming.now.full.now.sources.items }
+    requires sources { ArePredecessors renaming.now.blocks.now (length renaming.now.blocks.now) renaming.now.full.now.sources.items }
     requires block_in { block < renaming.now.full.now.layout.blocks }
     requires below { Each (BlockBelow renaming.now.full.now.layout.slots) renaming.now.blocks.now }
     ensures { IfOk result (λ y. renamed.IsBlock renaming.now block y) }
@@ -114,7 +114,7 @@ pub(crate) fn new_blocks(
 ) -> Result<Items<SsaBlock>, AllocError>
     requires tables { IsSized renaming.now.full.now }
     requires sized { length renaming.now.blocks.now ≡ renaming.now.full.now.layout.blocks }
-    requires sources { AreSources renaming.now.blocks.now (length renaming.now.blocks.now) renaming.now.full.now.sources.items }
+    requires sources { ArePredecessors renaming.now.blocks.now (length renaming.now.blocks.now) renaming.now.full.now.sources.items }
     requires below { Each (BlockBelow renaming.now.full.now.layout.slots) renaming.now.blocks.now }
     ensures { IfOk result (λ ys. renamed.AreBlocks renaming.now renaming.now.full.now.layout.blocks ys) }
 {

@@ -1,6 +1,5 @@
 pub mod Phis
 pub mod Places
-pub mod SameLists
 pub mod OneDefinition
 pub mod InSight
 pub mod Predecessors

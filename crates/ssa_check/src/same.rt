@@ -2,13 +2,7 @@
 
 ghost use Rattle.std.specs.Prelude.{◌≡◌, ℕ, ◌↔◌, IsTrue, List, length, map};
 
-use block_forms::{Block, End, Goto, Term};
-
-fn same_term(t: &Term, u: &Term) -> bool
-    ensures { IsTrue result ↔ (t.now ≡ u.now) }
-{
-    t.expr == u.expr && t.names.as_slice() == u.names.as_slice()
-}
+use block_forms::{Block, End, Goto, same_assignment, same_numbers, same_term};
 
 fn same_end(x: &End, y: &End) -> bool
     ensures { IsTrue result ↔ (x.now ≡ y.now) }
@@ -41,26 +35,6 @@ fn same_end(x: &End, y: &End) -> bool
     }
 }
 
-fn same_assignment(x: &Option<(u32, Term)>, y: &Option<(u32, Term)>) -> bool
-    ensures { IsTrue result ↔ (x.now ≡ y.now) }
-{
-    match x {
-        None => match y {
-            None => true,
-            Some(_) => false,
-        },
-        Some(a) => match y {
-            None => false,
-            Some(b) => {
-                if a.0 != b.0 {
-                    return false;
-                }
-                same_term(&a.1, &b.1)
-            }
-        },
-    }
-}
-
 fn same_block(x: &Block, y: &Block) -> bool
     ensures { IsTrue result ↔ (x.now ≡ y.now) }
 {
@@ -83,12 +57,6 @@ fn same_blocks(xs: &[Block], ys: &[Block]) -> bool
         }
     }
     true
-}
-
-fn same_numbers(xs: &[u32], ys: &[u32]) -> bool
-    ensures { IsTrue result ↔ (xs.now ≡ ys.now) }
-{
-    xs == ys
 }
 
 /// Whether the two forms are one, block by block.

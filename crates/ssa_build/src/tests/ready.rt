@@ -1,16 +1,18 @@
 //! What the builder asks of a goto form, decided.
 
-ghost use Rattle.std.specs.Prelude.{◌≡◌, ℕ, ◌<◌, ◌≤◌, length, IfOk, IsTrue};
+ghost use Rattle.std.specs.Prelude.{◌≡◌, ℕ, ◌<◌, ◌≤◌, length, IfOk, IsTrue, false};
 ghost use Rattle.block_forms.specs.Forms.{AtTargets};
 ghost use Rattle.block_forms.specs.Lowered.{BlockBelow, EndBelow, NoWayTo, SetBelow, TermBelow, end_leads};
 ghost use Rattle.block_forms.specs.Places.{Each};
 ghost use Rattle.block_forms.specs.Leading.{LeadsWithin};
 ghost use Rattle.ssa_build.specs.Layout.{IsLayout};
 ghost use Rattle.block_forms.specs.Live.{Live, OnlyParametersLive};
+ghost use Rattle.block_graph.specs.Tables.{live_by};
 
 use crate::layout::Layout;
-use crate::liveness::{is_marked, live_blocks};
 use block_forms::{Block, End, Goto, Term};
+use block_graph::{is_live, live_tables, predecessors};
+use sqlite_items::Items;
 use std::alloc::{AllocError, Global};
 
 fn term_below(term: &Term, slots: usize) -> bool
@@ -114,30 +116,31 @@ fn all_elsewhere(blocks: &[Block], entry: u32) -> bool
     blocks.iter().all(|block| leads_elsewhere(block, entry))
 }
 
-/// Whether a slot is not live at the entry.
-fn is_dead(alloc: Global, blocks: &[Block], slot: u32, entry: u32) -> Result<bool, AllocError>
-    ensures { IfOk result (λ dead. IsTrue dead → (k : ℕ) → Live blocks.now k entry slot → ⊥) }
+/// Whether none of the slots from one to another is live at a block, by the tables.
+fn none_live(tables: &[Items<bool>], block: usize, from: usize, to: usize) -> bool
+    ensures { IsTrue result → (s : ℕ) → from ≤ s → s < to → live_by tables.now block s ≡ false }
 {
-    let table = live_blocks(alloc, blocks, slot)?;
-    Ok(!is_marked(table.as_slice(), entry))
+    for slot in from..to {
+        if is_live(tables, block, slot) {
+            return false;
+        }
+    }
+    true
 }
 
 /// Whether none of the slots behind the parameters is live at the entry.
 fn others_dead(
     alloc: Global,
     blocks: &[Block],
-    params: u32,
-    slots: u32,
+    params: usize,
+    slots: usize,
     entry: u32,
 ) -> Result<bool, AllocError>
     ensures { IfOk result (λ dead. IsTrue dead → (s : ℕ) → params ≤ s → s < slots → (k : ℕ) → Live blocks.now k entry s → ⊥) }
 {
-    for slot in params..slots {
-        if !is_dead(alloc, blocks, slot, entry)? {
-            return Ok(false);
-        }
-    }
-    Ok(true)
+    let sources = predecessors(alloc, blocks)?;
+    let tables = live_tables(alloc, blocks, &sources, slots)?;
+    Ok(none_live(tables.as_slice(), entry as usize, params, slots))
 }
 
 /// Whether the form can be built under this layout.
@@ -164,12 +167,6 @@ pub(crate) fn is_ready(alloc: Global, layout: Layout, g: &Goto) -> Result<bool, 
     if !all_within(blocks) || !all_below(blocks, layout.slots) || !all_elsewhere(blocks, g.entry) {
         return Ok(false);
     }
-    let dead = others_dead(
-        alloc,
-        blocks,
-        layout.params as u32,
-        layout.slots as u32,
-        g.entry,
-    )?;
+    let dead = others_dead(alloc, blocks, layout.params, layout.slots, g.entry)?;
     Ok(dead)
 }

@@ -2,7 +2,7 @@ use Rattle.std.proofs.Common.{◌≡◌, rules, arith}
 use Rattle.call_forms.specs.declared.forms.AnfBlock.{AnfBlock}
 use Rattle.block_forms.proofs.Pairs.{pairs_more, pairs_all, pair_at}
 use Rattle.block_forms.proofs.Verdicts.{passed, refuted}
-use Rattle.call_check.proofs.SameLists.{same_at_places, each_same}
+use Rattle.block_forms.proofs.SameLists.{same_at_places, each_same}
 use Rattle.call_check.proofs.same.same_blocks.Goals as goal
 
 pub loop-b-preserved : goal.loop-b-preserved

@@ -1,4 +1,4 @@
-use Rattle.said_trees.proofs.SayingDepth.{deepen}
+use Rattle.said_trees.proofs.ReadingDepth.{deepen}
 use Rattle.said_trees.proofs.laws.sayings_may_be_deeper.Goals as goal
 
 pub returns : goal.returns

@@ -1,7 +1,7 @@
 use Rattle.std.proofs.Common.{subst}
 use Rattle.ssa_build.specs.declared.full.FullForm.{FullForm}
 use Rattle.ssa_build.specs.Names.{NamesBelow}
-use Rattle.ssa_build.specs.Tables.{live_by}
+use Rattle.block_graph.specs.Tables.{live_by}
 use Rattle.ssa_build.proofs.Sized.{all_sized}
 use Rattle.ssa_build.proofs.full.full_form.Goals as goal
 

@@ -2,7 +2,7 @@ use Rattle.std.proofs.Common.{◌≡◌, ◌<◌, ℕ, true, set, length, get_or
 use Rattle.ssa_build.specs.JoinPlaces.{joins_of, names_of}
 use Rattle.ssa_build.specs.Joins.{Join, JoinsAtMost, Settled}
 use Rattle.ssa_build.proofs.JoinPlaces.{join_here, join_of, place_here}
-use Rattle.ssa_build.proofs.Lists.{some_same}
+use Rattle.block_graph.proofs.Lists.{some_same}
 use Rattle.ssa_build.proofs.Settle.{settled_itself, settled_one}
 use Rattle.ssa_build.proofs.joins.settle.Goals as goal
 

@@ -1,14 +1,14 @@
 use Rattle.std.proofs.Common.{◌≡◌, ◌+◌, ◌^◌, ◌<◌, Some, length, length-append, sym, ap, ◌∙◌, subst, arith}
 use Rattle.std.proofs.lemmas.Option.{slice_get-get_or}
 use Rattle.ssa_build.specs.Names.{has_phi, phi_slots}
-use Rattle.ssa_build.specs.Tables.{live_by}
+use Rattle.block_graph.specs.Tables.{live_by}
 use Rattle.ssa_build.proofs.AddedNames.{names_more}
 use Rattle.ssa_build.proofs.NamesApart.{names_fit}
 use Rattle.ssa_build.proofs.Ordered.{passed_few}
 use Rattle.ssa_build.proofs.names.full_names.Goals as goal
 
-pub push_phis-requires-clause-room : goal.push_phis-requires-clause-room
-push_phis-requires-clause-room c = subst (λ v. length v + c.args.layout.slots < 2 ^ 32) (sym c.loop-block.invariant.slots_are) (names_fit c.args.layout (live_by c.args.live.now) c.args.blocks.now c.requires.is_layout c.loop-block.block c.loop-block-test.true)
+pub push_phis-requires : goal.push_phis-requires
+push_phis-requires c = record { room = subst (λ v. length v + c.args.layout.slots < 2 ^ 32) (sym c.loop-block.invariant.slots_are) (names_fit c.args.layout (live_by c.args.live.now) c.args.blocks.now c.requires.is_layout c.loop-block.block c.loop-block-test.true) }
 
 pub overflow_cast-len : goal.overflow_cast-len
 overflow_cast-len c =

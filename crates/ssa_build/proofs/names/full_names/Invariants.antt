@@ -1,5 +1,5 @@
 use Rattle.ssa_build.specs.Names.{NamesBelow}
-use Rattle.ssa_build.specs.Tables.{live_by}
+use Rattle.block_graph.specs.Tables.{live_by}
 use Rattle.ssa_build.proofs.names.full_names.Given as goal
 
 abbrev pub invariant-loop-block : goal.invariant-loop-block

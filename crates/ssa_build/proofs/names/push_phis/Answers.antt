@@ -1,6 +1,6 @@
 use Rattle.std.proofs.Common.{◌≡◌, ℕ, Bool, Vec, Global, length, sym, ap, ◌∙◌, arith}
 use Rattle.ssa_build.specs.Names.{has_phi}
-use Rattle.ssa_build.specs.Tables.{live_by}
+use Rattle.block_graph.specs.Tables.{live_by}
 use Rattle.ssa_build.proofs.AddedNames.{name_added, names_long, none_added, row_added}
 use Rattle.ssa_build.proofs.Ordered.{passed_few}
 use Rattle.ssa_build.proofs.names.push_phis.Goals as goal

@@ -1,7 +1,7 @@
 use Rattle.std.proofs.Common.{◌≡◌, ◌+◌, ◌++◌, length, map}
-use Rattle.ssa_build.specs.Lists.{count_from}
+use Rattle.block_graph.specs.Ranges.{count_from}
 use Rattle.ssa_build.specs.Names.{phi_slots}
-use Rattle.ssa_build.specs.Tables.{live_by}
+use Rattle.block_graph.specs.Tables.{live_by}
 use Rattle.ssa_build.proofs.names.push_phis.Given as goal
 
 abbrev pub invariant-loop-slot : goal.invariant-loop-slot

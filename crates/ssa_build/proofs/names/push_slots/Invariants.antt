@@ -1,5 +1,5 @@
 use Rattle.std.proofs.Common.{◌≡◌, ◌++◌}
-use Rattle.ssa_build.specs.Lists.{count_from}
+use Rattle.block_graph.specs.Ranges.{count_from}
 use Rattle.ssa_build.proofs.names.push_slots.Given as goal
 
 abbrev pub invariant-loop-slot : goal.invariant-loop-slot

@@ -1,7 +1,7 @@
 use Rattle.std.proofs.Common.{◌≡◌, ◌&&◌, map}
 use Rattle.std.specs.List.{filter}
 use Rattle.ssa_build.specs.FullForms.{live_in, phi_name}
-use Rattle.ssa_build.specs.Lists.{count_from}
+use Rattle.block_graph.specs.Ranges.{count_from}
 use Rattle.ssa_build.specs.Merging.{is_end, replacing}
 use Rattle.ssa_build.specs.Output.{new_phi}
 use Rattle.ssa_build.proofs.output.new_phis.Given as goal

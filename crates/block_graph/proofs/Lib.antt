@@ -1,0 +1,5 @@
+pub mod Lists
+pub mod Ranges
+mod Leading
+pub mod Marking
+mod Spreading

@@ -1,0 +1,5 @@
+pub mod Ranges
+pub mod Predecessors
+pub mod Liveness
+pub mod Spreading
+pub mod Tables

@@ -1,6 +1,0 @@
-use Rattle.std.proofs.Common.{◌≡◌, length}
-use Rattle.ssa_build.specs.Tables.{AreLiveTables}
-use Rattle.ssa_build.proofs.tables.live_tables.Given as goal
-
-abbrev pub invariant-loop-slot : goal.invariant-loop-slot
-invariant-loop-slot l = (length l.tables.items ≡ l.slot) × AreLiveTables l.blocks l.tables.items
