@@ -1,4 +1,4 @@
--- The grammar of expressions, queries and schemas: which signs read as which tree. A constructor is a production.
+-- The grammar of expressions, queries and schemas: which terminals read as which tree. A constructor is a production.
 --
 -- The productions are those of PostgreSQL's manual (Value Expressions; SELECT; WITH Queries; CREATE TABLE), cut down to this
 -- profile. A repeated NOT or unary minus, and a third `::` in a row, need parentheses; that is our own choice.
@@ -30,9 +30,9 @@ use Rattle.away_trees.specs.declared.queries.Query.{Query}
 use Rattle.away_trees.specs.declared.queries.Expr.TheViews.{roll-Item, roll-FromItem, roll-Key, roll-Select, roll-Recursive, roll-Query, out-Select}
 use Rattle.away_trees.specs.declared.schemas.ColumnSchema.{ColumnSchema}
 use Rattle.away_trees.specs.declared.schemas.TableSchema.{TableSchema}
-use Rattle.away_grammar.specs.Signs.{Sign, mark, name, integer, string, parameter}
+use Rattle.away_grammar.specs.Terminals.{Terminal, mark, name, integer, string, parameter}
 
--- ---- words and signs
+-- ---- words and terminals
 
 abbrev or_of : Mark → Option ChainOp
 or_of m.Or = Some op.Or
@@ -59,12 +59,12 @@ product_of _ = None
 
 -- the operators that link the operands of a level
 abbrev pub operator_of : Level → Mark → Option ChainOp
-operator_of l.Or sign = or_of sign
-operator_of l.And sign = and_of sign
-operator_of l.Concat sign = bars_of sign
-operator_of l.Sum sign = sum_of sign
-operator_of l.Product sign = product_of sign
-operator_of _ sign = None
+operator_of l.Or terminal = or_of terminal
+operator_of l.And terminal = and_of terminal
+operator_of l.Concat terminal = bars_of terminal
+operator_of l.Sum terminal = sum_of terminal
+operator_of l.Product terminal = product_of terminal
+operator_of _ terminal = None
 
 abbrev pub comparison_of : Mark → Option CmpOp
 comparison_of m.Equal = Some cmp.Eq
@@ -131,17 +131,17 @@ chained first (x ∷ xs) = e.Chain first (x ∷ xs)
 
 -- ---- what may be written
 
--- the sign, where it is written
-abbrev pub perhaps : Bool → Sign → List Sign → List Sign
+-- the minus, where it is written
+abbrev pub perhaps : Bool → Terminal → List Terminal → List Terminal
 perhaps true s ts = s ∷ ts
 perhaps false s ts = ts
 
 -- `public.`, where it is written
-abbrev pub qualified : Bool → List Sign → List Sign
-qualified true ts = name (codes "public") ∷ mark m.Dot ∷ ts
-qualified false ts = ts
+abbrev pub schema_qualified : Bool → List Terminal → List Terminal
+schema_qualified true ts = name (codes "public") ∷ mark m.Dot ∷ ts
+schema_qualified false ts = ts
 
-abbrev pub not_null : Bool → List Sign → List Sign
+abbrev pub not_null : Bool → List Terminal → List Terminal
 not_null true ts = mark m.Not ∷ mark m.Null ∷ ts
 not_null false ts = ts
 
@@ -231,131 +231,152 @@ Tree column = ColumnSchema
 Tree columns = List ColumnSchema
 Tree tables = List TableSchema
 
--- As this sort, the signs of the first list up to the second list read as the tree.
-pub data Reads : (n : Sort) → List Sign → Tree n → List Sign → Type 0 where
+-- As this sort, the terminals of the first list up to the second list read as the tree.
+pub data Reads : (n : Sort) → List Terminal → Tree n → List Terminal → Type 0 where
   -- and {OR and}, and likewise for AND, `||`, `+ -` and `* / %`
-  chain : {level : Level} {ts middle rest : List Sign} {first : Expr} {more : List (ChainOp × Expr)}
+  chain : {level : Level} {ts middle rest : List Terminal} {first : Expr} {more : List (ChainOp × Expr)}
       → IsChain level → Reads (at (operands level)) ts first middle → Reads (links level) middle more rest → Reads (at level) ts (chained first more) rest
-  no_link : {level : Level} {ts : List Sign} → Reads (links level) ts [] ts
-  link : {level : Level} {ts middle rest : List Sign} {o : ChainOp} {x : Expr} {more : List (ChainOp × Expr)} (sign : Mark)
-      → operator_of level sign ≡ Some o → Reads (at (operands level)) ts x middle → Reads (links level) middle more rest
-      → Reads (links level) (mark sign ∷ ts) ((o, x) ∷ more) rest
+  no_link : {level : Level} {ts : List Terminal} → Reads (links level) ts [] ts
+  link : {level : Level} {ts middle rest : List Terminal} {o : ChainOp} {x : Expr} {more : List (ChainOp × Expr)} (terminal : Mark)
+      → operator_of level terminal ≡ Some o → Reads (at (operands level)) ts x middle → Reads (links level) middle more rest
+      → Reads (links level) (mark terminal ∷ ts) ((o, x) ∷ more) rest
   -- [NOT] is
-  affirmed : {ts rest : List Sign} {x : Expr} → Reads (at l.Is) ts x rest → Reads (at l.Not) ts x rest
-  negated : {ts rest : List Sign} {x : Expr} → Reads (at l.Is) ts x rest → Reads (at l.Not) (mark m.Not ∷ ts) (e.Not x) rest
+  affirmed : {ts rest : List Terminal} {x : Expr} → Reads (at l.Is) ts x rest → Reads (at l.Not) ts x rest
+  negated : {ts rest : List Terminal} {x : Expr} → Reads (at l.Is) ts x rest → Reads (at l.Not) (mark m.Not ∷ ts) (e.Not x) rest
   -- cmp [IS [NOT] (NULL | TRUE | FALSE)]
-  untested : {ts rest : List Sign} {x : Expr} → Reads (at l.Compare) ts x rest → Reads (at l.Is) ts x rest
-  tested : {ts rest : List Sign} {x : Expr} {n : Bool} {test : IsTest} (sign : Mark)
-      → test_of sign ≡ Some test → Reads (at l.Compare) ts x (mark m.Is ∷ perhaps n (mark m.Not) (mark sign ∷ rest)) → Reads (at l.Is) ts (e.Is x test n) rest
+  untested : {ts rest : List Terminal} {x : Expr} → Reads (at l.Compare) ts x rest → Reads (at l.Is) ts x rest
+  tested : {ts rest : List Terminal} {x : Expr} {n : Bool} {test : IsTest} (terminal : Mark)
+      → test_of terminal ≡ Some test → Reads (at l.Compare) ts x (mark m.Is ∷ perhaps n (mark m.Not) (mark terminal ∷ rest))
+      → Reads (at l.Is) ts (e.Is x test n) rest
   -- range [(= | <> | < | <= | > | >=) range]
-  uncompared : {ts rest : List Sign} {x : Expr} → Reads (at l.Range) ts x rest → Reads (at l.Compare) ts x rest
-  compared : {ts after rest : List Sign} {x y : Expr} {o : CmpOp} (sign : Mark)
-      → comparison_of sign ≡ Some o → Reads (at l.Range) ts x (mark sign ∷ after) → Reads (at l.Range) after y rest → Reads (at l.Compare) ts (e.Compare o x y) rest
+  uncompared : {ts rest : List Terminal} {x : Expr} → Reads (at l.Range) ts x rest → Reads (at l.Compare) ts x rest
+  compared : {ts after rest : List Terminal} {x y : Expr} {o : CmpOp} (terminal : Mark)
+      → comparison_of terminal ≡ Some o → Reads (at l.Range) ts x (mark terminal ∷ after) → Reads (at l.Range) after y rest
+      → Reads (at l.Compare) ts (e.Compare o x y) rest
   -- cat [[NOT] BETWEEN cat AND cat | [NOT] IN (list)]
-  unranged : {ts rest : List Sign} {x : Expr} → Reads (at l.Concat) ts x rest → Reads (at l.Range) ts x rest
-  between : {ts after middle rest : List Sign} {x low high : Expr} {n : Bool}
+  unranged : {ts rest : List Terminal} {x : Expr} → Reads (at l.Concat) ts x rest → Reads (at l.Range) ts x rest
+  between : {ts after middle rest : List Terminal} {x low high : Expr} {n : Bool}
       → Reads (at l.Concat) ts x (perhaps n (mark m.Not) (mark m.Between ∷ after)) → Reads (at l.Concat) after low (mark m.And ∷ middle) → Reads (at l.Concat) middle high rest
       → Reads (at l.Range) ts (e.Between n x low high) rest
-  one_of : {ts after rest : List Sign} {x : Expr} {xs : List Expr} {n : Bool}
+  one_of : {ts after rest : List Terminal} {x : Expr} {xs : List Expr} {n : Bool}
       → Reads (at l.Concat) ts x (perhaps n (mark m.Not) (mark m.In ∷ mark m.Open ∷ after)) → Reads list after xs (mark m.Close ∷ rest) → Reads (at l.Range) ts (e.OneOf n x xs) rest
   -- - 9223372036854775808 | [-] post
-  unsigned : {ts rest : List Sign} {x : Expr} → Reads (at l.Cast) ts x rest → Reads (at l.Sign) ts x rest
-  signed : {ts rest : List Sign} {x : Expr} → Reads (at l.Cast) ts x rest → Reads (at l.Sign) (mark m.Minus ∷ ts) (e.Neg x) rest
-  least : {rest : List Sign} → Reads (at l.Sign) (mark m.Minus ∷ integer (2 ^ 63) ∷ rest) (e.Int (negsuc (2 ^ 63 - 1))) rest
+  unsigned : {ts rest : List Terminal} {x : Expr} → Reads (at l.Cast) ts x rest → Reads (at l.Sign) ts x rest
+  signed : {ts rest : List Terminal} {x : Expr} → Reads (at l.Cast) ts x rest → Reads (at l.Sign) (mark m.Minus ∷ ts) (e.Neg x) rest
+  least : {rest : List Terminal} → Reads (at l.Sign) (mark m.Minus ∷ integer (2 ^ 63) ∷ rest) (e.Int (negsuc (2 ^ 63 - 1))) rest
   -- prim [:: type [:: type]]
-  uncast : {ts rest : List Sign} {x : Expr} → Reads (at l.Primary) ts x rest → Reads (at l.Cast) ts x rest
-  cast_once : {ts rest : List Sign} {x : Expr} {ty : Ty} (t : List ℕ) → type_named t ≡ Some ty → Reads (at l.Primary) ts x (mark m.Colons ∷ name t ∷ rest) → Reads (at l.Cast) ts (e.Cast x ty) rest
-  cast_twice : {ts rest : List Sign} {x : Expr} {first second : Ty} (t u : List ℕ)
+  uncast : {ts rest : List Terminal} {x : Expr} → Reads (at l.Primary) ts x rest → Reads (at l.Cast) ts x rest
+  cast_once : {ts rest : List Terminal} {x : Expr} {ty : Ty} (t : List ℕ) → type_named t ≡ Some ty → Reads (at l.Primary) ts x (mark m.Colons ∷ name t ∷ rest)
+      → Reads (at l.Cast) ts (e.Cast x ty) rest
+  cast_twice : {ts rest : List Terminal} {x : Expr} {first second : Ty} (t u : List ℕ)
       → type_named t ≡ Some first → type_named u ≡ Some second → Reads (at l.Primary) ts x (mark m.Colons ∷ name t ∷ mark m.Colons ∷ name u ∷ rest)
       → Reads (at l.Cast) ts (e.Cast (e.Cast x first) second) rest
   -- what stands alone
-  number : {rest : List Sign} {n : ℕ} → n < 2 ^ 63 → Reads (at l.Primary) (integer n ∷ rest) (e.Int (pos n)) rest
-  text : {rest : List Sign} {t : List ℕ} → Reads (at l.Primary) (string t ∷ rest) (e.Str t) rest
-  literal : {rest : List Sign} {x : Expr} (sign : Mark) → literal_of sign ≡ Some x → Reads (at l.Primary) (mark sign ∷ rest) x rest
-  named : {rest : List Sign} {n : List ℕ} → Reads (at l.Primary) (name n ∷ rest) (e.Named n) rest
-  dotted : {rest : List Sign} {n c : List ℕ} → Reads (at l.Primary) (name n ∷ mark m.Dot ∷ name c ∷ rest) (e.Dotted n c) rest
-  typed_parameter : {rest : List Sign} {i : ℕ} {ty : Ty} (t : List ℕ) → type_named t ≡ Some ty
+  number : {rest : List Terminal} {n : ℕ} → n < 2 ^ 63 → Reads (at l.Primary) (integer n ∷ rest) (e.Int (pos n)) rest
+  text : {rest : List Terminal} {t : List ℕ} → Reads (at l.Primary) (string t ∷ rest) (e.Str t) rest
+  literal : {rest : List Terminal} {x : Expr} (terminal : Mark) → literal_of terminal ≡ Some x → Reads (at l.Primary) (mark terminal ∷ rest) x rest
+  named : {rest : List Terminal} {n : List ℕ} → Reads (at l.Primary) (name n ∷ rest) (e.Named n) rest
+  qualified : {rest : List Terminal} {n c : List ℕ} → Reads (at l.Primary) (name n ∷ mark m.Dot ∷ name c ∷ rest) (e.Dotted n c) rest
+  typed_parameter : {rest : List Terminal} {i : ℕ} {ty : Ty} (t : List ℕ) → type_named t ≡ Some ty
       → Reads (at l.Primary) (mark m.Cast ∷ mark m.Open ∷ parameter i ∷ mark m.As ∷ name t ∷ mark m.Close ∷ rest) (e.Param i ty) rest
-  short_parameter : {rest : List Sign} {i : ℕ} {ty : Ty} (t : List ℕ) → type_named t ≡ Some ty → Reads (at l.Primary) (parameter i ∷ mark m.Colons ∷ name t ∷ rest) (e.Param i ty) rest
-  parentheses : {ts rest : List Sign} {x : Expr} → Reads (at l.Or) ts x (mark m.Close ∷ rest) → Reads (at l.Primary) (mark m.Open ∷ ts) x rest
-  scalar : {ts rest : List Sign} {q : Query} → Reads query ts q (mark m.Close ∷ rest) → Reads (at l.Primary) (mark m.Open ∷ ts) (e.Scalar q) rest
-  cast : {ts rest : List Sign} {x : Expr} {ty : Ty} (t : List ℕ) → type_named t ≡ Some ty → Reads (at l.Or) ts x (mark m.As ∷ name t ∷ mark m.Close ∷ rest)
+  short_parameter : {rest : List Terminal} {i : ℕ} {ty : Ty} (t : List ℕ) → type_named t ≡ Some ty
+      → Reads (at l.Primary) (parameter i ∷ mark m.Colons ∷ name t ∷ rest) (e.Param i ty) rest
+  parentheses : {ts rest : List Terminal} {x : Expr} → Reads (at l.Or) ts x (mark m.Close ∷ rest) → Reads (at l.Primary) (mark m.Open ∷ ts) x rest
+  scalar : {ts rest : List Terminal} {q : Query} → Reads query ts q (mark m.Close ∷ rest) → Reads (at l.Primary) (mark m.Open ∷ ts) (e.Scalar q) rest
+  cast : {ts rest : List Terminal} {x : Expr} {ty : Ty} (t : List ℕ) → type_named t ≡ Some ty → Reads (at l.Or) ts x (mark m.As ∷ name t ∷ mark m.Close ∷ rest)
       → Reads (at l.Primary) (mark m.Cast ∷ mark m.Open ∷ ts) (e.Cast x ty) rest
-  exists : {ts rest : List Sign} {q : Query} → Reads query ts q (mark m.Close ∷ rest) → Reads (at l.Primary) (mark m.Exists ∷ mark m.Open ∷ ts) (e.Exists q) rest
-  cases : {ts rest : List Sign} {a : Expr × Expr} {more : List (Expr × Expr)} → Reads arms ts (a ∷ more) (mark m.End ∷ rest) → Reads (at l.Primary) (mark m.Case ∷ ts) (e.Cases (a ∷ more) None) rest
-  cases_else : {ts middle rest : List Sign} {a : Expr × Expr} {more : List (Expr × Expr)} {x : Expr}
+  exists : {ts rest : List Terminal} {q : Query} → Reads query ts q (mark m.Close ∷ rest)
+      → Reads (at l.Primary) (mark m.Exists ∷ mark m.Open ∷ ts) (e.Exists q) rest
+  cases : {ts rest : List Terminal} {a : Expr × Expr} {more : List (Expr × Expr)} → Reads arms ts (a ∷ more) (mark m.End ∷ rest)
+      → Reads (at l.Primary) (mark m.Case ∷ ts) (e.Cases (a ∷ more) None) rest
+  cases_else : {ts middle rest : List Terminal} {a : Expr × Expr} {more : List (Expr × Expr)} {x : Expr}
       → Reads arms ts (a ∷ more) (mark m.Else ∷ middle) → Reads (at l.Or) middle x (mark m.End ∷ rest) → Reads (at l.Primary) (mark m.Case ∷ ts) (e.Cases (a ∷ more) (Some x)) rest
-  call_word : {ts rest : List Sign} {n : List ℕ} {xs : List Expr} (sign : Mark) → called sign ≡ Some n → Reads list ts xs (mark m.Close ∷ rest)
-      → Reads (at l.Primary) (mark sign ∷ mark m.Open ∷ ts) (e.Call n xs) rest
-  count_rows : {rest : List Sign} → Reads (at l.Primary) (name (codes "count") ∷ mark m.Open ∷ mark m.Star ∷ mark m.Close ∷ rest) e.CountRows rest
-  call_empty : {rest : List Sign} {n : List ℕ} → Reads (at l.Primary) (name n ∷ mark m.Open ∷ mark m.Close ∷ rest) (e.Call n []) rest
-  call : {ts rest : List Sign} {n : List ℕ} {xs : List Expr} → Reads list ts xs (mark m.Close ∷ rest) → Reads (at l.Primary) (name n ∷ mark m.Open ∷ ts) (e.Call n xs) rest
+  call_word : {ts rest : List Terminal} {n : List ℕ} {xs : List Expr} (terminal : Mark) → called terminal ≡ Some n → Reads list ts xs (mark m.Close ∷ rest)
+      → Reads (at l.Primary) (mark terminal ∷ mark m.Open ∷ ts) (e.Call n xs) rest
+  count_rows : {rest : List Terminal} → Reads (at l.Primary) (name (codes "count") ∷ mark m.Open ∷ mark m.Star ∷ mark m.Close ∷ rest) e.CountRows rest
+  call_empty : {rest : List Terminal} {n : List ℕ} → Reads (at l.Primary) (name n ∷ mark m.Open ∷ mark m.Close ∷ rest) (e.Call n []) rest
+  call : {ts rest : List Terminal} {n : List ℕ} {xs : List Expr} → Reads list ts xs (mark m.Close ∷ rest)
+      → Reads (at l.Primary) (name n ∷ mark m.Open ∷ ts) (e.Call n xs) rest
   -- expr {, expr}
-  last : {ts rest : List Sign} {x : Expr} → Reads (at l.Or) ts x rest → Reads list ts (x ∷ []) rest
-  another : {ts middle rest : List Sign} {x : Expr} {xs : List Expr} → Reads (at l.Or) ts x (mark m.Comma ∷ middle) → Reads list middle xs rest → Reads list ts (x ∷ xs) rest
+  last : {ts rest : List Terminal} {x : Expr} → Reads (at l.Or) ts x rest → Reads list ts (x ∷ []) rest
+  another : {ts middle rest : List Terminal} {x : Expr} {xs : List Expr} → Reads (at l.Or) ts x (mark m.Comma ∷ middle) → Reads list middle xs rest
+      → Reads list ts (x ∷ xs) rest
   -- {WHEN expr THEN expr}
-  no_arm : {ts : List Sign} → Reads arms ts [] ts
-  arm : {ts middle after rest : List Sign} {test value : Expr} {more : List (Expr × Expr)}
+  no_arm : {ts : List Terminal} → Reads arms ts [] ts
+  arm : {ts middle after rest : List Terminal} {test value : Expr} {more : List (Expr × Expr)}
       → Reads (at l.Or) ts test (mark m.Then ∷ middle) → Reads (at l.Or) middle value after → Reads arms after more rest → Reads arms (mark m.When ∷ ts) ((test, value) ∷ more) rest
   -- expr [AS name]
-  item_alone : {ts rest : List Sign} {x : Expr} → Reads (at l.Or) ts x rest → Reads item ts (roll-Item (record { expr = x; alias = None })) rest
-  item_as : {ts rest : List Sign} {x : Expr} {n : List ℕ} → Reads (at l.Or) ts x (mark m.As ∷ name n ∷ rest) → Reads item ts (roll-Item (record { expr = x; alias = Some n })) rest
-  last_item : {ts rest : List Sign} {x : Item} → Reads item ts x rest → Reads items ts (x ∷ []) rest
-  another_item : {ts middle rest : List Sign} {x : Item} {xs : List Item} → Reads item ts x (mark m.Comma ∷ middle) → Reads items middle xs rest → Reads items ts (x ∷ xs) rest
+  item_alone : {ts rest : List Terminal} {x : Expr} → Reads (at l.Or) ts x rest → Reads item ts (roll-Item (record { expr = x; alias = None })) rest
+  item_as : {ts rest : List Terminal} {x : Expr} {n : List ℕ} → Reads (at l.Or) ts x (mark m.As ∷ name n ∷ rest)
+      → Reads item ts (roll-Item (record { expr = x; alias = Some n })) rest
+  last_item : {ts rest : List Terminal} {x : Item} → Reads item ts x rest → Reads items ts (x ∷ []) rest
+  another_item : {ts middle rest : List Terminal} {x : Item} {xs : List Item} → Reads item ts x (mark m.Comma ∷ middle) → Reads items middle xs rest
+      → Reads items ts (x ∷ xs) rest
   -- [public .] name [[AS] name] | [LATERAL] ( query ) [AS] name [( name {, name} )]
-  table_alone : {rest : List Sign} {n : List ℕ} (q : Bool) → Reads from_item (qualified q (name n ∷ rest)) (roll-FromItem (record { source = source.Table n; alias = n; columns = [] })) rest
-  table_as : {rest : List Sign} {n a : List ℕ} (q w : Bool)
-      → Reads from_item (qualified q (name n ∷ perhaps w (mark m.As) (name a ∷ rest))) (roll-FromItem (record { source = source.Table n; alias = a; columns = [] })) rest
-  sub_alone : {ts rest : List Sign} {q : Query} {a : List ℕ} {v : Bool} (w : Bool) → Reads query ts q (mark m.Close ∷ perhaps w (mark m.As) (name a ∷ rest))
+  table_alone : {rest : List Terminal} {n : List ℕ} (q : Bool)
+      → Reads from_item (schema_qualified q (name n ∷ rest)) (roll-FromItem (record { source = source.Table n; alias = n; columns = [] })) rest
+  table_as : {rest : List Terminal} {n a : List ℕ} (q w : Bool)
+      → Reads from_item (schema_qualified q (name n ∷ perhaps w (mark m.As) (name a ∷ rest))) (roll-FromItem (record { source = source.Table n; alias = a; columns = [] })) rest
+  sub_alone : {ts rest : List Terminal} {q : Query} {a : List ℕ} {v : Bool} (w : Bool) → Reads query ts q (mark m.Close ∷ perhaps w (mark m.As) (name a ∷ rest))
       → Reads from_item (perhaps v (mark m.Lateral) (mark m.Open ∷ ts)) (roll-FromItem (record { source = source.Sub q v; alias = a; columns = [] })) rest
-  sub_columns : {ts after rest : List Sign} {q : Query} {a : List ℕ} {ns : List (List ℕ)} {v : Bool} (w : Bool)
+  sub_columns : {ts after rest : List Terminal} {q : Query} {a : List ℕ} {ns : List (List ℕ)} {v : Bool} (w : Bool)
       → Reads query ts q (mark m.Close ∷ perhaps w (mark m.As) (name a ∷ mark m.Open ∷ after)) → Reads names after ns (mark m.Close ∷ rest)
       → Reads from_item (perhaps v (mark m.Lateral) (mark m.Open ∷ ts)) (roll-FromItem (record { source = source.Sub q v; alias = a; columns = ns })) rest
-  last_from : {ts rest : List Sign} {x : FromItem} → Reads from_item ts x rest → Reads from_items ts (x ∷ []) rest
-  another_from : {ts middle rest : List Sign} {x : FromItem} {xs : List FromItem} → Reads from_item ts x (mark m.Comma ∷ middle) → Reads from_items middle xs rest → Reads from_items ts (x ∷ xs) rest
+  last_from : {ts rest : List Terminal} {x : FromItem} → Reads from_item ts x rest → Reads from_items ts (x ∷ []) rest
+  another_from : {ts middle rest : List Terminal} {x : FromItem} {xs : List FromItem} → Reads from_item ts x (mark m.Comma ∷ middle)
+      → Reads from_items middle xs rest → Reads from_items ts (x ∷ xs) rest
   -- name {, name}
-  last_name : {rest : List Sign} {n : List ℕ} → Reads names (name n ∷ rest) (n ∷ []) rest
-  another_name : {middle rest : List Sign} {n : List ℕ} {ns : List (List ℕ)} → Reads names middle ns rest → Reads names (name n ∷ mark m.Comma ∷ middle) (n ∷ ns) rest
+  last_name : {rest : List Terminal} {n : List ℕ} → Reads names (name n ∷ rest) (n ∷ []) rest
+  another_name : {middle rest : List Terminal} {n : List ℕ} {ns : List (List ℕ)} → Reads names middle ns rest
+      → Reads names (name n ∷ mark m.Comma ∷ middle) (n ∷ ns) rest
   -- expr [ASC | DESC]
-  key_alone : {ts rest : List Sign} {x : Expr} → is_number x ≡ false → Reads (at l.Or) ts x rest → Reads key ts (roll-Key (record { expr = x; descending = false })) rest
-  ascending : {ts rest : List Sign} {x : Expr} → is_number x ≡ false → Reads (at l.Or) ts x (mark m.Asc ∷ rest) → Reads key ts (roll-Key (record { expr = x; descending = false })) rest
-  descending : {ts rest : List Sign} {x : Expr} → is_number x ≡ false → Reads (at l.Or) ts x (mark m.Desc ∷ rest) → Reads key ts (roll-Key (record { expr = x; descending = true })) rest
-  last_key : {ts rest : List Sign} {x : Key} → Reads key ts x rest → Reads keys ts (x ∷ []) rest
-  another_key : {ts middle rest : List Sign} {x : Key} {xs : List Key} → Reads key ts x (mark m.Comma ∷ middle) → Reads keys middle xs rest → Reads keys ts (x ∷ xs) rest
+  key_alone : {ts rest : List Terminal} {x : Expr} → is_number x ≡ false → Reads (at l.Or) ts x rest
+      → Reads key ts (roll-Key (record { expr = x; descending = false })) rest
+  ascending : {ts rest : List Terminal} {x : Expr} → is_number x ≡ false → Reads (at l.Or) ts x (mark m.Asc ∷ rest)
+      → Reads key ts (roll-Key (record { expr = x; descending = false })) rest
+  descending : {ts rest : List Terminal} {x : Expr} → is_number x ≡ false → Reads (at l.Or) ts x (mark m.Desc ∷ rest)
+      → Reads key ts (roll-Key (record { expr = x; descending = true })) rest
+  last_key : {ts rest : List Terminal} {x : Key} → Reads key ts x rest → Reads keys ts (x ∷ []) rest
+  another_key : {ts middle rest : List Terminal} {x : Key} {xs : List Key} → Reads key ts x (mark m.Comma ∷ middle) → Reads keys middle xs rest
+      → Reads keys ts (x ∷ xs) rest
   -- SELECT item {, item} [FROM from {, from}] [WHERE expr] [ORDER BY key {, key}] [LIMIT expr]
-  no_from : {ts : List Sign} → Reads from_clause ts [] ts
-  from : {ts rest : List Sign} {xs : List FromItem} → Reads from_items ts xs rest → Reads from_clause (mark m.From ∷ ts) xs rest
-  no_where : {ts : List Sign} → Reads where_clause ts None ts
-  where_of : {ts rest : List Sign} {x : Expr} → Reads (at l.Or) ts x rest → Reads where_clause (mark m.Where ∷ ts) (Some x) rest
-  no_order : {ts : List Sign} → Reads order_clause ts [] ts
-  order_by : {ts rest : List Sign} {xs : List Key} → Reads keys ts xs rest → Reads order_clause (mark m.Order ∷ mark m.By ∷ ts) xs rest
-  no_limit : {ts : List Sign} → Reads limit_clause ts None ts
-  limit_of : {ts rest : List Sign} {x : Expr} → Reads (at l.Or) ts x rest → Reads limit_clause (mark m.Limit ∷ ts) (Some x) rest
-  select_of : {ts a b c d rest : List Sign} {xs : List Item} {fs : List FromItem} {w : Option Expr} {ks : List Key} {n : Option Expr}
+  no_from : {ts : List Terminal} → Reads from_clause ts [] ts
+  from : {ts rest : List Terminal} {xs : List FromItem} → Reads from_items ts xs rest → Reads from_clause (mark m.From ∷ ts) xs rest
+  no_where : {ts : List Terminal} → Reads where_clause ts None ts
+  where_of : {ts rest : List Terminal} {x : Expr} → Reads (at l.Or) ts x rest → Reads where_clause (mark m.Where ∷ ts) (Some x) rest
+  no_order : {ts : List Terminal} → Reads order_clause ts [] ts
+  order_by : {ts rest : List Terminal} {xs : List Key} → Reads keys ts xs rest → Reads order_clause (mark m.Order ∷ mark m.By ∷ ts) xs rest
+  no_limit : {ts : List Terminal} → Reads limit_clause ts None ts
+  limit_of : {ts rest : List Terminal} {x : Expr} → Reads (at l.Or) ts x rest → Reads limit_clause (mark m.Limit ∷ ts) (Some x) rest
+  select_of : {ts a b c d rest : List Terminal} {xs : List Item} {fs : List FromItem} {w : Option Expr} {ks : List Key} {n : Option Expr}
       → Reads items ts xs a → Reads from_clause a fs b → Reads where_clause b w c → Reads order_clause c ks d → Reads limit_clause d n rest
       → Reads select (mark m.Select ∷ ts) (roll-Select (record { list = xs; from = fs; filter = w; order = ks; limit = n })) rest
   -- select {UNION ALL select}
-  last_select : {ts rest : List Sign} {s : Select} → Reads select ts s rest → Reads selects ts (s ∷ []) rest
-  another_select : {ts middle rest : List Sign} {s : Select} {ss : List Select} → Reads select ts s (mark m.Union ∷ mark m.All ∷ middle) → Reads selects middle ss rest → Reads selects ts (s ∷ ss) rest
-  query_of : {ts rest : List Sign} {ss : List Select} → may_join ss ≡ true → Reads selects ts ss rest → Reads query ts (roll-Query (record { recursive = None; selects = ss })) rest
+  last_select : {ts rest : List Terminal} {s : Select} → Reads select ts s rest → Reads selects ts (s ∷ []) rest
+  another_select : {ts middle rest : List Terminal} {s : Select} {ss : List Select} → Reads select ts s (mark m.Union ∷ mark m.All ∷ middle)
+      → Reads selects middle ss rest → Reads selects ts (s ∷ ss) rest
+  query_of : {ts rest : List Terminal} {ss : List Select} → may_join ss ≡ true → Reads selects ts ss rest
+      → Reads query ts (roll-Query (record { recursive = None; selects = ss })) rest
   -- WITH RECURSIVE name ( name {, name} ) AS ( select {UNION ALL select} UNION ALL select ): the last one is the second term
-  recursive_of : {ts after rest : List Sign} {n : List ℕ} {ns : List (List ℕ)} {s : Select} (ss : List Select) (second : Select)
+  recursive_of : {ts after rest : List Terminal} {n : List ℕ} {ns : List (List ℕ)} {s : Select} (ss : List Select) (second : Select)
       → Reads names ts ns (mark m.Close ∷ mark m.As ∷ mark m.Open ∷ after) → Reads selects after (s ∷ (ss ++ second ∷ [])) (mark m.Close ∷ rest)
       → Reads recursive (mark m.With ∷ mark m.Recursive ∷ name n ∷ mark m.Open ∷ ts) (roll-Recursive (record { name = n; columns = ns; first = s ∷ ss; second = second })) rest
   -- [WITH ..] query [;]
-  plain_file : {ts rest : List Sign} {q : Query} (w : Bool) → Reads query ts q (perhaps w (mark m.Semicolon) rest) → Reads file ts q rest
-  with_file : {ts middle rest : List Sign} {r : Recursive} {ss : List Select} (w : Bool) → may_join ss ≡ true → Reads recursive ts r middle → Reads selects middle ss (perhaps w (mark m.Semicolon) rest)
+  plain_file : {ts rest : List Terminal} {q : Query} (w : Bool) → Reads query ts q (perhaps w (mark m.Semicolon) rest) → Reads file ts q rest
+  with_file : {ts middle rest : List Terminal} {r : Recursive} {ss : List Select} (w : Bool) → may_join ss ≡ true → Reads recursive ts r middle
+      → Reads selects middle ss (perhaps w (mark m.Semicolon) rest)
       → Reads file ts (roll-Query (record { recursive = Some r; selects = ss })) rest
   -- name type [NOT NULL]
-  column_of : {rest : List Sign} {n : List ℕ} {ty : Ty} {v : Bool} (t : List ℕ) → type_named t ≡ Some ty
+  column_of : {rest : List Terminal} {n : List ℕ} {ty : Ty} {v : Bool} (t : List ℕ) → type_named t ≡ Some ty
       → Reads column (name n ∷ name t ∷ not_null v rest) (record { name = n; ty = ty; not_null = v }) rest
-  last_column : {ts rest : List Sign} {c : ColumnSchema} → Reads column ts c rest → Reads columns ts (c ∷ []) rest
-  another_column : {ts middle rest : List Sign} {c : ColumnSchema} {cs : List ColumnSchema} → Reads column ts c (mark m.Comma ∷ middle) → Reads columns middle cs rest → Reads columns ts (c ∷ cs) rest
+  last_column : {ts rest : List Terminal} {c : ColumnSchema} → Reads column ts c rest → Reads columns ts (c ∷ []) rest
+  another_column : {ts middle rest : List Terminal} {c : ColumnSchema} {cs : List ColumnSchema} → Reads column ts c (mark m.Comma ∷ middle)
+      → Reads columns middle cs rest → Reads columns ts (c ∷ cs) rest
   -- {CREATE TABLE [public .] name ( column {, column} ) ;}
-  no_table : {ts : List Sign} → Reads tables ts [] ts
-  table : {ts middle rest : List Sign} {n : List ℕ} {cs : List ColumnSchema} {more : List TableSchema} (q : Bool)
+  no_table : {ts : List Terminal} → Reads tables ts [] ts
+  table : {ts middle rest : List Terminal} {n : List ℕ} {cs : List ColumnSchema} {more : List TableSchema} (q : Bool)
       → Reads columns ts cs (mark m.Close ∷ mark m.Semicolon ∷ middle) → Reads tables middle more rest
-      → Reads tables (mark m.Create ∷ mark m.Table ∷ qualified q (name n ∷ mark m.Open ∷ ts)) (record { name = n; columns = cs } ∷ more) rest
+      → Reads tables (mark m.Create ∷ mark m.Table ∷ schema_qualified q (name n ∷ mark m.Open ∷ ts)) (record { name = n; columns = cs } ∷ more) rest
 
 -- ---- what can't continue a sort
 
@@ -436,16 +457,16 @@ mark_binds m.Semicolon = 4
 mark_binds m.Create = 3
 mark_binds _ = 0
 
-abbrev pub binds : Sign → ℕ
+abbrev pub binds : Terminal → ℕ
 binds (mark m) = mark_binds m
 -- a name stands as an alias
 binds (name n) = 15
 binds _ = 0
 
-abbrev pub StopsAt : ℕ → List Sign → Type 0
+abbrev pub StopsAt : ℕ → List Terminal → Type 0
 StopsAt r [] = Unit {0}
 StopsAt r (s ∷ ts) = binds s < r
 
 -- what stands next can't continue the sort
-abbrev pub Stops : Sort → List Sign → Type 0
+abbrev pub Stops : Sort → List Terminal → Type 0
 Stops n = StopsAt (rank_of n)

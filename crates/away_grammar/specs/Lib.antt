@@ -5,7 +5,7 @@ pub mod Nesting
 pub mod Reserved
 pub mod Spacing
 pub mod FunctionFile
-pub mod Signs
+pub mod Terminals
 pub mod Grammar
 pub mod Printing
 pub mod FunctionGrammar

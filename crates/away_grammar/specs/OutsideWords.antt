@@ -18,16 +18,16 @@ unfoldable pub is_outside : List ℕ → Bool
 is_outside word = list_any (str_eq_ignore_ascii_case word) outside_words
 
 -- the token is this word, in any case
-abbrev pub says_word : List ℕ → Lexeme → Bool
-says_word word t = is_word_kind t.kind && str_eq_ignore_ascii_case t.text word
+abbrev pub spells_word : List ℕ → Lexeme → Bool
+spells_word word t = is_word_kind t.kind && str_eq_ignore_ascii_case t.text word
 
 abbrev pub begins_with_word : List ℕ → List Lexeme → Bool
 begins_with_word word [] = false
-begins_with_word word (t ∷ ts) = says_word word t
+begins_with_word word (t ∷ ts) = spells_word word t
 
 -- The token is outside the profile: one of the words, or EXCEPTION directly before WHEN.
 abbrev pub stands_outside : Lexeme → List Lexeme → Bool
-stands_outside t ts = (is_word_kind t.kind && is_outside t.text) || (says_word (codes "exception") t && begins_with_word (codes "when") ts)
+stands_outside t ts = (is_word_kind t.kind && is_outside t.text) || (spells_word (codes "exception") t && begins_with_word (codes "when") ts)
 
 abbrev pub first_outside : List Lexeme → Option Lexeme
 first_outside [] = None

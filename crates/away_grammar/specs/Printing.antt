@@ -1,5 +1,5 @@
--- The one text that a query prints as. First its signs: each tree prints as the signs that read as it, with parentheses only
--- where they are needed. Then the text: each sign is spelled, and the tokens stand with the spacing of printed text.
+-- The one text that a query prints as. First its terminals: each tree prints as the terminals that read as it, with parentheses only
+-- where they are needed. Then the text: each terminal is spelled, and the tokens stand with the spacing of printed text.
 --
 -- Some trees are read from no text: slots, columns, operations of 32 bits, negative integers but the least bigint, chains
 -- without links, CASE without arms, lists without an element, a table's columns. What these print as says nothing.
@@ -24,7 +24,7 @@ use Rattle.away_trees.specs.declared.queries.Expr.TheOpen.{Expr-F, Source-F, Fro
 use Rattle.away_trees.specs.declared.queries.Expr.TheOpen as ex
 use Rattle.away_trees.specs.Algebra.{Algebra, expr_of, query_of}
 use Rattle.away_grammar.specs.declared.tokens.TokenKind.TheVariants.{Word, Integer, Str, Parameter, Dollar, Symbol}
-use Rattle.away_grammar.specs.Signs.{Sign, mark, name, integer, string, parameter, quote}
+use Rattle.away_grammar.specs.Terminals.{Terminal, mark, name, integer, string, parameter, quote}
 use Rattle.away_grammar.specs.Spellings.{quoted}
 use Rattle.away_grammar.specs.Spacing.{Spelled, written, laid}
 use Rattle.away_grammar.specs.Reserved.{calls}
@@ -81,86 +81,86 @@ type_name types.Text = codes "text"
 type_name types.Integer = codes "integer"
 
 -- COALESCE, GREATEST and LEAST are reserved words; the other functions have names.
-unfoldable pub function_sign : List ℕ → Sign
-function_sign n =
+unfoldable pub function_terminal : List ℕ → Terminal
+function_terminal n =
     if bytes_eq n (codes "coalesce") then mark m.Coalesce
     else (if bytes_eq n (codes "greatest") then mark m.Greatest
     else (if bytes_eq n (codes "least") then mark m.Least else name n))
 
 -- ---- places
 
--- the signs of an expression, and the level at which they read as it
+-- the terminals of an expression, and the level at which they read as it
 pub record Printed : Type 0 where
   pub level : Level
-  pub signs : List Sign
+  pub terminals : List Terminal
 
 -- `(` and `)` stand round an expression exactly where its place doesn't read its level: where the place is tighter.
-abbrev pub placed : Level → Printed → List Sign
-placed place p = if nat_lt (rank p.level) (rank place) then mark m.Open ∷ (p.signs ++ mark m.Close ∷ []) else p.signs
+abbrev pub placed : Level → Printed → List Terminal
+placed place p = if nat_lt (rank p.level) (rank place) then mark m.Open ∷ (p.terminals ++ mark m.Close ∷ []) else p.terminals
 
--- what a FROM item takes its rows from: its signs, and the alias that it has where none is written
+-- what a FROM item takes its rows from: its terminals, and the alias that it has where none is written
 pub record Origin : Type 0 where
-  pub signs : List Sign
+  pub terminals : List Terminal
   pub own_alias : Option (List ℕ)
 
 -- what needs no parentheses anywhere
-abbrev alone : List Sign → Printed
-alone signs = record { level = l.Primary; signs = signs }
+abbrev alone : List Terminal → Printed
+alone terminals = record { level = l.Primary; terminals = terminals }
 
 -- ---- lists
 
--- one behind the other, with the same signs between any two
-abbrev pub joined : List Sign → List (List Sign) → List Sign
+-- one behind the other, with the same terminals between any two
+abbrev pub joined : List Terminal → List (List Terminal) → List Terminal
 joined between [] = []
 joined between (x ∷ []) = x
 joined between (x ∷ y ∷ xs) = x ++ (between ++ joined between (y ∷ xs))
 
-abbrev pub with_commas : List (List Sign) → List Sign
+abbrev pub with_commas : List (List Terminal) → List Terminal
 with_commas = joined (mark m.Comma ∷ [])
 
-abbrev pub name_alone : List ℕ → List Sign
+abbrev pub name_alone : List ℕ → List Terminal
 name_alone n = name n ∷ []
 
-abbrev pub names_signs : List (List ℕ) → List Sign
-names_signs ns = with_commas (map name_alone ns)
+abbrev pub names_terminals : List (List ℕ) → List Terminal
+names_terminals ns = with_commas (map name_alone ns)
 
-abbrev pub list_signs : List Printed → List Sign
-list_signs xs = with_commas (map (placed l.Or) xs)
+abbrev pub list_terminals : List Printed → List Terminal
+list_terminals xs = with_commas (map (placed l.Or) xs)
 
 -- ---- expressions
 
 -- the operators of a chain, each with its operand
-abbrev pub links_signs : Level → List (ChainOp × Printed) → List Sign
-links_signs level [] = []
-links_signs level (x ∷ more) = mark (operator_mark x.0) ∷ (placed (operands level) x.1 ++ links_signs level more)
+abbrev pub links_terminals : Level → List (ChainOp × Printed) → List Terminal
+links_terminals level [] = []
+links_terminals level (x ∷ more) = mark (operator_mark x.0) ∷ (placed (operands level) x.1 ++ links_terminals level more)
 
 -- a chain's level is that of its operators
 abbrev pub chain_level : {X : Type 0} → List (ChainOp × X) → Level
 chain_level [] = l.Primary
 chain_level (x ∷ more) = operator_level x.0
 
-abbrev pub arms_signs : List (Printed × Printed) → List Sign
-arms_signs [] = []
-arms_signs (a ∷ more) = mark m.When ∷ (placed l.Or a.0 ++ mark m.Then ∷ (placed l.Or a.1 ++ arms_signs more))
+abbrev pub arms_terminals : List (Printed × Printed) → List Terminal
+arms_terminals [] = []
+arms_terminals (a ∷ more) = mark m.When ∷ (placed l.Or a.0 ++ mark m.Then ∷ (placed l.Or a.1 ++ arms_terminals more))
 
-abbrev pub else_signs : Option Printed → List Sign
-else_signs None = []
-else_signs (Some x) = mark m.Else ∷ placed l.Or x
+abbrev pub else_terminals : Option Printed → List Terminal
+else_terminals None = []
+else_terminals (Some x) = mark m.Else ∷ placed l.Or x
 
-abbrev pub call_signs : List ℕ → List Printed → List Sign
-call_signs n [] = name n ∷ mark m.Open ∷ mark m.Close ∷ []
-call_signs n (x ∷ xs) = function_sign n ∷ mark m.Open ∷ (list_signs (x ∷ xs) ++ mark m.Close ∷ [])
+abbrev pub call_terminals : List ℕ → List Printed → List Terminal
+call_terminals n [] = name n ∷ mark m.Open ∷ mark m.Close ∷ []
+call_terminals n (x ∷ xs) = function_terminal n ∷ mark m.Open ∷ (list_terminals (x ∷ xs) ++ mark m.Close ∷ [])
 
 -- the least bigint has a minus of its own
 abbrev int_printed : ℤ → Printed
 int_printed (pos n) = alone (integer n ∷ [])
-int_printed (negsuc n) = record { level = l.Sign; signs = mark m.Minus ∷ integer (suc n) ∷ [] }
+int_printed (negsuc n) = record { level = l.Sign; terminals = mark m.Minus ∷ integer (suc n) ∷ [] }
 
 abbrev bool_mark : Bool → Mark
 bool_mark true = m.True
 bool_mark false = m.False
 
-abbrev print_expr : Expr-F Printed Origin (List Sign) (List Sign) (List Sign) (List Sign) (List Sign) (List Sign) → Printed
+abbrev print_expr : Expr-F Printed Origin (List Terminal) (List Terminal) (List Terminal) (List Terminal) (List Terminal) (List Terminal) → Printed
 print_expr (ex.Int n) = int_printed n
 print_expr (ex.Str t) = alone (string t ∷ [])
 print_expr (ex.Bool v) = alone (mark (bool_mark v) ∷ [])
@@ -170,98 +170,118 @@ print_expr (ex.Dotted n c) = alone (name n ∷ mark m.Dot ∷ name c ∷ [])
 print_expr (ex.Slot i) = alone []
 print_expr (ex.Column c) = alone []
 print_expr (ex.Param i ty) = alone (mark m.Cast ∷ mark m.Open ∷ parameter i ∷ mark m.As ∷ name (type_name ty) ∷ mark m.Close ∷ [])
-print_expr (ex.Neg x) = record { level = l.Sign; signs = mark m.Minus ∷ placed l.Cast x }
-print_expr (ex.NegSmall x) = record { level = l.Sign; signs = mark m.Minus ∷ placed l.Cast x }
-print_expr (ex.Not x) = record { level = l.Not; signs = mark m.Not ∷ placed l.Is x }
-print_expr (ex.Is x test negative) = record { level = l.Is; signs = placed l.Compare x ++ mark m.Is ∷ perhaps negative (mark m.Not) (mark (test_mark test) ∷ []) }
-print_expr (ex.Chain first more) = record { level = chain_level more; signs = placed (operands (chain_level more)) first ++ links_signs (chain_level more) more }
-print_expr (ex.Compare o x y) = record { level = l.Compare; signs = placed l.Range x ++ mark (comparison_mark o) ∷ placed l.Range y }
+print_expr (ex.Neg x) = record { level = l.Sign; terminals = mark m.Minus ∷ placed l.Cast x }
+print_expr (ex.NegSmall x) = record { level = l.Sign; terminals = mark m.Minus ∷ placed l.Cast x }
+print_expr (ex.Not x) = record { level = l.Not; terminals = mark m.Not ∷ placed l.Is x }
+print_expr (ex.Is x test negative) = record {
+  level = l.Is;
+  terminals = placed l.Compare x ++ mark m.Is
+      ∷ perhaps negative (mark m.Not) (mark (test_mark test) ∷ []);
+}
+print_expr (ex.Chain first more) = record {
+  level = chain_level more;
+  terminals = placed (operands (chain_level more)) first
+      ++ links_terminals (chain_level more) more;
+}
+print_expr (ex.Compare o x y) = record { level = l.Compare; terminals = placed l.Range x ++ mark (comparison_mark o) ∷ placed l.Range y }
 print_expr (ex.Between negative x low high) =
-    record { level = l.Range; signs = placed l.Concat x ++ perhaps negative (mark m.Not) (mark m.Between ∷ (placed l.Concat low ++ mark m.And ∷ placed l.Concat high)) }
+    record {
+      level = l.Range;
+      terminals = placed l.Concat x ++ perhaps negative (mark m.Not) (mark m.Between
+          ∷ (placed l.Concat low ++ mark m.And ∷ placed l.Concat high));
+    }
 print_expr (ex.OneOf negative x xs) =
-    record { level = l.Range; signs = placed l.Concat x ++ perhaps negative (mark m.Not) (mark m.In ∷ mark m.Open ∷ (list_signs xs ++ mark m.Close ∷ [])) }
+    record {
+      level = l.Range;
+      terminals = placed l.Concat x ++ perhaps negative (mark m.Not) (mark m.In ∷ mark m.Open
+          ∷ (list_terminals xs ++ mark m.Close ∷ []));
+    }
 print_expr (ex.Cast x ty) = alone (mark m.Cast ∷ mark m.Open ∷ (placed l.Or x ++ mark m.As ∷ name (type_name ty) ∷ mark m.Close ∷ []))
-print_expr (ex.Cases arms other) = alone (mark m.Case ∷ (arms_signs arms ++ (else_signs other ++ mark m.End ∷ [])))
-print_expr (ex.Call n xs) = alone (call_signs n xs)
+print_expr (ex.Cases arms other) = alone (mark m.Case ∷ (arms_terminals arms ++ (else_terminals other ++ mark m.End ∷ [])))
+print_expr (ex.Call n xs) = alone (call_terminals n xs)
 print_expr ex.CountRows = alone (name (codes "count") ∷ mark m.Open ∷ mark m.Star ∷ mark m.Close ∷ [])
 print_expr (ex.Scalar q) = alone (mark m.Open ∷ (q ++ mark m.Close ∷ []))
 print_expr (ex.Exists q) = alone (mark m.Exists ∷ mark m.Open ∷ (q ++ mark m.Close ∷ []))
 
 -- ---- the parts of a select
 
-abbrev item_as : Option (List ℕ) → List Sign
+abbrev item_as : Option (List ℕ) → List Terminal
 item_as None = []
 item_as (Some n) = mark m.As ∷ name n ∷ []
 
-abbrev pub print_item : Item-F Printed Origin (List Sign) (List Sign) (List Sign) (List Sign) (List Sign) (List Sign) → List Sign
+abbrev pub print_item : Item-F Printed Origin (List Terminal) (List Terminal) (List Terminal) (List Terminal) (List Terminal) (List Terminal) → List Terminal
 print_item i = placed l.Or i.expr ++ item_as i.alias
 
 -- A table's own name is its alias where no other is written.
-abbrev from_as : Option (List ℕ) → List ℕ → List Sign
+abbrev from_as : Option (List ℕ) → List ℕ → List Terminal
 from_as None alias = mark m.As ∷ name alias ∷ []
 from_as (Some own) alias = if bytes_eq own alias then [] else mark m.As ∷ name alias ∷ []
 
-abbrev columns_signs : List (List ℕ) → List Sign
-columns_signs [] = []
-columns_signs (n ∷ ns) = mark m.Open ∷ (names_signs (n ∷ ns) ++ mark m.Close ∷ [])
+abbrev columns_terminals : List (List ℕ) → List Terminal
+columns_terminals [] = []
+columns_terminals (n ∷ ns) = mark m.Open ∷ (names_terminals (n ∷ ns) ++ mark m.Close ∷ [])
 
-abbrev print_source : Source-F Printed Origin (List Sign) (List Sign) (List Sign) (List Sign) (List Sign) (List Sign) → Origin
-print_source (ex.Table n) = record { signs = name n ∷ []; own_alias = Some n }
-print_source (ex.Sub q lateral) = record { signs = perhaps lateral (mark m.Lateral) (mark m.Open ∷ (q ++ mark m.Close ∷ [])); own_alias = None }
+abbrev print_source : Source-F Printed Origin (List Terminal) (List Terminal) (List Terminal) (List Terminal) (List Terminal) (List Terminal) → Origin
+print_source (ex.Table n) = record { terminals = name n ∷ []; own_alias = Some n }
+print_source (ex.Sub q lateral) = record { terminals = perhaps lateral (mark m.Lateral) (mark m.Open ∷ (q ++ mark m.Close ∷ [])); own_alias = None }
 
-abbrev pub print_from : FromItem-F Printed Origin (List Sign) (List Sign) (List Sign) (List Sign) (List Sign) (List Sign) → List Sign
-print_from f = f.source.signs ++ (from_as f.source.own_alias f.alias ++ columns_signs f.columns)
+abbrev pub print_from : FromItem-F Printed Origin (List Terminal) (List Terminal) (List Terminal) (List Terminal) (List Terminal) (List Terminal)
+    → List Terminal
+print_from f = f.source.terminals ++ (from_as f.source.own_alias f.alias ++ columns_terminals f.columns)
 
 -- nothing stands for the ascending order
-abbrev pub print_key : Key-F Printed Origin (List Sign) (List Sign) (List Sign) (List Sign) (List Sign) (List Sign) → List Sign
+abbrev pub print_key : Key-F Printed Origin (List Terminal) (List Terminal) (List Terminal) (List Terminal) (List Terminal) (List Terminal) → List Terminal
 print_key k = placed l.Or k.expr ++ perhaps k.descending (mark m.Desc) []
 
-abbrev pub from_signs : List (List Sign) → List Sign
-from_signs [] = []
-from_signs (x ∷ xs) = mark m.From ∷ with_commas (x ∷ xs)
+abbrev pub from_terminals : List (List Terminal) → List Terminal
+from_terminals [] = []
+from_terminals (x ∷ xs) = mark m.From ∷ with_commas (x ∷ xs)
 
-abbrev pub where_signs : Option Printed → List Sign
-where_signs None = []
-where_signs (Some x) = mark m.Where ∷ placed l.Or x
+abbrev pub where_terminals : Option Printed → List Terminal
+where_terminals None = []
+where_terminals (Some x) = mark m.Where ∷ placed l.Or x
 
-abbrev pub order_signs : List (List Sign) → List Sign
-order_signs [] = []
-order_signs (x ∷ xs) = mark m.Order ∷ mark m.By ∷ with_commas (x ∷ xs)
+abbrev pub order_terminals : List (List Terminal) → List Terminal
+order_terminals [] = []
+order_terminals (x ∷ xs) = mark m.Order ∷ mark m.By ∷ with_commas (x ∷ xs)
 
-abbrev pub limit_signs : Option Printed → List Sign
-limit_signs None = []
-limit_signs (Some x) = mark m.Limit ∷ placed l.Or x
+abbrev pub limit_terminals : Option Printed → List Terminal
+limit_terminals None = []
+limit_terminals (Some x) = mark m.Limit ∷ placed l.Or x
 
 -- ---- queries
 
-abbrev pub print_select : Select-F Printed Origin (List Sign) (List Sign) (List Sign) (List Sign) (List Sign) (List Sign) → List Sign
-print_select s = mark m.Select ∷ (with_commas s.list ++ (from_signs s.from ++ (where_signs s.filter ++ (order_signs s.order ++ limit_signs s.limit))))
+abbrev pub print_select : Select-F Printed Origin (List Terminal) (List Terminal) (List Terminal) (List Terminal) (List Terminal) (List Terminal)
+    → List Terminal
+print_select s = mark m.Select ∷ (with_commas s.list ++ (from_terminals s.from
+    ++ (where_terminals s.filter ++ (order_terminals s.order ++ limit_terminals s.limit))))
 
-abbrev pub selects_signs : List (List Sign) → List Sign
-selects_signs = joined (mark m.Union ∷ mark m.All ∷ [])
+abbrev pub selects_terminals : List (List Terminal) → List Terminal
+selects_terminals = joined (mark m.Union ∷ mark m.All ∷ [])
 
-abbrev pub print_recursive : Recursive-F Printed Origin (List Sign) (List Sign) (List Sign) (List Sign) (List Sign) (List Sign) → List Sign
+abbrev pub print_recursive : Recursive-F Printed Origin (List Terminal) (List Terminal) (List Terminal) (List Terminal) (List Terminal) (List Terminal)
+    → List Terminal
 print_recursive r =
     mark m.With ∷ mark m.Recursive ∷ name r.name ∷ mark m.Open
-    ∷ (names_signs r.columns ++ mark m.Close ∷ mark m.As ∷ mark m.Open ∷ (selects_signs (r.first ++ r.second ∷ []) ++ mark m.Close ∷ []))
+    ∷ (names_terminals r.columns ++ mark m.Close ∷ mark m.As ∷ mark m.Open ∷ (selects_terminals (r.first ++ r.second ∷ []) ++ mark m.Close ∷ []))
 
-abbrev with_signs : Option (List Sign) → List Sign
-with_signs None = []
-with_signs (Some signs) = signs
+abbrev with_terminals : Option (List Terminal) → List Terminal
+with_terminals None = []
+with_terminals (Some terminals) = terminals
 
-abbrev pub print_step : Query-F Printed Origin (List Sign) (List Sign) (List Sign) (List Sign) (List Sign) (List Sign) → List Sign
-print_step q = with_signs q.recursive ++ selects_signs q.selects
+abbrev pub print_step : Query-F Printed Origin (List Terminal) (List Terminal) (List Terminal) (List Terminal) (List Terminal) (List Terminal) → List Terminal
+print_step q = with_terminals q.recursive ++ selects_terminals q.selects
 
 abbrev pub printing : Algebra
 printing = record {
   AnExpr = Printed;
   ASource = Origin;
-  AFrom = List Sign;
-  AnItem = List Sign;
-  AKey = List Sign;
-  AQuery = List Sign;
-  ARecursive = List Sign;
-  ASelect = List Sign;
+  AFrom = List Terminal;
+  AnItem = List Terminal;
+  AKey = List Terminal;
+  AQuery = List Terminal;
+  ARecursive = List Terminal;
+  ASelect = List Terminal;
   no_expr = alone [];
   no_query = [];
   expr = print_expr;
@@ -274,13 +294,13 @@ printing = record {
   select = print_select;
 }
 
--- the signs of an expression, and the level at which they read as it
+-- the terminals of an expression, and the level at which they read as it
 abbrev pub printed : Expr → Printed
 printed = expr_of printing
 
--- the signs of a query
-abbrev pub query_signs : Query → List Sign
-query_signs = query_of printing
+-- the terminals of a query
+abbrev pub query_terminals : Query → List Terminal
+query_terminals = query_of printing
 
 -- ---- the text
 
@@ -369,18 +389,18 @@ mark_spelled m.While = word (codes "WHILE")
 mark_spelled m.With = word (codes "WITH")
 
 -- A string stands in UTF-8, with each quote in it twice. No query prints a dollar quote.
-abbrev pub spelled : Sign → Spelled
-spelled (mark sign) = mark_spelled sign
+abbrev pub spelled : Terminal → Spelled
+spelled (mark terminal) = mark_spelled terminal
 spelled (name n) = word n
 spelled (integer n) = record { kind = Integer; text = decimal n }
 spelled (string t) = record { kind = Str; text = quoted (encode_utf8_all t) }
 spelled (parameter i) = record { kind = Parameter; text = 36 ∷ decimal i }
 spelled (quote z) = record { kind = Dollar; text = z }
 
--- the text of signs: their tokens with the spacing of printed text, and a line feed
-abbrev pub signs_text : List Sign → List ℕ
-signs_text signs = written (laid calls (map spelled signs))
+-- the text of terminals: their tokens with the spacing of printed text, and a line feed
+abbrev pub terminals_text : List Terminal → List ℕ
+terminals_text terminals = written (laid calls (map spelled terminals))
 
 -- the one text of a query
 unfoldable pub query_text : Query → List ℕ
-query_text q = signs_text (query_signs q)
+query_text q = terminals_text (query_terminals q)

@@ -74,7 +74,7 @@ pub record IsString (z : List ℕ) : Type 0 where
 
 -- ---- dollar quotes
 
--- the mark of a tag: the tag between dollar signs
+-- the mark of a tag: the tag between dollar terminals
 abbrev pub mark_of : List ℕ → List ℕ
 mark_of tag = 36 ∷ (tag ++ 36 ∷ [])
 

@@ -5,7 +5,7 @@ use Rattle.away_trees.specs.declared.queries.Expr.{Expr}
 use Rattle.away_trees.specs.declared.queries.Query.{Query}
 use Rattle.away_trees.specs.declared.schemas.Schema.{Schema}
 use Rattle.away_grammar.specs.Tokens.{Lexeme, Lexes}
-use Rattle.away_grammar.specs.Signs.{all_say}
+use Rattle.away_grammar.specs.Terminals.{token_terminals}
 use Rattle.away_grammar.specs.Grammar.{at, file, tables, Reads, Stops}
 
 -- UTF-8 without U+0000
@@ -15,15 +15,15 @@ pub record IsText (bytes : List ℕ) : Type 0 where
 
 -- The text has no bad token, and the grammar reads all of its tokens as the query.
 abbrev pub ReadsQuery : List ℕ → Query → Type 0
-ReadsQuery z q = (ts : List Lexeme) × Lexes 0 z ts None × Reads file (all_say ts) q []
+ReadsQuery z q = (ts : List Lexeme) × Lexes 0 z ts None × Reads file (token_terminals ts) q []
 
 -- The text has no bad token, and the grammar reads all of its tokens as the tables of the schema.
 abbrev pub ReadsSchema : List ℕ → Schema → Type 0
-ReadsSchema z s = (ts : List Lexeme) × Lexes 0 z ts None × Reads tables (all_say ts) s.tables []
+ReadsSchema z s = (ts : List Lexeme) × Lexes 0 z ts None × Reads tables (token_terminals ts) s.tables []
 
 -- The grammar reads the tokens of the list from one place up to another as the expression, and the token there can't continue it.
 pub record IsExpression (list : List Lexeme) (begin : ℕ) (x : Expr) (end : ℕ) : Type 0 where
   pub forward : begin ≤ end
   pub within : end ≤ length list
-  pub reads : Reads (at l.Or) (all_say (drop begin list)) x (all_say (drop end list))
-  pub stops : Stops (at l.Or) (all_say (drop end list))
+  pub reads : Reads (at l.Or) (token_terminals (drop begin list)) x (token_terminals (drop end list))
+  pub stops : Stops (at l.Or) (token_terminals (drop end list))

@@ -18,7 +18,7 @@ use Rattle.away_trees.specs.declared.queries.Query.{Query}
 use Rattle.away_trees.specs.declared.queries.Expr.TheViews.{out-Item, out-FromItem, out-Key, out-Select, out-Query, roll-Key}
 use Rattle.away_trees.specs.Algebra.{expr_of, item_of, key_of, from_of, select_of, query_of, recursive_of}
 use Rattle.away_trees.proofs.Equations as e
-use Rattle.away_names.specs.declared.note.Named.{Named}
+use Rattle.away_names.specs.declared.note.Noted.{Noted}
 use Rattle.away_names.specs.declared.note.Shown.{Shown}
 use Rattle.away_names.specs.Notes.{pure, noted, breaks, joined, mapped, also, paired, each, held}
 use Rattle.away_names.specs.Lookups.{Name, Level, Scope, inside, has_double}
@@ -72,9 +72,9 @@ pub named_is : (x : Name) (s : Scope) → named_expr (expr.Named x) s ≡ n.name
 unfolding named_expr
 named_is x s = refl
 
-pub dotted_is : (a x : Name) (s : Scope) → named_expr (expr.Dotted a x) s ≡ n.dotted a x s
+pub qualified_is : (a x : Name) (s : Scope) → named_expr (expr.Dotted a x) s ≡ n.qualified a x s
 unfolding named_expr
-dotted_is a x s = refl
+qualified_is a x s = refl
 
 pub slot_is : (i : ℕ) (s : Scope) → named_expr (expr.Slot i) s ≡ n.unwritten (expr.Slot i)
 unfolding named_expr
@@ -144,7 +144,7 @@ pub exists_is : (q : Query) (s : Scope) → named_expr (expr.Exists q) s ≡ map
 unfolding named_expr named_query
 exists_is q s = ap (λ t. t.judge s) (e.of_exists naming q)
 
-pub ruleset naming_rules = (int_is, str_is, bool_is, null_is, named_is, dotted_is, slot_is, column_is, param_is, neg_is, negsmall_is, not_is, is_is, cast_is, chain_is, compare_is, between_is, oneof_is, cases_is, call_is, countrows_is, scalar_is, exists_is)
+pub ruleset naming_rules = (int_is, str_is, bool_is, null_is, named_is, qualified_is, slot_is, column_is, param_is, neg_is, negsmall_is, not_is, is_is, cast_is, chain_is, compare_is, between_is, oneof_is, cases_is, call_is, countrows_is, scalar_is, exists_is)
 
 -- ---- FROM
 

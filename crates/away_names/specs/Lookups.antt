@@ -61,8 +61,8 @@ nearest has depth (l ∷ ls) = or_else (has depth l) (nearest has (depth + 1) ls
 unfoldable pub column_named : Name → List Level → Option Hit
 column_named n = nearest (λ depth level. in_level n depth 0 level) 0
 
-unfoldable pub column_dotted : Name → Name → List Level → Option Hit
-column_dotted a n = nearest (λ depth level. in_item a n depth 0 level) 0
+unfoldable pub column_qualified : Name → Name → List Level → Option Hit
+column_qualified a n = nearest (λ depth level. in_item a n depth 0 level) 0
 
 -- ---- variables and tables
 

@@ -18,7 +18,7 @@ use Rattle.away_trees.specs.declared.queries.Expr.TheViews.{roll-Item, roll-From
 use Rattle.away_trees.specs.Algebra.{Algebra}
 use Rattle.away_trees.specs.AlgebraEquations.{algebra}
 use Rattle.away_names.specs.declared.note.Note.{Note}
-use Rattle.away_names.specs.declared.note.Named.{Named}
+use Rattle.away_names.specs.declared.note.Noted.{Noted}
 use Rattle.away_names.specs.declared.note.Shown.{Shown}
 use Rattle.away_names.specs.declared.note.Column.{Column}
 use Rattle.away_names.specs.declared.note.Framed.{Framed}
@@ -31,39 +31,39 @@ use Rattle.away_names.specs.declared.scope.Listed.{Listed}
 use Rattle.away_names.specs.declared.scope.Hit.{Hit}
 use Rattle.away_names.specs.Functions.{function}
 use Rattle.away_names.specs.Notes.{clean, joined, breaks, pure, noted, mapped, also, paired, each, held, all_notes}
-use Rattle.away_names.specs.Lookups.{Name, Level, Scope, inside, or_else, is_named, column_named, column_dotted, variable_named, has_double, is_kept}
+use Rattle.away_names.specs.Lookups.{Name, Level, Scope, inside, or_else, is_named, column_named, column_qualified, variable_named, has_double, is_kept}
 
 -- ---- what stands for a tree
 
 -- `alone` is the name where that is the whole expression, and `last` the name of a column written with or without its item
 pub record Term : Type 0 where
-  pub judge : Scope → Named Expr
+  pub judge : Scope → Noted Expr
   pub alone : Option Name
   pub last : Option Name
 
 -- an item of a list, and its column's name
 pub record Entry : Type 0 where
   pub alias : Option Name
-  pub judge : Scope → Named Column
+  pub judge : Scope → Noted Column
 
 -- a select or a query with the names of its columns
 abbrev pub Listing : Type 0
-Listing = Scope → Named (Shown Select)
+Listing = Scope → Noted (Shown Select)
 
 abbrev pub Whole : Type 0
-Whole = Scope → Named (Shown Query)
+Whole = Scope → Noted (Shown Query)
 
 -- by the written list of columns and the items before it: the source, the list of columns, and the columns as names see them
 abbrev pub Rows : Type 0
-Rows = List Name → Scope → Level → Named Origin
+Rows = List Name → Scope → Level → Noted Origin
 
 pub record Piece : Type 0 where
   pub alias : Name
-  pub judge : Scope → Level → Named Part
+  pub judge : Scope → Level → Noted Part
 
 -- by the aliases of the list
 abbrev pub Sort : Type 0
-Sort = List (Option Name) → Scope → Named Key
+Sort = List (Option Name) → Scope → Noted Key
 
 -- a recursive table stands before a whole query alone, and nothing is asked of it here
 abbrev pub Terms : Type 0
@@ -84,48 +84,48 @@ maybe_written s (Some n) = written s n
 
 -- ---- an expression
 
-unfoldable pub slot_or : Name → Option Variable → Named Expr
+unfoldable pub slot_or : Name → Option Variable → Noted Expr
 slot_or n (Some v) = pure (expr.Slot v.slot)
 slot_or n None = noted (breaks 7 true) (expr.Named n)
 
-unfoldable pub named_by : Name → Option Hit → Option Variable → Named Expr
+unfoldable pub named_by : Name → Option Hit → Option Variable → Noted Expr
 named_by n (Some hit) v = noted (breaks 8 (hit.many || is_some v)) (expr.Column hit.column)
 named_by n None v = slot_or n v
 
-unfoldable pub named : Name → Scope → Named Expr
+unfoldable pub named : Name → Scope → Noted Expr
 named n s = also (written s n) (named_by n (column_named n s.levels) (variable_named n s.variables))
 
-unfoldable pub dotted_by : Name → Name → Option Hit → Named Expr
-dotted_by a n (Some hit) = pure (expr.Column hit.column)
-dotted_by a n None = noted (breaks 7 true) (expr.Dotted a n)
+unfoldable pub qualified_by : Name → Name → Option Hit → Noted Expr
+qualified_by a n (Some hit) = pure (expr.Column hit.column)
+qualified_by a n None = noted (breaks 7 true) (expr.Dotted a n)
 
-unfoldable pub dotted : Name → Name → Scope → Named Expr
-dotted a n s = also (joined (written s a) (written s n)) (dotted_by a n (column_dotted a n s.levels))
+unfoldable pub qualified : Name → Name → Scope → Noted Expr
+qualified a n s = also (joined (written s a) (written s n)) (qualified_by a n (column_qualified a n s.levels))
 
 -- slots and columns stand for names, and no reader writes one; where one is written, it's no name that is known
-unfoldable pub unwritten : Expr → Named Expr
+unfoldable pub unwritten : Expr → Noted Expr
 unwritten e = noted (breaks 7 true) e
 
 -- a function is known by its name
 unfoldable pub called : Scope → Name → Note
 called s name = joined (written s name) (breaks 7 (not (is_some (function name))))
 
-abbrev pub linked : Scope → ChainOp × Term → Named (ChainOp × Expr)
+abbrev pub linked : Scope → ChainOp × Term → Noted (ChainOp × Expr)
 linked s l = mapped (λ e. (l.0, e)) (l.1.judge s)
 
-abbrev pub armed : Scope → Term × Term → Named (Expr × Expr)
+abbrev pub armed : Scope → Term × Term → Noted (Expr × Expr)
 armed s a = paired (λ x y. (x, y)) (a.0.judge s) (a.1.judge s)
 
 abbrev pub Layer : Type 0
 Layer = Expr-F Term Rows Piece Entry Sort Whole Terms Listing
 
-abbrev pub judge : Layer → Scope → Named Expr
+abbrev pub judge : Layer → Scope → Noted Expr
 judge (ex.Int n) s = pure (expr.Int n)
 judge (ex.Str t) s = pure (expr.Str t)
 judge (ex.Bool b) s = pure (expr.Bool b)
 judge ex.Null s = pure expr.Null
 judge (ex.Named n) s = named n s
-judge (ex.Dotted a n) s = dotted a n s
+judge (ex.Dotted a n) s = qualified a n s
 judge (ex.Slot i) s = unwritten (expr.Slot i)
 judge (ex.Column c) s = unwritten (expr.Column c)
 judge (ex.Param i ty) s = noted (breaks 7 s.in_function) (expr.Param i ty)
@@ -166,7 +166,7 @@ abbrev pub plain_names : List Name → List (Option Name)
 plain_names = map Some
 
 -- a table that isn't known has no columns
-unfoldable pub of_table : Name → Option Listed → Named Origin
+unfoldable pub of_table : Name → Option Listed → Noted Origin
 of_table n None = noted (breaks 9 true) (record { source = source.Table n; columns = []; names = [] })
 of_table n (Some t) = noted (once_where t.recursive) (record { source = source.Table n; columns = t.written; names = plain_names (drop 1 t.written) })
 
@@ -196,14 +196,14 @@ part_note s alias columns = joined (written s alias) (joined (all_written s colu
 abbrev pub part : FromItem-F Term Rows Piece Entry Sort Whole Terms Listing → Piece
 part f = record { alias = f.alias; judge = λ s level. also (part_note s f.alias f.columns) (mapped (shaped f.alias) (f.source f.columns s level)) }
 
-abbrev pub with_part : Named Framed → Named Part → Named Framed
+abbrev pub with_part : Noted Framed → Noted Part → Noted Framed
 with_part a x = record { it = record { items = a.it.items ++ x.it.item ∷ []; seen = a.it.seen ++ x.it.seen ∷ [] }; note = joined a.note x.note }
 
-abbrev pub no_part : Named Framed
+abbrev pub no_part : Noted Framed
 no_part = pure (record { items = []; seen = [] })
 
 -- each item sees those before it
-abbrev pub framed : Scope → List Piece → Named Framed
+abbrev pub framed : Scope → List Piece → Noted Framed
 framed s = fold (λ a f. with_part a (f.judge s a.it.seen)) no_part
 
 -- ---- a select
@@ -222,13 +222,13 @@ item_of alias last e = record { it = roll-Item (record { expr = e; alias = alias
 abbrev pub item : Item-F Term Rows Piece Entry Sort Whole Terms Listing → Entry
 item i = record { alias = i.alias; judge = λ s. also (maybe_written s i.alias) (mapped (item_of i.alias i.expr.last) (i.expr.judge s)) }
 
-abbrev pub with_item : Named (Shown (List Item)) → Named Column → Named (Shown (List Item))
+abbrev pub with_item : Noted (Shown (List Item)) → Noted Column → Noted (Shown (List Item))
 with_item a x = record { it = record { it = a.it.it ++ x.it.it ∷ []; names = a.it.names ++ x.it.name ∷ [] }; note = joined a.note x.note }
 
-abbrev pub no_item : Named (Shown (List Item))
+abbrev pub no_item : Noted (Shown (List Item))
 no_item = pure (record { it = []; names = [] })
 
-abbrev pub items : Scope → List Entry → Named (Shown (List Item))
+abbrev pub items : Scope → List Entry → Noted (Shown (List Item))
 items s = fold (λ a i. with_item a (i.judge s)) no_item
 
 -- a key that is a name alone may not be written as an alias in the list
@@ -241,12 +241,12 @@ sort k aliases s =
     also (breaks 8 (is_alias aliases k.expr.alone)) (mapped (λ e. roll-Key (record { expr = e; descending = k.descending })) (k.expr.judge s))
 
 -- the list, the condition, the keys and LIMIT, which see the columns of FROM
-abbrev pub select_of : List FromItem → Named (Shown (List Item)) → Named (Option Expr) → Named (List Key) → Named (Option Expr) → Named (Shown Select)
+abbrev pub select_of : List FromItem → Noted (Shown (List Item)) → Noted (Option Expr) → Noted (List Key) → Noted (Option Expr) → Noted (Shown Select)
 select_of from list filter order limit =
     noted (joined (joined list.note filter.note) (joined order.note limit.note))
     (record { it = roll-Select (record { list = list.it.it; from = from; filter = filter.it; order = order.it; limit = limit.it }); names = list.it.names })
 
-abbrev pub over : Select-F Term Rows Piece Entry Sort Whole Terms Listing → Scope → List FromItem → Named (Shown Select)
+abbrev pub over : Select-F Term Rows Piece Entry Sort Whole Terms Listing → Scope → List FromItem → Noted (Shown Select)
 over s inner from =
     select_of from (items inner s.list) (held (λ t. t.judge inner) s.filter) (each (λ k. k (map (λ i. i.alias) s.list) inner) s.order) (held (λ t. t.judge inner) s.limit)
 
@@ -262,14 +262,14 @@ unfoldable pub first_names : List Select → List (Option Name) → List (Option
 first_names [] names more = more
 first_names (s ∷ ss) names more = names
 
-abbrev pub with_select : Named (Shown (List Select)) → Named (Shown Select) → Named (Shown (List Select))
+abbrev pub with_select : Noted (Shown (List Select)) → Noted (Shown Select) → Noted (Shown (List Select))
 with_select a x =
     record { it = record { it = a.it.it ++ x.it.it ∷ []; names = first_names a.it.it a.it.names x.it.names }; note = joined a.note x.note }
 
-abbrev pub no_select : Named (Shown (List Select))
+abbrev pub no_select : Noted (Shown (List Select))
 no_select = pure (record { it = []; names = [] })
 
-abbrev pub united : List Listing → Scope → Named (Shown (List Select))
+abbrev pub united : List Listing → Scope → Noted (Shown (List Select))
 united selects s = fold (λ a l. with_select a (l s)) no_select selects
 
 abbrev pub query_with : Shown (List Select) → Shown Query

@@ -3,7 +3,7 @@ use Rattle.std.specs.Prelude.{ℕ, Bool, if◌then◌else◌, nat_le, List, [], 
 use Rattle.away_names.specs.declared.note.Times.{Times}
 use Rattle.away_names.specs.declared.note.Times.TheVariants.{Never, Once, Often}
 use Rattle.away_names.specs.declared.note.Note.{Note}
-use Rattle.away_names.specs.declared.note.Named.{Named}
+use Rattle.away_names.specs.declared.note.Noted.{Noted}
 
 unfoldable pub lesser : ℕ → ℕ → ℕ
 lesser a b = if nat_le a b then a else b
@@ -25,31 +25,31 @@ joined a b = record { least = lesser a.least b.least; refers = summed a.refers b
 unfoldable pub breaks : ℕ → Bool → Note
 breaks rule test = record { least = if test then rule else 255; refers = Never }
 
-abbrev pub pure : {A : Type 0} → A → Named A
+abbrev pub pure : {A : Type 0} → A → Noted A
 pure x = record { it = x; note = clean }
 
-abbrev pub noted : {A : Type 0} → Note → A → Named A
+abbrev pub noted : {A : Type 0} → Note → A → Noted A
 noted n x = record { it = x; note = n }
 
-abbrev pub mapped : {A B : Type 0} → (A → B) → Named A → Named B
+abbrev pub mapped : {A B : Type 0} → (A → B) → Noted A → Noted B
 mapped f a = record { it = f a.it; note = a.note }
 
-abbrev pub also : {A : Type 0} → Note → Named A → Named A
+abbrev pub also : {A : Type 0} → Note → Noted A → Noted A
 also n a = record { it = a.it; note = joined n a.note }
 
 -- two results, the left one first
-abbrev pub paired : {A B C : Type 0} → (A → B → C) → Named A → Named B → Named C
+abbrev pub paired : {A B C : Type 0} → (A → B → C) → Noted A → Noted B → Noted C
 paired f a b = record { it = f a.it b.it; note = joined a.note b.note }
 
 -- a further result at the end of a list
-abbrev pub added : {A : Type 0} → Named (List A) → Named A → Named (List A)
+abbrev pub added : {A : Type 0} → Noted (List A) → Noted A → Noted (List A)
 added a x = record { it = a.it ++ x.it ∷ []; note = joined a.note x.note }
 
 -- from left to right
-abbrev pub each : {A B : Type 0} → (A → Named B) → List A → Named (List B)
+abbrev pub each : {A B : Type 0} → (A → Noted B) → List A → Noted (List B)
 each f = fold (λ a x. added a (f x)) (pure [])
 
-abbrev pub held : {A B : Type 0} → (A → Named B) → Option A → Named (Option B)
+abbrev pub held : {A B : Type 0} → (A → Noted B) → Option A → Noted (Option B)
 held f None = pure None
 held f (Some x) = mapped Some (f x)
 

@@ -9,7 +9,7 @@ use Rattle.away_trees.specs.declared.queries.Key.{Key}
 use Rattle.away_trees.specs.declared.queries.Select.{Select}
 use Rattle.away_trees.specs.declared.queries.Query.{Query}
 use Rattle.away_trees.specs.Algebra.{expr_of, source_of, from_of, item_of, key_of, query_of, select_of}
-use Rattle.away_names.specs.declared.note.Named.{Named}
+use Rattle.away_names.specs.declared.note.Noted.{Noted}
 use Rattle.away_names.specs.declared.note.Shown.{Shown}
 use Rattle.away_names.specs.declared.note.Column.{Column}
 use Rattle.away_names.specs.declared.note.Part.{Part}
@@ -19,25 +19,25 @@ use Rattle.away_names.specs.Naming.{naming}
 
 -- ---- names
 
-unfoldable pub named_expr : Expr → Scope → Named Expr
+unfoldable pub named_expr : Expr → Scope → Noted Expr
 named_expr e = (expr_of naming e).judge
 
-unfoldable pub named_item : Item → Scope → Named Column
+unfoldable pub named_item : Item → Scope → Noted Column
 named_item i = (item_of naming i).judge
 
-unfoldable pub named_key : Key → List (Option Name) → Scope → Named Key
+unfoldable pub named_key : Key → List (Option Name) → Scope → Noted Key
 named_key k = key_of naming k
 
-unfoldable pub named_source : Source → List Name → Scope → Level → Named Origin
+unfoldable pub named_source : Source → List Name → Scope → Level → Noted Origin
 named_source x = source_of naming x
 
-unfoldable pub named_part : FromItem → Scope → Level → Named Part
+unfoldable pub named_part : FromItem → Scope → Level → Noted Part
 named_part f = (from_of naming f).judge
 
-unfoldable pub named_select : Select → Scope → Named (Shown Select)
+unfoldable pub named_select : Select → Scope → Noted (Shown Select)
 named_select x = select_of naming x
 
-unfoldable pub named_query : Query → Scope → Named (Shown Query)
+unfoldable pub named_query : Query → Scope → Noted (Shown Query)
 named_query q = query_of naming q
 
 -- the name of a column that is written with or without its item

@@ -10,7 +10,7 @@ ghost use Rattle.away_names.specs.Places.{scope};
 
 use crate::lookups::has_double;
 use crate::naming_queries::{named_select, named_selects};
-use crate::note::{File, Named, Shown, Terms, breaks, clean, joined};
+use crate::note::{File, Noted, Shown, Terms, breaks, clean, joined};
 use crate::origins::copy_names;
 use crate::scope::{Listed, Scope, Tables, Working};
 use crate::tables::{digits, tables_of};
@@ -81,7 +81,7 @@ fn working(alloc: Global, place: usize, r: &Recursive) -> Result<Working, NoMemo
 fn file_alone(alloc: Global, s: &Scope<'_>, selects: &[Select]) -> Result<File, NoMemory>
     ensures { IfOk result (λ f. f ≡ spec.file_alone (scope s.now) selects.now) }
 {
-    let Named { it, note } = named_selects(alloc, selects, s)?;
+    let Noted { it, note } = named_selects(alloc, selects, s)?;
     let Shown { it, names: _ } = it;
     Ok(File {
         query: Query {
@@ -99,7 +99,7 @@ fn named_terms(alloc: Global, s: &Scope<'_>, r: &Recursive) -> Result<Terms, NoM
 {
     let name = r.name.copy(alloc)?;
     let columns = copy_names(alloc, r.columns.as_slice())?;
-    let Named {
+    let Noted {
         it: shown,
         note: first,
     } = named_selects(alloc, r.first.as_slice(), s)?;
@@ -107,7 +107,7 @@ fn named_terms(alloc: Global, s: &Scope<'_>, r: &Recursive) -> Result<Terms, NoM
         it: selects,
         names: _,
     } = shown;
-    let Named {
+    let Noted {
         it: shown,
         note: second,
     } = named_select(alloc, &r.second, s)?;
@@ -142,7 +142,7 @@ fn file_behind(
         first,
         second,
     } = named_terms(alloc, s, r)?;
-    let Named { it, note } = named_selects(alloc, selects, s)?;
+    let Noted { it, note } = named_selects(alloc, selects, s)?;
     let Shown { it, names: _ } = it;
     Ok(File {
         query: Query {

@@ -11,7 +11,7 @@ ghost use Rattle.away_names.specs.Trees.{last_of, alone_of};
 ghost use Rattle.away_trees.specs.declared.queries.Item.{out-Item};
 
 use crate::lookups::is_named;
-use crate::note::{Column, Named, Shown, joined};
+use crate::note::{Column, Noted, Shown, joined};
 use crate::references::maybe_written;
 use crate::scope::Scope;
 use away_trees::{Expr, FromItem, Item, Key, Select};
@@ -92,13 +92,13 @@ pub fn column_of(
     s: &Scope<'_>,
     alias: &Option<Name>,
     written: &Expr,
-    x: Named<Expr>,
-) -> Result<Named<Column>, NoMemory>
+    x: Noted<Expr>,
+) -> Result<Noted<Column>, NoMemory>
     ensures { IfOk result (λ r. r ≡ notes.also (spec.maybe_written (scope s.now) alias.now) (notes.mapped (spec.item_of alias.now (last_of written.now)) x)) }
 {
     let name = named_as(alloc, alias, &x.it, written)?;
     let alias_copy = copy_alias(alloc, alias)?;
-    Ok(Named {
+    Ok(Noted {
         it: Column {
             it: Item {
                 expr: x.it,
@@ -135,20 +135,20 @@ pub fn is_alias(list: &[Item], key: &Expr) -> bool
 /// A select, where its parts are resolved.
 pub fn select_of(
     from: Items<FromItem>,
-    list: Named<Shown<Items<Item>>>,
-    filter: Named<Option<Expr>>,
-    order: Named<Items<Key>>,
-    limit: Named<Option<Expr>>,
-) -> Named<Shown<Select>>
+    list: Noted<Shown<Items<Item>>>,
+    filter: Noted<Option<Expr>>,
+    order: Noted<Items<Key>>,
+    limit: Noted<Option<Expr>>,
+) -> Noted<Shown<Select>>
     ensures { result ≡ spec.select_of from list filter order limit }
 {
     let note = joined(
         joined(list.note, filter.note),
         joined(order.note, limit.note),
     );
-    let Named { it, note: _ } = list;
+    let Noted { it, note: _ } = list;
     let Shown { it, names } = it;
-    Named {
+    Noted {
         it: Shown {
             it: Select {
                 list: it,

@@ -131,9 +131,9 @@ fn in_item(a: &Name, n: &Name, depth: u32, level: &[Seen]) -> Result<Option<Hit>
     Ok(None)
 }
 
-#[tactic(auto, unfolding(crate::specs::Lookups::column_dotted))]
-pub fn column_dotted(a: &Name, n: &Name, s: &Scope<'_>) -> Result<Option<Hit>, NoMemory>
-    ensures { IfOk result (λ h. h ≡ spec.column_dotted a.now n.now (scope s.now).levels) }
+#[tactic(auto, unfolding(crate::specs::Lookups::column_qualified))]
+pub fn column_qualified(a: &Name, n: &Name, s: &Scope<'_>) -> Result<Option<Hit>, NoMemory>
+    ensures { IfOk result (λ h. h ≡ spec.column_qualified a.now n.now (scope s.now).levels) }
 {
     let mut levels = s.levels;
     let mut depth = 0;

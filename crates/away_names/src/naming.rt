@@ -8,28 +8,28 @@ ghost use Rattle.away_names.specs.Places.{scope};
 ghost use Rattle.away_names.specs.Trees as trees;
 
 use crate::naming_queries::named_query;
-use crate::note::{Column, Named, Shown, breaks, clean, joined};
-use crate::references::{called, dotted, named};
+use crate::note::{Column, Noted, Shown, breaks, clean, joined};
+use crate::references::{call_note, named, qualified};
 use crate::scope::Scope;
 use away_trees::{Expr, Query};
 use away_values::{ChainOp, NoMemory};
 use sqlite_items::{Boxed, Items};
 use std::alloc::Global;
 
-fn pure(e: Expr) -> Named<Expr>
+fn pure(e: Expr) -> Noted<Expr>
     ensures { result ≡ notes.pure e }
 {
-    Named {
+    Noted {
         it: e,
         note: clean(),
     }
 }
 
 #[tactic(auto, unfolding(crate::specs::Naming::unwritten))]
-fn unwritten(e: Expr) -> Named<Expr>
+fn unwritten(e: Expr) -> Noted<Expr>
     ensures { result ≡ spec.unwritten e }
 {
-    Named {
+    Noted {
         it: e,
         note: breaks(7, true),
     }
@@ -38,7 +38,7 @@ fn unwritten(e: Expr) -> Named<Expr>
 /// An expression.
 #[cycle(naming)]
 #[tactic(auto, using(crate::proofs::NamingRules::naming_rules))]
-pub fn named_expr(alloc: Global, e: &Expr, s: &Scope<'_>) -> Result<Named<Expr>, NoMemory>
+pub fn named_expr(alloc: Global, e: &Expr, s: &Scope<'_>) -> Result<Noted<Expr>, NoMemory>
     ensures { IfOk result (λ x. x ≡ trees.named_expr e.now (scope s.now)) }
 {
     match e {
@@ -47,37 +47,37 @@ pub fn named_expr(alloc: Global, e: &Expr, s: &Scope<'_>) -> Result<Named<Expr>,
         Expr::Bool(b) => Ok(pure(Expr::Bool(*b))),
         Expr::Null => Ok(pure(Expr::Null)),
         Expr::Named(n) => named(alloc, n, s),
-        Expr::Dotted(a, n) => dotted(alloc, a, n, s),
+        Expr::Dotted(a, n) => qualified(alloc, a, n, s),
         Expr::Slot(i) => Ok(unwritten(Expr::Slot(*i))),
         Expr::Column(c) => Ok(unwritten(Expr::Column(*c))),
-        Expr::Param(i, ty) => Ok(Named {
+        Expr::Param(i, ty) => Ok(Noted {
             it: Expr::Param(*i, *ty),
             note: breaks(7, s.in_function),
         }),
         Expr::Neg(a) => {
             let x = named_box(alloc, a.get(), s)?;
-            Ok(Named {
+            Ok(Noted {
                 it: Expr::Neg(x.it),
                 note: x.note,
             })
         }
         Expr::NegSmall(a) => {
             let x = named_box(alloc, a.get(), s)?;
-            Ok(Named {
+            Ok(Noted {
                 it: Expr::NegSmall(x.it),
                 note: x.note,
             })
         }
         Expr::Not(a) => {
             let x = named_box(alloc, a.get(), s)?;
-            Ok(Named {
+            Ok(Noted {
                 it: Expr::Not(x.it),
                 note: x.note,
             })
         }
         Expr::Is(a, test, negative) => {
             let x = named_box(alloc, a.get(), s)?;
-            Ok(Named {
+            Ok(Noted {
                 it: Expr::Is(x.it, *test, *negative),
                 note: x.note,
             })
@@ -85,7 +85,7 @@ pub fn named_expr(alloc: Global, e: &Expr, s: &Scope<'_>) -> Result<Named<Expr>,
         Expr::Chain(first, links) => {
             let x = named_box(alloc, first.get(), s)?;
             let xs = named_links(alloc, links.as_slice(), s)?;
-            Ok(Named {
+            Ok(Noted {
                 it: Expr::Chain(x.it, xs.it),
                 note: joined(x.note, xs.note),
             })
@@ -93,7 +93,7 @@ pub fn named_expr(alloc: Global, e: &Expr, s: &Scope<'_>) -> Result<Named<Expr>,
         Expr::Compare(op, a, b) => {
             let x = named_box(alloc, a.get(), s)?;
             let y = named_box(alloc, b.get(), s)?;
-            Ok(Named {
+            Ok(Noted {
                 it: Expr::Compare(*op, x.it, y.it),
                 note: joined(x.note, y.note),
             })
@@ -102,7 +102,7 @@ pub fn named_expr(alloc: Global, e: &Expr, s: &Scope<'_>) -> Result<Named<Expr>,
             let x = named_box(alloc, a.get(), s)?;
             let y = named_box(alloc, low.get(), s)?;
             let z = named_box(alloc, high.get(), s)?;
-            Ok(Named {
+            Ok(Noted {
                 it: Expr::Between(*negative, x.it, y.it, z.it),
                 note: joined(x.note, joined(y.note, z.note)),
             })
@@ -110,14 +110,14 @@ pub fn named_expr(alloc: Global, e: &Expr, s: &Scope<'_>) -> Result<Named<Expr>,
         Expr::OneOf(negative, a, choices) => {
             let x = named_box(alloc, a.get(), s)?;
             let xs = named_all(alloc, choices.as_slice(), s)?;
-            Ok(Named {
+            Ok(Noted {
                 it: Expr::OneOf(*negative, x.it, xs.it),
                 note: joined(x.note, xs.note),
             })
         }
         Expr::Cast(a, ty) => {
             let x = named_box(alloc, a.get(), s)?;
-            Ok(Named {
+            Ok(Noted {
                 it: Expr::Cast(x.it, *ty),
                 note: x.note,
             })
@@ -125,7 +125,7 @@ pub fn named_expr(alloc: Global, e: &Expr, s: &Scope<'_>) -> Result<Named<Expr>,
         Expr::Cases(arms, other) => {
             let xs = named_arms(alloc, arms.as_slice(), s)?;
             let y = named_other(alloc, other, s)?;
-            Ok(Named {
+            Ok(Noted {
                 it: Expr::Cases(xs.it, y.it),
                 note: joined(xs.note, y.note),
             })
@@ -133,22 +133,22 @@ pub fn named_expr(alloc: Global, e: &Expr, s: &Scope<'_>) -> Result<Named<Expr>,
         Expr::Call(name, args) => {
             let function = name.copy(alloc)?;
             let xs = named_all(alloc, args.as_slice(), s)?;
-            Ok(Named {
+            Ok(Noted {
                 it: Expr::Call(function, xs.it),
-                note: joined(called(s, name), xs.note),
+                note: joined(call_note(s, name), xs.note),
             })
         }
         Expr::CountRows => Ok(pure(Expr::CountRows)),
         Expr::Scalar(q) => {
             let x = named_subquery(alloc, q.get(), s)?;
-            Ok(Named {
+            Ok(Noted {
                 it: Expr::Scalar(x.it),
                 note: x.note,
             })
         }
         Expr::Exists(q) => {
             let x = named_subquery(alloc, q.get(), s)?;
-            Ok(Named {
+            Ok(Noted {
                 it: Expr::Exists(x.it),
                 note: x.note,
             })
@@ -157,23 +157,23 @@ pub fn named_expr(alloc: Global, e: &Expr, s: &Scope<'_>) -> Result<Named<Expr>,
 }
 
 #[cycle(naming)]
-fn named_box(alloc: Global, e: &Expr, s: &Scope<'_>) -> Result<Named<Boxed<Expr>>, NoMemory>
+fn named_box(alloc: Global, e: &Expr, s: &Scope<'_>) -> Result<Noted<Boxed<Expr>>, NoMemory>
     ensures { IfOk result (λ x. x ≡ trees.named_expr e.now (scope s.now)) }
 {
     let x = named_expr(alloc, e, s)?;
-    Ok(Named {
+    Ok(Noted {
         it: Boxed::new(alloc, x.it)?,
         note: x.note,
     })
 }
 
 #[cycle(naming)]
-fn named_subquery(alloc: Global, q: &Query, s: &Scope<'_>) -> Result<Named<Boxed<Query>>, NoMemory>
+fn named_subquery(alloc: Global, q: &Query, s: &Scope<'_>) -> Result<Noted<Boxed<Query>>, NoMemory>
     ensures { IfOk result (λ x. x ≡ notes.mapped (λ y. y.it) (trees.named_query q.now (scope s.now))) }
 {
-    let Named { it, note } = named_query(alloc, q, s)?;
+    let Noted { it, note } = named_query(alloc, q, s)?;
     let Shown { it, names: _ } = it;
-    Ok(Named {
+    Ok(Noted {
         it: Boxed::new(alloc, it)?,
         note,
     })
@@ -184,7 +184,7 @@ fn named_links(
     alloc: Global,
     links: &[(ChainOp, Expr)],
     s: &Scope<'_>,
-) -> Result<Named<Items<(ChainOp, Expr)>>, NoMemory>
+) -> Result<Noted<Items<(ChainOp, Expr)>>, NoMemory>
     ensures { IfOk result (λ x. x ≡ notes.each (lists.named_link (scope s.now)) links.now) }
 {
     let mut done = Items::new(alloc);
@@ -194,11 +194,11 @@ fn named_links(
         done.push((link.0, x.it))?;
         note = joined(note, x.note);
     }
-    Ok(Named { it: done, note })
+    Ok(Noted { it: done, note })
 }
 
 #[cycle(naming)]
-fn named_all(alloc: Global, es: &[Expr], s: &Scope<'_>) -> Result<Named<Items<Expr>>, NoMemory>
+fn named_all(alloc: Global, es: &[Expr], s: &Scope<'_>) -> Result<Noted<Items<Expr>>, NoMemory>
     ensures { IfOk result (λ x. x ≡ notes.each (lists.named_in (scope s.now)) es.now) }
 {
     let mut done = Items::new(alloc);
@@ -208,7 +208,7 @@ fn named_all(alloc: Global, es: &[Expr], s: &Scope<'_>) -> Result<Named<Items<Ex
         done.push(x.it)?;
         note = joined(note, x.note);
     }
-    Ok(Named { it: done, note })
+    Ok(Noted { it: done, note })
 }
 
 #[cycle(naming)]
@@ -216,7 +216,7 @@ fn named_arms(
     alloc: Global,
     arms: &[(Expr, Expr)],
     s: &Scope<'_>,
-) -> Result<Named<Items<(Expr, Expr)>>, NoMemory>
+) -> Result<Noted<Items<(Expr, Expr)>>, NoMemory>
     ensures { IfOk result (λ x. x ≡ notes.each (lists.named_arm (scope s.now)) arms.now) }
 {
     let mut done = Items::new(alloc);
@@ -227,7 +227,7 @@ fn named_arms(
         done.push((x.it, y.it))?;
         note = joined(note, joined(x.note, y.note));
     }
-    Ok(Named { it: done, note })
+    Ok(Noted { it: done, note })
 }
 
 #[cycle(naming)]
@@ -235,17 +235,17 @@ fn named_other(
     alloc: Global,
     other: &Option<Boxed<Expr>>,
     s: &Scope<'_>,
-) -> Result<Named<Option<Boxed<Expr>>>, NoMemory>
+) -> Result<Noted<Option<Boxed<Expr>>>, NoMemory>
     ensures { IfOk result (λ x. x ≡ notes.held (lists.named_in (scope s.now)) other.now) }
 {
     match other {
-        None => Ok(Named {
+        None => Ok(Noted {
             it: None,
             note: clean(),
         }),
         Some(e) => {
             let x = named_box(alloc, e.get(), s)?;
-            Ok(Named {
+            Ok(Noted {
                 it: Some(x.it),
                 note: x.note,
             })
@@ -258,17 +258,17 @@ pub fn named_maybe(
     alloc: Global,
     e: &Option<Expr>,
     s: &Scope<'_>,
-) -> Result<Named<Option<Expr>>, NoMemory>
+) -> Result<Noted<Option<Expr>>, NoMemory>
     ensures { IfOk result (λ x. x ≡ notes.held (lists.named_in (scope s.now)) e.now) }
 {
     match e {
-        None => Ok(Named {
+        None => Ok(Noted {
             it: None,
             note: clean(),
         }),
         Some(e) => {
             let x = named_expr(alloc, e, s)?;
-            Ok(Named {
+            Ok(Noted {
                 it: Some(x.it),
                 note: x.note,
             })

@@ -12,7 +12,7 @@ ghost use Rattle.away_names.specs.Trees as trees;
 
 use crate::listings::{column_of, first_names, is_alias, select_of};
 use crate::naming::{named_expr, named_maybe};
-use crate::note::{Column, Framed, Named, Origin, Part, Shown, breaks, clean, joined};
+use crate::note::{Column, Framed, Noted, Origin, Part, Shown, breaks, clean, joined};
 use crate::origins::{alias_doubled, before, nested, origin_of, part_of, table};
 use crate::scope::{Scope, Seen};
 use away_trees::{FromItem, Item, Key, Query, Select, Source};
@@ -25,13 +25,13 @@ use std::alloc::Global;
 /// A query, with the names of its columns.
 #[cycle(naming)]
 #[tactic(auto, using(crate::proofs::NamingRules::query_rule))]
-pub fn named_query(alloc: Global, q: &Query, s: &Scope<'_>) -> Result<Named<Shown<Query>>, NoMemory>
+pub fn named_query(alloc: Global, q: &Query, s: &Scope<'_>) -> Result<Noted<Shown<Query>>, NoMemory>
     ensures { IfOk result (λ x. x ≡ trees.named_query q.now (scope s.now)) }
 {
     let found = breaks(13, q.recursive.is_some());
-    let Named { it, note } = named_selects(alloc, q.selects.as_slice(), s)?;
+    let Noted { it, note } = named_selects(alloc, q.selects.as_slice(), s)?;
     let Shown { it, names } = it;
-    Ok(Named {
+    Ok(Noted {
         it: Shown {
             it: Query {
                 recursive: None,
@@ -48,20 +48,20 @@ pub fn named_selects(
     alloc: Global,
     selects: &[Select],
     s: &Scope<'_>,
-) -> Result<Named<Shown<Items<Select>>>, NoMemory>
+) -> Result<Noted<Shown<Items<Select>>>, NoMemory>
     ensures { IfOk result (λ x. x ≡ lists.named_selects (scope s.now) selects.now) }
 {
     let mut done = Items::new(alloc);
     let mut names = Items::new(alloc);
     let mut note = clean();
     for select in selects {
-        let Named { it, note: more } = named_select(alloc, select, s)?;
+        let Noted { it, note: more } = named_select(alloc, select, s)?;
         let Shown { it, names: own } = it;
         names = first_names(&done, names, own);
         done.push(it)?;
         note = joined(note, more);
     }
-    Ok(Named {
+    Ok(Noted {
         it: Shown { it: done, names },
         note,
     })
@@ -74,14 +74,14 @@ pub fn named_select(
     alloc: Global,
     select: &Select,
     s: &Scope<'_>,
-) -> Result<Named<Shown<Select>>, NoMemory>
+) -> Result<Noted<Shown<Select>>, NoMemory>
     ensures { IfOk result (λ x. x ≡ trees.named_select select.now (scope s.now)) }
 {
     let found = breaks(6, alias_doubled(select.from.as_slice()));
-    let Named { it, note } = named_from(alloc, select.from.as_slice(), s)?;
+    let Noted { it, note } = named_from(alloc, select.from.as_slice(), s)?;
     let Framed { items, seen } = it;
     let x = named_over(alloc, select, &seen, items, s)?;
-    Ok(Named {
+    Ok(Noted {
         it: x.it,
         note: joined(joined(found, note), x.note),
     })
@@ -95,7 +95,7 @@ fn named_over(
     seen: &Items<Seen>,
     from: Items<FromItem>,
     s: &Scope<'_>,
-) -> Result<Named<Shown<Select>>, NoMemory>
+) -> Result<Noted<Shown<Select>>, NoMemory>
     ensures { IfOk result (λ x. x ≡ lists.named_over (out-Select select.now) (inside seen.now (scope s.now)) from) }
 {
     let levels = nested(alloc, seen, s.levels)?;
@@ -114,7 +114,7 @@ fn named_inner(
     select: &Select,
     from: Items<FromItem>,
     s: &Scope<'_>,
-) -> Result<Named<Shown<Select>>, NoMemory>
+) -> Result<Noted<Shown<Select>>, NoMemory>
     ensures { IfOk result (λ x. x ≡ lists.named_over (out-Select select.now) (scope s.now) from) }
 {
     let list = named_items(alloc, select.list.as_slice(), s)?;
@@ -129,20 +129,20 @@ fn named_items(
     alloc: Global,
     list: &[Item],
     s: &Scope<'_>,
-) -> Result<Named<Shown<Items<Item>>>, NoMemory>
+) -> Result<Noted<Shown<Items<Item>>>, NoMemory>
     ensures { IfOk result (λ x. x ≡ lists.named_items (scope s.now) list.now) }
 {
     let mut done = Items::new(alloc);
     let mut names = Items::new(alloc);
     let mut note = clean();
     for item in list {
-        let Named { it, note: more } = named_item(alloc, item, s)?;
+        let Noted { it, note: more } = named_item(alloc, item, s)?;
         let Column { it, name } = it;
         done.push(it)?;
         names.push(name)?;
         note = joined(note, more);
     }
-    Ok(Named {
+    Ok(Noted {
         it: Shown { it: done, names },
         note,
     })
@@ -150,7 +150,7 @@ fn named_items(
 
 #[cycle(naming)]
 #[tactic(auto, using(crate::proofs::NamingRules::item_rule))]
-fn named_item(alloc: Global, item: &Item, s: &Scope<'_>) -> Result<Named<Column>, NoMemory>
+fn named_item(alloc: Global, item: &Item, s: &Scope<'_>) -> Result<Noted<Column>, NoMemory>
     ensures { IfOk result (λ x. x ≡ trees.named_item item.now (scope s.now)) }
 {
     let x = named_expr(alloc, &item.expr, s)?;
@@ -163,7 +163,7 @@ fn named_keys(
     keys: &[Key],
     list: &[Item],
     s: &Scope<'_>,
-) -> Result<Named<Items<Key>>, NoMemory>
+) -> Result<Noted<Items<Key>>, NoMemory>
     ensures { IfOk result (λ x. x ≡ notes.each (lists.named_key_in (map (λ i. (out-Item i).alias) list.now) (scope s.now)) keys.now) }
 {
     let mut done = Items::new(alloc);
@@ -173,17 +173,17 @@ fn named_keys(
         done.push(x.it)?;
         note = joined(note, x.note);
     }
-    Ok(Named { it: done, note })
+    Ok(Noted { it: done, note })
 }
 
 #[cycle(naming)]
 #[tactic(auto, using(crate::proofs::NamingRules::key_rule))]
-fn named_key(alloc: Global, key: &Key, list: &[Item], s: &Scope<'_>) -> Result<Named<Key>, NoMemory>
+fn named_key(alloc: Global, key: &Key, list: &[Item], s: &Scope<'_>) -> Result<Noted<Key>, NoMemory>
     ensures { IfOk result (λ x. x ≡ trees.named_key key.now (map (λ i. (out-Item i).alias) list.now) (scope s.now)) }
 {
     let found = breaks(8, is_alias(list, &key.expr));
     let x = named_expr(alloc, &key.expr, s)?;
-    Ok(Named {
+    Ok(Noted {
         it: Key {
             expr: x.it,
             descending: key.descending,
@@ -194,14 +194,14 @@ fn named_key(alloc: Global, key: &Key, list: &[Item], s: &Scope<'_>) -> Result<N
 
 /// The items of FROM, each of which sees those before it.
 #[cycle(naming)]
-fn named_from(alloc: Global, from: &[FromItem], s: &Scope<'_>) -> Result<Named<Framed>, NoMemory>
+fn named_from(alloc: Global, from: &[FromItem], s: &Scope<'_>) -> Result<Noted<Framed>, NoMemory>
     ensures { IfOk result (λ x. x ≡ lists.named_from (scope s.now) from.now) }
 {
     let mut items = Items::new(alloc);
     let mut seen = Items::new(alloc);
     let mut note = clean();
     for f in from {
-        let Named { it, note: more } = named_part(alloc, f, s, &seen)?;
+        let Noted { it, note: more } = named_part(alloc, f, s, &seen)?;
         let Part {
             item,
             seen: as_seen,
@@ -210,7 +210,7 @@ fn named_from(alloc: Global, from: &[FromItem], s: &Scope<'_>) -> Result<Named<F
         seen.push(as_seen)?;
         note = joined(note, more);
     }
-    Ok(Named {
+    Ok(Noted {
         it: Framed { items, seen },
         note,
     })
@@ -223,7 +223,7 @@ fn named_part(
     f: &FromItem,
     s: &Scope<'_>,
     level: &Items<Seen>,
-) -> Result<Named<Part>, NoMemory>
+) -> Result<Noted<Part>, NoMemory>
     ensures { IfOk result (λ x. x ≡ trees.named_part f.now (scope s.now) level.now) }
 {
     let x = named_source(alloc, &f.source, f.columns.as_slice(), s, level)?;
@@ -238,7 +238,7 @@ fn named_source(
     columns: &[Name],
     s: &Scope<'_>,
     level: &Items<Seen>,
-) -> Result<Named<Origin>, NoMemory>
+) -> Result<Noted<Origin>, NoMemory>
     ensures { IfOk result (λ x. x ≡ trees.named_source source.now columns.now (scope s.now) level.now) }
 {
     match source {
@@ -258,7 +258,7 @@ fn named_beside(
     lateral: bool,
     s: &Scope<'_>,
     level: &Items<Seen>,
-) -> Result<Named<Shown<Query>>, NoMemory>
+) -> Result<Noted<Shown<Query>>, NoMemory>
     ensures { IfOk result (λ x. x ≡ trees.named_query q.now (inside (spec.before lateral level.now) (scope s.now))) }
 {
     let empty = Items::new(alloc);

@@ -25,7 +25,7 @@ pub struct Note {
 
 /// A result with what was found on the way to it.
 #[derive(Drop)]
-pub struct Named<T> {
+pub struct Noted<T> {
     pub it: T,
     pub note: Note,
 }

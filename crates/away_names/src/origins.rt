@@ -9,7 +9,7 @@ ghost use Rattle.away_names.specs.Places.{scope};
 ghost use Rattle.away_trees.specs.declared.queries.FromItem.{out-FromItem};
 
 use crate::lookups::{has_double, table_named};
-use crate::note::{Named, Note, Origin, Part, Shown, Times, breaks, joined};
+use crate::note::{Note, Noted, Origin, Part, Shown, Times, breaks, joined};
 use crate::references::{all_written, written};
 use crate::scope::{Listed, Scope, Seen};
 use away_trees::{FromItem, Query, Source};
@@ -60,11 +60,11 @@ fn behind_first(names: &[Name]) -> &[Name]
 }
 
 #[tactic(auto, unfolding(crate::specs::Naming::of_table))]
-fn of_table(alloc: Global, n: &Name, t: Option<&Listed>) -> Result<Named<Origin>, NoMemory>
+fn of_table(alloc: Global, n: &Name, t: Option<&Listed>) -> Result<Noted<Origin>, NoMemory>
     ensures { IfOk result (λ x. x ≡ spec.of_table n.now (option_copied t.entry)) }
 {
     match t {
-        None => Ok(Named {
+        None => Ok(Noted {
             it: Origin {
                 source: Source::Table(n.copy(alloc)?),
                 columns: Items::new(alloc),
@@ -75,7 +75,7 @@ fn of_table(alloc: Global, n: &Name, t: Option<&Listed>) -> Result<Named<Origin>
         Some(t) => {
             let columns = copy_names(alloc, t.written.as_slice())?;
             let names = plain_names(alloc, behind_first(t.written.as_slice()))?;
-            Ok(Named {
+            Ok(Noted {
                 it: Origin {
                     source: Source::Table(n.copy(alloc)?),
                     columns,
@@ -88,11 +88,11 @@ fn of_table(alloc: Global, n: &Name, t: Option<&Listed>) -> Result<Named<Origin>
 }
 
 /// What a table in FROM stands for.
-pub fn table(alloc: Global, n: &Name, s: &Scope<'_>) -> Result<Named<Origin>, NoMemory>
+pub fn table(alloc: Global, n: &Name, s: &Scope<'_>) -> Result<Noted<Origin>, NoMemory>
     ensures { IfOk result (λ x. x ≡ notes.also (spec.written (scope s.now) n.now) (spec.of_table n.now ((scope s.now).table n.now))) }
 {
     let x = of_table(alloc, n, table_named(n, s.tables))?;
-    Ok(Named {
+    Ok(Noted {
         it: x.it,
         note: joined(written(s, n), x.note),
     })
@@ -118,16 +118,16 @@ pub fn origin_of(
     alloc: Global,
     lateral: bool,
     columns: &[Name],
-    q: Named<Shown<Query>>,
-) -> Result<Named<Origin>, NoMemory>
+    q: Noted<Shown<Query>>,
+) -> Result<Noted<Origin>, NoMemory>
     ensures { IfOk result (λ x. x ≡ notes.mapped (spec.of_query lateral columns.now) q) }
 {
-    let Named { it, note } = q;
+    let Noted { it, note } = q;
     let Shown { it, names } = it;
     let names = names_or(alloc, columns, names)?;
     let columns = copy_names(alloc, columns)?;
     let source = Source::Sub(Boxed::new(alloc, it)?, lateral);
-    Ok(Named {
+    Ok(Noted {
         it: Origin {
             source,
             columns,
@@ -199,20 +199,20 @@ pub fn part_of(
     s: &Scope<'_>,
     alias: &Name,
     columns: &[Name],
-    x: Named<Origin>,
-) -> Result<Named<Part>, NoMemory>
+    x: Noted<Origin>,
+) -> Result<Noted<Part>, NoMemory>
     ensures { IfOk result (λ r. r ≡ notes.also (spec.part_note (scope s.now) alias.now columns.now) (notes.mapped (spec.shaped alias.now) x)) }
 {
     let found = part_note(s, alias, columns);
     let item_alias = alias.copy(alloc)?;
     let seen_alias = alias.copy(alloc)?;
-    let Named { it, note } = x;
+    let Noted { it, note } = x;
     let Origin {
         source,
         columns,
         names,
     } = it;
-    Ok(Named {
+    Ok(Noted {
         it: Part {
             item: FromItem {
                 source,

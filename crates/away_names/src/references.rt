@@ -6,8 +6,8 @@ ghost use Rattle.away_names.specs.Naming as spec;
 ghost use Rattle.away_names.specs.Places.{scope};
 
 use crate::function::function;
-use crate::lookups::{column_dotted, column_named, is_kept, variable_named};
-use crate::note::{Column, Named, Note, breaks, clean, joined};
+use crate::lookups::{column_named, column_qualified, is_kept, variable_named};
+use crate::note::{Column, Note, Noted, breaks, clean, joined};
 use crate::scope::{Hit, Scope, Variable};
 use away_trees::Expr;
 use away_values::{Name, NoMemory};
@@ -45,15 +45,15 @@ pub fn maybe_written(s: &Scope<'_>, n: &Option<Name>) -> Note
 // ---- expressions
 
 #[tactic(auto, unfolding(crate::specs::Naming::slot_or))]
-fn slot_or(alloc: Global, n: &Name, v: Option<&Variable>) -> Result<Named<Expr>, NoMemory>
+fn slot_or(alloc: Global, n: &Name, v: Option<&Variable>) -> Result<Noted<Expr>, NoMemory>
     ensures { IfOk result (λ x. x ≡ spec.slot_or n.now (option_copied v.entry)) }
 {
     match v {
-        Some(v) => Ok(Named {
+        Some(v) => Ok(Noted {
             it: Expr::Slot(v.slot),
             note: clean(),
         }),
-        None => Ok(Named {
+        None => Ok(Noted {
             it: Expr::Named(n.copy(alloc)?),
             note: breaks(7, true),
         }),
@@ -66,11 +66,11 @@ fn named_by(
     n: &Name,
     hit: Option<Hit>,
     v: Option<&Variable>,
-) -> Result<Named<Expr>, NoMemory>
+) -> Result<Noted<Expr>, NoMemory>
     ensures { IfOk result (λ x. x ≡ spec.named_by n.now hit (option_copied v.entry)) }
 {
     match hit {
-        Some(hit) => Ok(Named {
+        Some(hit) => Ok(Noted {
             it: Expr::Column(hit.column),
             note: breaks(8, hit.many || v.is_some()),
         }),
@@ -80,27 +80,32 @@ fn named_by(
 
 /// What a name alone stands for.
 #[tactic(auto, unfolding(crate::specs::Naming::named))]
-pub fn named(alloc: Global, n: &Name, s: &Scope<'_>) -> Result<Named<Expr>, NoMemory>
+pub fn named(alloc: Global, n: &Name, s: &Scope<'_>) -> Result<Noted<Expr>, NoMemory>
     ensures { IfOk result (λ x. x ≡ spec.named n.now (scope s.now)) }
 {
     let hit = column_named(n, s)?;
     let x = named_by(alloc, n, hit, variable_named(n, s.variables))?;
-    Ok(Named {
+    Ok(Noted {
         it: x.it,
         note: joined(written(s, n), x.note),
     })
 }
 
-#[tactic(auto, unfolding(crate::specs::Naming::dotted_by))]
-fn dotted_by(alloc: Global, a: &Name, n: &Name, hit: Option<Hit>) -> Result<Named<Expr>, NoMemory>
-    ensures { IfOk result (λ x. x ≡ spec.dotted_by a.now n.now hit) }
+#[tactic(auto, unfolding(crate::specs::Naming::qualified_by))]
+fn qualified_by(
+    alloc: Global,
+    a: &Name,
+    n: &Name,
+    hit: Option<Hit>,
+) -> Result<Noted<Expr>, NoMemory>
+    ensures { IfOk result (λ x. x ≡ spec.qualified_by a.now n.now hit) }
 {
     match hit {
-        Some(hit) => Ok(Named {
+        Some(hit) => Ok(Noted {
             it: Expr::Column(hit.column),
             note: clean(),
         }),
-        None => Ok(Named {
+        None => Ok(Noted {
             it: Expr::Dotted(a.copy(alloc)?, n.copy(alloc)?),
             note: breaks(7, true),
         }),
@@ -108,20 +113,20 @@ fn dotted_by(alloc: Global, a: &Name, n: &Name, hit: Option<Hit>) -> Result<Name
 }
 
 /// What an alias with a column's name stands for.
-#[tactic(auto, unfolding(crate::specs::Naming::dotted))]
-pub fn dotted(alloc: Global, a: &Name, n: &Name, s: &Scope<'_>) -> Result<Named<Expr>, NoMemory>
-    ensures { IfOk result (λ x. x ≡ spec.dotted a.now n.now (scope s.now)) }
+#[tactic(auto, unfolding(crate::specs::Naming::qualified))]
+pub fn qualified(alloc: Global, a: &Name, n: &Name, s: &Scope<'_>) -> Result<Noted<Expr>, NoMemory>
+    ensures { IfOk result (λ x. x ≡ spec.qualified a.now n.now (scope s.now)) }
 {
-    let hit = column_dotted(a, n, s)?;
-    let x = dotted_by(alloc, a, n, hit)?;
-    Ok(Named {
+    let hit = column_qualified(a, n, s)?;
+    let x = qualified_by(alloc, a, n, hit)?;
+    Ok(Noted {
         it: x.it,
         note: joined(joined(written(s, a), written(s, n)), x.note),
     })
 }
 
 #[tactic(auto, unfolding(crate::specs::Naming::called))]
-pub fn called(s: &Scope<'_>, name: &Name) -> Note
+pub fn call_note(s: &Scope<'_>, name: &Name) -> Note
     ensures { result ≡ spec.called (scope s.now) name.now }
 {
     joined(written(s, name), breaks(7, function(name).is_none()))

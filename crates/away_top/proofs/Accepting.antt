@@ -9,8 +9,8 @@ use Rattle.cert_json.specs.declared.cert.Cert.{Cert}
 use Rattle.equivalence.specs.Accepted.{EquivalentWith}
 use Rattle.stage_check.specs.declared.verdict.Verdict.TheVariants.{Accepted, Fails}
 use Rattle.stage_check.specs.Verdicts.{AllHold, all_relations, between}
-use Rattle.away_top.specs.declared.outside.Files.{Ghosts as Files}
-use Rattle.away_top.specs.declared.outside.Sink.{Ghosts as Sink}
+use Rattle.away_top.specs.declared.host.Files.{Ghosts as Files}
+use Rattle.away_top.specs.declared.host.Sink.{Ghosts as Sink}
 use Rattle.away_top.specs.declared.status.Status.{Status}
 use Rattle.away_top.specs.declared.status.Status.TheVariants.{Done, NoMemory, NotAccepted, WriteFault}
 use Rattle.away_top.specs.Acceptance.{Accepts, IsAccepted}

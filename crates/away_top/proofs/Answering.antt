@@ -9,8 +9,8 @@ use Rattle.away_trees.specs.declared.schemas.TableSchema.{TableSchema}
 use Rattle.csv_tables.specs.Files.{Or, rows_in}
 use Rattle.sql_meaning.specs.Context.{Rows}
 use Rattle.sql_meaning.specs.Working.{sql}
-use Rattle.away_top.specs.declared.outside.Files.{Ghosts as Files}
-use Rattle.away_top.specs.declared.outside.Sink.{Ghosts as Sink}
+use Rattle.away_top.specs.declared.host.Files.{Ghosts as Files}
+use Rattle.away_top.specs.declared.host.Sink.{Ghosts as Sink}
 use Rattle.away_top.specs.declared.status.Status.{Status}
 use Rattle.away_top.specs.declared.status.Status.TheVariants.{NoMemory, WriteFault}
 use Rattle.away_top.specs.Answer.{Delivers}
@@ -19,7 +19,7 @@ use Rattle.away_top.specs.Commands.{course}
 use Rattle.away_top.specs.Course.{Course, and_then, ends}
 use Rattle.away_top.specs.Files.{schema_course}
 use Rattle.away_top.specs.Lines.{line}
-use Rattle.away_top.specs.Outside.{Keeps}
+use Rattle.away_top.specs.Host.{Keeps}
 use Rattle.away_top.specs.QueryAnswers.{AnswersQuery, AreBytesOf, Held, HoldsRows, IsAnswer, IsAnswered}
 use Rattle.away_top.specs.Refusals.{IsQuery, IsSchema, RefusesQuery, RefusesSchema}
 use Rattle.away_top.specs.Runs.{End, wants_memory, ended, goes_on, Follows, Holds, ReadsNoMore}
@@ -80,7 +80,7 @@ pub record QueryRead (held : Held) (s : Schema) (name : List ℕ) (q : Asked) : 
   pub asked : IsQuery s bytes
   pub is : q ≡ asked_of s asked.written
 
-record Told (held : Held) (dir : List ℕ) (s : Schema) (q : Asked) (args : List (List ℕ)) (most : ℕ) (status : Status) (output : List ℕ) : Type 0 where
+record CompiledQuery (held : Held) (dir : List ℕ) (s : Schema) (q : Asked) (args : List (List ℕ)) (most : ℕ) (status : Status) (output : List ℕ) : Type 0 where
   pub values : List Value
   pub arguments_are : values_of q.params args ≡ Some values
   pub rows : List Rows
@@ -127,7 +127,7 @@ module _ {D : Type 0} (F : Files D) where
   -- ---- the whole run
 
   asked_told : (now after : D) (dir : List ℕ) (s : Schema) (q : Asked) (args : List (List ℕ)) (most : ℕ) (status : Status) (output : List ℕ) → IsAnswer status
-      → Follows F now (asked_course most s q dir args) after (ended status output) → Told (F.held now) dir s q args most status output
+      → Follows F now (asked_course most s q dir args) after (ended status output) → CompiledQuery (F.held now) dir s q args most status output
   asked_told now after dir s q args most status output late h =
       let g = gone F now after (spelled (values_of q.params args)) (answer_course most s q dir) (ended status output) late (silent_spelled (values_of q.params args)) h in
       let spelt = was_spelled now g.middle (values_of q.params args) g.given g.first in

@@ -7,8 +7,8 @@ use Rattle.away_trees.specs.declared.schemas.Schema.{Schema}
 use Rattle.sql_meaning.specs.Context.{Rows}
 use Rattle.plsql_meaning.specs.Equivalent.{answers}
 use Rattle.plsql_run.specs.Settings.{not_nulls}
-use Rattle.away_top.specs.declared.outside.Files.{Ghosts as Files}
-use Rattle.away_top.specs.declared.outside.Sink.{Ghosts as Sink}
+use Rattle.away_top.specs.declared.host.Files.{Ghosts as Files}
+use Rattle.away_top.specs.declared.host.Sink.{Ghosts as Sink}
 use Rattle.away_top.specs.declared.status.Status.{Status}
 use Rattle.away_top.specs.Answer.{Delivers}
 use Rattle.away_top.specs.Arguments.{bound_of, values_for}

@@ -12,7 +12,7 @@ use Rattle.away_types.specs.FunctionChecks.{resolved_function, slots_of}
 use Rattle.sql_meaning.specs.Context.{Rows}
 use Rattle.plsql_meaning.specs.Equivalent.{answers}
 use Rattle.plsql_run.specs.Settings.{not_nulls}
-use Rattle.away_top.specs.declared.outside.Files.{Ghosts as Files}
+use Rattle.away_top.specs.declared.host.Files.{Ghosts as Files}
 use Rattle.away_top.specs.declared.ending.Ending.{Ending}
 use Rattle.away_top.specs.declared.ending.Halt.{Halt}
 use Rattle.away_top.specs.AnswerLines.{answer_end}

@@ -2,7 +2,7 @@
 use Rattle.std.proofs.Common.{◌≡◌, refl, ℕ, List}
 use Rattle.away_trees.specs.declared.schemas.Schema.{Schema}
 use Rattle.cert_json.specs.declared.cert.Cert.{Cert}
-use Rattle.away_top.specs.declared.outside.Files.{Ghosts as Files}
+use Rattle.away_top.specs.declared.host.Files.{Ghosts as Files}
 use Rattle.away_top.specs.declared.ending.Halt.{Halt}
 use Rattle.away_top.specs.Certificates.{cert_course}
 use Rattle.away_top.specs.CheckCourse.{IsJudgedSo, check_course, with_function, with_query, with_schema}

@@ -2,7 +2,7 @@
 use Rattle.std.proofs.Common.{ℕ, List, [], refl}
 use Rattle.away_trees.specs.declared.schemas.Schema.{Schema}
 use Rattle.away_lex.specs.declared.refusals.ReadRefusal.{ReadRefusal}
-use Rattle.away_top.specs.declared.outside.Files.{Ghosts as Files}
+use Rattle.away_top.specs.declared.host.Files.{Ghosts as Files}
 use Rattle.away_top.specs.declared.status.Status.{Status}
 use Rattle.away_top.specs.declared.compile.Wanted.{Wanted}
 use Rattle.away_top.specs.declared.ending.Ending.{Ending}

@@ -1,8 +1,8 @@
 -- A run of `demo` reads no file, and tells of its case where it is done.
 use Rattle.std.proofs.Common.{◌≡◌, ◌∙◌, inl, inr, refl, subst, sym, ℕ, List, [], ◌∷◌, codes}
 use Rattle.std.specs.Prelude.{Option, Some, None}
-use Rattle.away_top.specs.declared.outside.Files.{Ghosts as Files}
-use Rattle.away_top.specs.declared.outside.Sink.{Ghosts as Sink}
+use Rattle.away_top.specs.declared.host.Files.{Ghosts as Files}
+use Rattle.away_top.specs.declared.host.Sink.{Ghosts as Sink}
 use Rattle.away_top.specs.declared.status.Status.{Status}
 use Rattle.away_top.specs.declared.status.Status.TheVariants.{Done, NoMemory, Usage, WriteFault}
 use Rattle.away_top.specs.Answer.{Delivers}

@@ -3,8 +3,8 @@ use Rattle.std.proofs.Common.{◌≡◌, inl, inr, ℕ, List, [], ◌∷◌, Som
 use Rattle.std.specs.declared.option.Option.{Option}
 use Rattle.away_top.specs.declared.compile.Wanted.{Wanted}
 use Rattle.away_top.specs.declared.compile.Wanted.TheVariants.{Query, Certificate}
-use Rattle.away_top.specs.declared.outside.Files.{Ghosts as Files}
-use Rattle.away_top.specs.declared.outside.Sink.{Ghosts as Sink}
+use Rattle.away_top.specs.declared.host.Files.{Ghosts as Files}
+use Rattle.away_top.specs.declared.host.Sink.{Ghosts as Sink}
 use Rattle.away_top.specs.declared.status.Status.{Status}
 use Rattle.away_top.specs.declared.status.Status.TheVariants.{Done, NoMemory, Refused, ReadFault, WriteFault}
 use Rattle.away_top.specs.Answer.{Delivers}

@@ -13,7 +13,7 @@ use Rattle.away_top.specs.Files.{callable_of, function_course}
 use Rattle.away_top.specs.InMemory.{IsFitFunction, IsFitSchema, MayCompile, Translated}
 use Rattle.away_top.specs.MemoryFiles.{HeldFiles, IsSafeName, held_at}
 use Rattle.away_top.specs.MemorySink.{RoomySink, are_past, safe_room}
-use Rattle.away_top.specs.Outside.{next_count}
+use Rattle.away_top.specs.Host.{next_count}
 use Rattle.away_top.specs.Refusals.{IsFunction, IsSchema}
 use Rattle.away_top.specs.Translation.{IsTranslation}
 use Rattle.away_top.proofs.Headlines.{translation}

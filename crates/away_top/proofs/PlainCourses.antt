@@ -9,7 +9,7 @@ use Rattle.away_trees.specs.declared.schemas.Schema.{Schema}
 use Rattle.away_trees.specs.declared.schemas.TableSchema.{TableSchema}
 use Rattle.away_top.specs.declared.compile.Wanted.{Wanted}
 use Rattle.away_top.specs.declared.compile.Wanted.TheVariants.{Query, Certificate}
-use Rattle.away_top.specs.declared.outside.Files.{Ghosts as Files}
+use Rattle.away_top.specs.declared.host.Files.{Ghosts as Files}
 use Rattle.away_top.specs.declared.status.Status.{Status}
 use Rattle.away_top.specs.declared.status.Status.TheVariants.{Done, Refused, Usage, ReadFault, WriteFault, NoMemory, More, Fault, NotAccepted, Shape}
 use Rattle.csv_tables.specs.Files.{Or, rows_in}
@@ -33,7 +33,7 @@ use Rattle.away_top.specs.SqlCourse.{Asked, Tells, answer_course, asked_course, 
 use Rattle.away_top.specs.TableFiles.{IsTableRule, holding, table_course, table_file, tables_behind, tables_course}
 use Rattle.away_top.specs.Help.{help_text, version_text}
 use Rattle.away_top.specs.Lines.{line}
-use Rattle.away_top.specs.Outside.{Rose}
+use Rattle.away_top.specs.Host.{Rose}
 use Rattle.away_top.specs.Refusals.{RefusesFunction, RefusesQuery, RefusesSchema}
 use Rattle.away_top.specs.Runs.{ended, Follows}
 

@@ -10,7 +10,7 @@ use Rattle.away_types.specs.declared.checked_query.CheckedQuery.{CheckedQuery}
 use Rattle.away_types.specs.CheckedQueries.{IsCheckedQuery, judged_query, resolved_query}
 use Rattle.sql_meaning.specs.Context.{Rows}
 use Rattle.sql_meaning.specs.Working.{sql}
-use Rattle.away_top.specs.declared.outside.Files.{Ghosts as Files}
+use Rattle.away_top.specs.declared.host.Files.{Ghosts as Files}
 use Rattle.away_top.specs.declared.status.Status.TheVariants.{Usage}
 use Rattle.away_top.specs.declared.ending.Ending.{Ending}
 use Rattle.away_top.specs.declared.ending.Halt.{Halt}

@@ -1,8 +1,8 @@
 -- A function that a run has judged is that of the text of its file.
 use Rattle.std.proofs.Common.{ap, List, ℕ}
 use Rattle.away_trees.specs.declared.schemas.Schema.{Schema}
-use Rattle.query_texts.specs.Texts.{IsOfTexts}
-use Rattle.away_top.specs.declared.outside.Files.{Ghosts as Files}
+use Rattle.cte_prints.specs.Texts.{IsOfTexts}
+use Rattle.away_top.specs.declared.host.Files.{Ghosts as Files}
 use Rattle.away_top.specs.Files.{Callable, function_course}
 use Rattle.away_top.specs.Runs.{goes_on, Follows}
 use Rattle.away_top.proofs.AnsweringCalls.{function_read}

@@ -1,6 +1,6 @@
 -- How stretches of a run make the run.
 use Rattle.std.proofs.Common.{◌≡◌, inl, inr, ℕ, List, refl, sym, subst, IfOk, Result, Ok, Err}
-use Rattle.away_top.specs.declared.outside.Files.{Ghosts as Files}
+use Rattle.away_top.specs.declared.host.Files.{Ghosts as Files}
 use Rattle.away_top.specs.declared.status.Status.{Status}
 use Rattle.away_top.specs.declared.ending.Halt.{Halt}
 use Rattle.away_top.specs.declared.ending.Halt.TheVariants.{Ended, NoMemory}

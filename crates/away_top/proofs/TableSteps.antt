@@ -8,7 +8,7 @@ use Rattle.csv_tables.specs.declared.refusal.TableRefusal.{TableRefusal}
 use Rattle.csv_tables.specs.declared.refusal.TableRefusal.TheVariants as refusal
 use Rattle.sql_meaning.specs.AtBound.{rows_of_tables}
 use Rattle.sql_meaning.specs.Context.{Rows}
-use Rattle.away_top.specs.declared.outside.Files.{Ghosts as Files}
+use Rattle.away_top.specs.declared.host.Files.{Ghosts as Files}
 use Rattle.away_top.specs.declared.ending.Ending.{Ending}
 use Rattle.away_top.specs.declared.ending.Halt.{Halt}
 use Rattle.away_top.specs.Course.{Course, RefusedBy}

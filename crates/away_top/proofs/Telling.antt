@@ -1,7 +1,7 @@
 -- An end that files lead to is the end of a run over files that tell what they hold.
 use Rattle.std.proofs.Common.{◌≡◌, inl, inr, refl, sym, ◌≤◌, ◌^◌, ◌-◌, ℕ, List, arith}
 use Rattle.std.specs.Prelude.{Option, Some, None}
-use Rattle.away_top.specs.declared.outside.Files.{Ghosts as Files}
+use Rattle.away_top.specs.declared.host.Files.{Ghosts as Files}
 use Rattle.away_top.specs.declared.status.Status.{Status}
 use Rattle.away_top.specs.Course.{AtFile, Course, ends, gives, judges, reads, Outcome}
 use Rattle.away_top.specs.QueryAnswers.{Held}

@@ -95,7 +95,7 @@ pub record MayAnswer (files : HeldFiles) (bound schema query dir : List ℕ) (ar
   pub no_failure : files.fails ≡ []
 
 -- the status is answered, with exactly this output written
-pub record IsTold (before after : RoomySink) (result status : Status) (output : List ℕ) : Type 0 where
+pub record IsCompiledQuery (before after : RoomySink) (result status : Status) (output : List ℕ) : Type 0 where
   pub status_is : result ≡ status
   pub bytes_are : after.bytes ≡ before.bytes ++ output
 
@@ -105,7 +105,7 @@ Answered files before after result bound schema query dir args =
     (result ≡ NoMemory)
     ⊎ ((status : Status) × (output : List ℕ) × IsAnswer status
     × IsAnswered (held_at files.held) bound schema query dir args status output
-    × (length output ≤ before.room → IsTold before after result status output))
+    × (length output ≤ before.room → IsCompiledQuery before after result status output))
 
 -- ---- fn
 
@@ -133,7 +133,7 @@ Called files before after result bound schema func dir args =
     (result ≡ NoMemory)
     ⊎ ((status : Status) × (output : List ℕ) × IsAnswer status
     × IsCalled (held_at files.held) bound schema func dir args status output
-    × (length output ≤ before.room → IsTold before after result status output))
+    × (length output ≤ before.room → IsCompiledQuery before after result status output))
 
 -- ---- check
 
@@ -172,4 +172,4 @@ abbrev pub Judged : RoomySink → RoomySink → Status → List ℕ → List ℕ
 Judged before after result tables function asked forms =
     (result ≡ NoMemory)
     ⊎ ((v : Verdict) × HasVerdict tables function asked forms v
-    × (length (verdict_line v) ≤ before.room → IsTold before after result (verdict_status v) (verdict_line v)))
+    × (length (verdict_line v) ≤ before.room → IsCompiledQuery before after result (verdict_status v) (verdict_line v)))

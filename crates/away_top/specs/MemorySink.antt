@@ -1,7 +1,7 @@
 -- What the sink in memory stands for.
 use Rattle.std.specs.Prelude.{◌≡◌, ◌≤◌, ◌==◌, ℕ, min, unwrap_or, nat_lt, ◌&&◌, Bool, true, List, [], ◌∷◌, Some, None, if◌then◌else◌}
 use Rattle.std.specs.declared.option.Option.{Option}
-use Rattle.away_top.specs.Outside.{next_count}
+use Rattle.away_top.specs.Host.{next_count}
 
 -- what was written, the room that is left, the numbers of the writes that fail with the bytes that each takes
 pub record RoomySink : Type 0 where

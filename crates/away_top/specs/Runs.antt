@@ -1,12 +1,12 @@
 -- How a run goes along its course, from the state of the files before it to the state that it leaves.
 use Rattle.std.specs.Prelude.{◌≡◌, ◌⊎◌, ℕ, ◌<◌, ◌≤◌, List, length, codes, IfSome}
 use Rattle.std.specs.declared.option.Option.{Option}
-use Rattle.away_top.specs.declared.outside.Files.{Ghosts as Files}
+use Rattle.away_top.specs.declared.host.Files.{Ghosts as Files}
 use Rattle.away_top.specs.declared.status.Status.{Status}
 use Rattle.away_top.specs.declared.status.Status.TheVariants.{Refused, ReadFault}
 use Rattle.away_top.specs.Course.{Course, gives, ends, judges, reads, Exactly}
 use Rattle.away_top.specs.Lines.{read_fault, refusal}
-use Rattle.away_top.specs.Outside.{Keeps, Rose, Stays}
+use Rattle.away_top.specs.Host.{Keeps, Rose, Stays}
 
 -- How a run, or a first stretch of one, came out: memory was wanting, it ended with a status and an output, or it goes
 -- on with an A.

@@ -79,11 +79,11 @@ fn with_query<F: Files>(
         (with_query_course tables.now.schema (as_callable function.now) (as_asked query.now) cert.now) files.new (run_end result) }
 {
     let forms = cert_of(alloc, cert, files)?;
-    judged(alloc, tables, function, query, &forms)
+    verdict_on(alloc, tables, function, query, &forms)
 }
 
 /// The verdict on the forms.
-fn judged(
+fn verdict_on(
     alloc: Global,
     tables: &CheckedSchema,
     function: &CheckedFunction,
@@ -93,11 +93,11 @@ fn judged(
     ensures { IsEnd (IsJudgedSo tables.now.schema (as_callable function.now) (as_asked query.now) forms.now) (run_end result) }
 {
     let verdict = check_all(alloc, tables, function, query, forms)?;
-    Ok(told(alloc, verdict)?)
+    Ok(verdict_line(alloc, verdict)?)
 }
 
 /// The line of a verdict.
-fn told(alloc: Global, verdict: Verdict) -> Result<Ending, AllocError>
+fn verdict_line(alloc: Global, verdict: Verdict) -> Result<Ending, AllocError>
     ensures { IfOk result (λ ending. TellsVerdict verdict ending.status ending.output.items) }
 {
     match verdict {

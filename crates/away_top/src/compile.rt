@@ -7,7 +7,7 @@ ghost use Rattle.away_top.specs.Files.{as_callable};
 ghost use Rattle.away_top.specs.Runs.{IsEnd, Runs};
 ghost use Rattle.away_top.specs.Steps.{run_end};
 ghost use Rattle.cert_json.specs.Writable.{HasSpelling};
-ghost use Rattle.query_texts.specs.Texts.{IsOfTexts};
+ghost use Rattle.cte_prints.specs.Texts.{IsOfTexts};
 
 use crate::ending::{Ending, Halt};
 use crate::files::{function_of, schema_of};

@@ -9,7 +9,7 @@ ghost use Rattle.away_top.specs.Steps.{run_end};
 
 use crate::Status;
 use crate::ending::{Ending, Halt, usage};
-use crate::over_tables::answer_lines::told;
+use crate::over_tables::answer_lines::answer_ending;
 use crate::over_tables::arguments::bound_of;
 use away_values::Answer;
 use demonstration::{Summary, summary_of};
@@ -45,14 +45,14 @@ fn lines_of(alloc: Global, summary: &Summary) -> Result<Vec<u8>, AllocError>
     push_count(&mut output, b"demo ", summary.number)?;
     push_count(&mut output, b"nodes ", summary.nodes)?;
     push_count(&mut output, b"bytes ", summary.bytes)?;
-    push_told(alloc, &mut output, b"function ", &summary.runs.function)?;
-    push_told(alloc, &mut output, b"query ", &summary.runs.query)?;
+    push_answer(alloc, &mut output, b"function ", &summary.runs.function)?;
+    push_answer(alloc, &mut output, b"query ", &summary.runs.query)?;
     push_iterations(&mut output, summary.runs.iterations)?;
     Ok(output)
 }
 
 /// Adds a word and the line of an answer.
-fn push_told(
+fn push_answer(
     alloc: Global,
     output: &mut Vec<u8>,
     word: &[u8],
@@ -60,7 +60,7 @@ fn push_told(
 ) -> Result<(), AllocError>
     ensures { OnOk result (output.new.items ≡ output.old.items ++ (word.now ++ (answer_end answer.now).1)) }
 {
-    let ending = told(alloc, answer)?;
+    let ending = answer_ending(alloc, answer)?;
     push_both(output, word, &ending.output)
 }
 

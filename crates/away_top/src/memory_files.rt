@@ -1,7 +1,7 @@
 //! Files in memory, which fail at the calls that they are told.
 
 ghost use Rattle.std.specs.Prelude.{◌≡◌, ◌↔◌, ◌+◌, ◌<◌, ◌≤◌, ℕ, List, length, map, IfErr, IfOk, IfSome, IsErrOf, IsTrue, MatchOption, MatchResult, string_bytes, Contains};
-ghost use Rattle.away_top.specs.Outside.{next_count, IsTooLong, Keeps, Rose, Stays};
+ghost use Rattle.away_top.specs.Host.{next_count, IsTooLong, Keeps, Rose, Stays};
 ghost use Rattle.away_top.specs.MemoryFiles.{held_at, IsCountedFailure, IsNextFiles, IsSafeName};
 
 use crate::{Files, ReadError};

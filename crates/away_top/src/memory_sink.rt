@@ -2,7 +2,7 @@
 
 ghost use Rattle.std.specs.Prelude.{◌≡◌, ◌+◌, ◌≤◌, ◌++◌, [], Some, length, take, IfOk, IsErr, IsOk, OnErr, OnOk, ◌<◌, vec_len, vec_capacity};
 ghost use Rattle.std.specs.Io.KnownBytes.{Appends};
-ghost use Rattle.away_top.specs.Outside.{AppendsPrefix, next_count, Fills, Rose};
+ghost use Rattle.away_top.specs.Host.{AppendsPrefix, next_count, Fills, Rose};
 ghost use Rattle.away_top.specs.MemorySink.{IsWhole, front, taken_at, safe_room};
 
 use crate::{Sink, WriteFailed};

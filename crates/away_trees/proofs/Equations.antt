@@ -76,8 +76,8 @@ of_str a t = refl
 pub of_named : (a : Algebra) (t : List ℕ) → expr_of a (expr.Named t) ≡ a.expr (ex.Named t)
 of_named a t = refl
 
-pub of_dotted : (a : Algebra) (t : List ℕ) (c : List ℕ) → expr_of a (expr.Dotted t c) ≡ a.expr (ex.Dotted t c)
-of_dotted a t c = refl
+pub of_qualified : (a : Algebra) (t : List ℕ) (c : List ℕ) → expr_of a (expr.Dotted t c) ≡ a.expr (ex.Dotted t c)
+of_qualified a t c = refl
 
 pub of_slot : (a : Algebra) (i : ℕ) → expr_of a (expr.Slot i) ≡ a.expr (ex.Slot i)
 of_slot a i = refl

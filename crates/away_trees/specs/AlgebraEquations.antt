@@ -61,7 +61,7 @@ pub record Equations (a : Algebra) : Type 0 where
   pub bool : (v : Bool) → expr_of a (expr.Bool v) ≡ a.expr (ex.Bool v)
   pub null : expr_of a expr.Null ≡ a.expr ex.Null
   pub named : (name : List ℕ) → expr_of a (expr.Named name) ≡ a.expr (ex.Named name)
-  pub dotted : (alias name : List ℕ) → expr_of a (expr.Dotted alias name) ≡ a.expr (ex.Dotted alias name)
+  pub qualified : (alias name : List ℕ) → expr_of a (expr.Dotted alias name) ≡ a.expr (ex.Dotted alias name)
   pub slot : (i : ℕ) → expr_of a (expr.Slot i) ≡ a.expr (ex.Slot i)
   pub column : (c : Col) → expr_of a (expr.Column c) ≡ a.expr (ex.Column c)
   pub param : (i : ℕ) (ty : Ty) → expr_of a (expr.Param i ty) ≡ a.expr (ex.Param i ty)

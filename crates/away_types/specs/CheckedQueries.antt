@@ -5,7 +5,7 @@ use Rattle.away_trees.specs.declared.queries.Query.{Query}
 use Rattle.away_trees.specs.declared.schemas.Schema.{Schema}
 use Rattle.away_names.specs.declared.note.Note.{Note}
 use Rattle.away_names.specs.Files.{file}
-use Rattle.away_typing.specs.declared.wholes.Judged.{Judged}
+use Rattle.away_typing.specs.declared.wholes.QueryVerdict.{QueryVerdict}
 use Rattle.away_typing.specs.Wholes.{judged}
 use Rattle.away_types.specs.Refusals.{IsUnbroken}
 
@@ -13,7 +13,7 @@ abbrev pub resolved_query : Schema → Query → Query
 resolved_query s q = (file s q).query
 
 -- its parameters, the type of its first column, and the least rule that it breaks
-abbrev pub judged_query : Schema → Query → Judged
+abbrev pub judged_query : Schema → Query → QueryVerdict
 judged_query s q = judged s (file s q)
 
 abbrev pub query_note : Schema → Query → Note

@@ -16,7 +16,7 @@ use Rattle.away_trees.specs.declared.statements.Stmt.TheOpen as st
 use Rattle.away_trees.specs.StatementAlgebra.{StatementAlgebra}
 use Rattle.away_trees.specs.StatementEquations.{statement_algebra}
 use Rattle.away_names.specs.declared.note.Note.{Note}
-use Rattle.away_names.specs.declared.note.Named.{Named}
+use Rattle.away_names.specs.declared.note.Noted.{Noted}
 use Rattle.away_names.specs.declared.scope.Variable.{Variable}
 use Rattle.away_types.specs.declared.slots.Slot.{Slot}
 use Rattle.away_types.specs.declared.slots.Slots.{Slots}
@@ -38,7 +38,7 @@ pub record Spot : Type 0 where
 abbrev pub By : Type 0 → Type 0
 By A = Spot → Slots → Resolved A
 
-abbrev pub without : {A : Type 0} → Slots → Named A → Resolved A
+abbrev pub without : {A : Type 0} → Slots → Noted A → Resolved A
 without slots n = record { it = n.it; note = n.note; slots = slots }
 
 abbrev pub with_resolved : {A : Type 0} → Resolved (List A) → Resolved A → Resolved (List A)
@@ -72,7 +72,7 @@ with_hidden slots =
     record slots { hidden = slots.hidden ++ one ∷ one ∷ one ∷ [] }
 
 -- a default sees the declarations before it
-abbrev pub declared : Decl → Scope → Named Decl
+abbrev pub declared : Decl → Scope → Noted Decl
 declared d scope =
     let default = held (λ e. named_expr e scope) d.default in
     record {
@@ -91,7 +91,7 @@ none_declared scope slots = record { it = []; variables = scope.variables; note 
 abbrev pub declared_all : List Decl → Scope → Slots → Declared
 declared_all ds scope slots = fold (with_declared scope) (none_declared scope slots) ds
 
-unfoldable pub assigned : Name → Option Variable → Named Expr → Named Stmt
+unfoldable pub assigned : Name → Option Variable → Noted Expr → Noted Stmt
 assigned name None e = record { it = stmt.Assign name None e.it; note = joined (breaks 7 true) e.note }
 assigned name (Some v) e = record { it = stmt.Assign name (Some v.slot) e.it; note = joined (breaks 11 v.constant) e.note }
 

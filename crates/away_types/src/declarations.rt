@@ -11,7 +11,7 @@ use crate::resolved::Declared;
 use crate::slots::Slots;
 use crate::variables::{copy_variables, with_slot, with_variable};
 use away_names::naming::named_maybe;
-use away_names::note::{Named, breaks, clean, joined};
+use away_names::note::{Noted, breaks, clean, joined};
 use away_names::references::written;
 use away_names::scope::Scope;
 use away_trees::Decl;
@@ -27,12 +27,12 @@ fn lacks_default(d: &Decl) -> bool
     d.not_null && d.default.is_none()
 }
 
-fn declared(alloc: Global, d: &Decl, s: &Scope<'_>) -> Result<Named<Decl>, NoMemory>
+fn declared(alloc: Global, d: &Decl, s: &Scope<'_>) -> Result<Noted<Decl>, NoMemory>
     ensures { IfOk result (λ x. x ≡ spec.declared d.now (scope s.now)) }
 {
     let default = named_maybe(alloc, &d.default, s)?;
     let name = d.name.copy(alloc)?;
-    Ok(Named {
+    Ok(Noted {
         it: Decl {
             name,
             ty: d.ty,

@@ -119,7 +119,7 @@ fn head_note(f: &Function) -> Note
     joined(kept(&f.name), params_note(f.params.as_slice()))
 }
 
-fn judged(alloc: Global, s: &Schema, f: &Function) -> Result<Verdict, NoMemory>
+fn verdict_of(alloc: Global, s: &Schema, f: &Function) -> Result<Verdict, NoMemory>
     ensures { IfOk result (λ x. x ≡ record { body = (spec.body_of s.now f.now).it; slots = spec.slots_of s.now f.now; note = spec.function_note s.now f.now }) }
 {
     let Resolved { it, note, slots } = body_of(alloc, s, f)?;
@@ -143,7 +143,7 @@ pub fn check_function(
     ensures ok { IfOk result (λ c. IsChecked s.now.schema f c.function c.slots) }
     ensures err { IfErr result (λ e. Refuses (spec.function_note s.now.schema f) e) }
 {
-    match judged(alloc, &s.schema, &f) {
+    match verdict_of(alloc, &s.schema, &f) {
         Err(NoMemory) => Err(RuleRefusal::NoMemory),
         Ok(Verdict { body, slots, note }) => {
             if note.least == 255 {

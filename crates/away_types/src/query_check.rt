@@ -10,7 +10,7 @@ use crate::checked_query::CheckedQuery;
 use crate::checked_schema::CheckedSchema;
 use away_names::files::named_file;
 use away_trees::{Query, Schema};
-use away_typing::wholes::{Judged, judged_file};
+use away_typing::wholes::{QueryVerdict, judged_file};
 use away_values::NoMemory;
 use sqlite_items::Boxed;
 use std::alloc::Global;
@@ -19,7 +19,7 @@ use std::alloc::Global;
 #[derive(Drop)]
 struct Verdict {
     query: Boxed<Query>,
-    judged: Judged,
+    judged: QueryVerdict,
 }
 
 fn judged_tree(alloc: Global, s: &Schema, q: &Query) -> Result<Verdict, NoMemory>
@@ -40,7 +40,7 @@ fn checked(alloc: Global, s: &CheckedSchema, q: &Query) -> Result<CheckedQuery, 
     match judged_tree(alloc, &s.schema, q) {
         Err(NoMemory) => Err(RuleRefusal::NoMemory),
         Ok(Verdict { query, judged }) => {
-            let Judged {
+            let QueryVerdict {
                 note,
                 params,
                 result,

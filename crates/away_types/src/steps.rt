@@ -19,7 +19,7 @@ use away_core::Copied;
 use away_names::listings::copy_alias;
 use away_names::lookups::variable_named;
 use away_names::naming::{named_expr, named_maybe};
-use away_names::note::{Named, Note, breaks, clean, joined};
+use away_names::note::{Note, Noted, breaks, clean, joined};
 use away_names::references::{maybe_written, written};
 use away_names::scope::{Scope, Variable};
 use away_trees::{Decl, Expr, LoopKind, Raised, Select, Stmt};
@@ -32,17 +32,17 @@ fn assigned(
     alloc: Global,
     name: &Name,
     v: Option<&Variable>,
-    e: Named<Expr>,
-) -> Result<Named<Stmt>, NoMemory>
+    e: Noted<Expr>,
+) -> Result<Noted<Stmt>, NoMemory>
     ensures { IfOk result (λ x. x ≡ spec.assigned name.now (option_copied v.entry) e) }
 {
     let target = name.copy(alloc)?;
     match v {
-        None => Ok(Named {
+        None => Ok(Noted {
             it: Stmt::Assign(target, None, e.it),
             note: joined(breaks(7, true), e.note),
         }),
-        Some(v) => Ok(Named {
+        Some(v) => Ok(Noted {
             it: Stmt::Assign(target, Some(v.slot), e.it),
             note: joined(breaks(11, v.constant), e.note),
         }),

@@ -50,9 +50,9 @@ pub named_is : (p : Params) (n : List ℕ) → with_expr p (expr.Named n) ≡ p
 unfolding with_expr
 named_is p n = refl
 
-pub dotted_is : (p : Params) (a n : List ℕ) → with_expr p (expr.Dotted a n) ≡ p
+pub qualified_is : (p : Params) (a n : List ℕ) → with_expr p (expr.Dotted a n) ≡ p
 unfolding with_expr
-dotted_is p a n = refl
+qualified_is p a n = refl
 
 pub slot_is : (p : Params) (i : ℕ) → with_expr p (expr.Slot i) ≡ p
 unfolding with_expr
@@ -125,7 +125,7 @@ pub exists_is : (p : Params) (q : Query) → with_expr p (expr.Exists q) ≡ wit
 unfolding with_expr with_query
 exists_is p q = ap (λ f. f p) (e.of_exists finding q)
 
-pub ruleset expression_rules = (int_is, str_is, bool_is, null_is, named_is, dotted_is, slot_is, column_is, count_rows_is, param_is, neg_is, negsmall_is, not_is, is_is, cast_is, compare_is, between_is, chain_is, one_of_is, call_is, cases_is, scalar_is, exists_is)
+pub ruleset expression_rules = (int_is, str_is, bool_is, null_is, named_is, qualified_is, slot_is, column_is, count_rows_is, param_is, neg_is, negsmall_is, not_is, is_is, cast_is, compare_is, between_is, chain_is, one_of_is, call_is, cases_is, scalar_is, exists_is)
 
 -- ---- FROM, selects and queries
 

@@ -80,9 +80,9 @@ pub named_kind : (n : List ℕ) (p : Places) → kind_of (expr.Named n) p ≡ Wr
 unfolding kind_of
 named_kind n p = refl
 
-pub dotted_kind : (a n : List ℕ) (p : Places) → kind_of (expr.Dotted a n) p ≡ Wrong
+pub qualified_kind : (a n : List ℕ) (p : Places) → kind_of (expr.Dotted a n) p ≡ Wrong
 unfolding kind_of
-dotted_kind a n p = refl
+qualified_kind a n p = refl
 
 pub slot_rule : (i : ℕ) (p : Places) → kind_of (expr.Slot i) p ≡ t.kind_at (slice_get p.slots i)
 unfolding kind_of
@@ -153,7 +153,7 @@ pub exists_rule : (q : Query) (p : Places) → kind_of (expr.Exists q) p ≡ t.e
 unfolding kind_of shape_of_query
 exists_rule q p = ap (λ k. k p) (e.of_exists typing q)
 
-pub ruleset kind_rules = (int_kind, str_kind, bool_kind, null_kind, named_kind, dotted_kind, slot_rule, column_kind, param_kind, neg_kind, negsmall_kind, not_kind, is_kind, chain_rule, compare_kind, between_kind, oneof_kind, cast_rule, cases_kind, call_rule, countrows_kind, scalar_rule, exists_rule)
+pub ruleset kind_rules = (int_kind, str_kind, bool_kind, null_kind, named_kind, qualified_kind, slot_rule, column_kind, param_kind, neg_kind, negsmall_kind, not_kind, is_kind, chain_rule, compare_kind, between_kind, oneof_kind, cast_rule, cases_kind, call_rule, countrows_kind, scalar_rule, exists_rule)
 
 -- ---- FROM
 

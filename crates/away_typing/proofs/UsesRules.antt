@@ -115,13 +115,13 @@ pub named_used : (n : List ℕ) → uses_of (expr.Named n) ≡ unused
 unfolding uses_of
 named_used n = refl
 
-pub dotted_at : (level : ℕ) (a n : List ℕ) → names_at level (expr.Dotted a n) ≡ false
+pub qualified_at : (level : ℕ) (a n : List ℕ) → names_at level (expr.Dotted a n) ≡ false
 unfolding names_at
-dotted_at level a n = refl
+qualified_at level a n = refl
 
-pub dotted_used : (a n : List ℕ) → uses_of (expr.Dotted a n) ≡ unused
+pub qualified_used : (a n : List ℕ) → uses_of (expr.Dotted a n) ≡ unused
 unfolding uses_of
-dotted_used a n = refl
+qualified_used a n = refl
 
 pub param_at : (level : ℕ) (i : ℕ) (t : Ty) → names_at level (expr.Param i t) ≡ false
 unfolding names_at
@@ -259,9 +259,9 @@ pub exists_used : (q : Query) → uses_of (expr.Exists q) ≡ of_query (uses_of_
 unfolding uses_of uses_of_query query_names_at
 exists_used q = ap (λ t. t.uses) (e.of_exists using_ q)
 
-pub ruleset names_rules = (int_at, str_at, bool_at, null_at, named_at, dotted_at, param_at, neg_at, negsmall_at, not_at, is_at, cast_at, compare_at, between_at, chain_at, oneof_at, cases_at, call_at, slot_at, column_at, countrows_at, scalar_at, exists_at)
+pub ruleset names_rules = (int_at, str_at, bool_at, null_at, named_at, qualified_at, param_at, neg_at, negsmall_at, not_at, is_at, cast_at, compare_at, between_at, chain_at, oneof_at, cases_at, call_at, slot_at, column_at, countrows_at, scalar_at, exists_at)
 
-pub ruleset uses_rules = (int_used, str_used, bool_used, null_used, named_used, dotted_used, param_used, neg_used, negsmall_used, not_used, is_used, cast_used, compare_used, between_used, chain_used, oneof_used, cases_used, call_used, slot_used, column_used, countrows_used, scalar_used, exists_used)
+pub ruleset uses_rules = (int_used, str_used, bool_used, null_used, named_used, qualified_used, param_used, neg_used, negsmall_used, not_used, is_used, cast_used, compare_used, between_used, chain_used, oneof_used, cases_used, call_used, slot_used, column_used, countrows_used, scalar_used, exists_used)
 
 -- ---- FROM, selects and queries
 

@@ -19,7 +19,7 @@ use Rattle.away_names.specs.declared.note.Times.TheVariants.{Never, Once, Often}
 use Rattle.away_names.specs.Lookups.{Name}
 use Rattle.away_names.specs.Notes.{clean, joined, breaks}
 use Rattle.away_typing.specs.declared.kind.Kind.{Kind}
-use Rattle.away_typing.specs.declared.wholes.Judged.{Judged}
+use Rattle.away_typing.specs.declared.wholes.QueryVerdict.{QueryVerdict}
 use Rattle.away_typing.specs.declared.wholes.Recursion.{Recursion}
 use Rattle.away_typing.specs.Aggregates.{is_some_of}
 use Rattle.away_typing.specs.Kinds.{same, fits}
@@ -135,7 +135,7 @@ uses_note q = joined (breaks 13 (uses_of_query q).limited) (breaks 15 (uses_of_q
 abbrev pub final_shape : Query → Recursion → Shape
 final_shape q r = shape_of (union_in (over_tables r.tables) (out-Query q).selects)
 
-abbrev pub judged_by : File → Recursion → Judged
+abbrev pub judged_by : File → Recursion → QueryVerdict
 judged_by f r =
     let shape = final_shape f.query r in
     let params = params_of f.query in
@@ -146,5 +146,5 @@ judged_by f r =
     }
 
 -- the least rule that a query breaks, its parameters, and the type of its first column
-unfoldable pub judged : Schema → File → Judged
+unfoldable pub judged : Schema → File → QueryVerdict
 judged s f = judged_by f (recursion s f.first.refers f.second.refers (out-Query f.query).recursive)

@@ -169,7 +169,7 @@ fn call_kind(f: Known, list: &[Kind]) -> Kind
 }
 
 #[tactic(auto, unfolding(crate::specs::Typing::called))]
-pub fn called(f: Option<Known>, list: &[Kind]) -> Kind
+pub fn kind_of_call(f: Option<Known>, list: &[Kind]) -> Kind
     ensures { result ≡ spec.called f list.now }
 {
     match f {

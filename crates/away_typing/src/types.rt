@@ -11,7 +11,8 @@ ghost use Rattle.away_typing.specs.TypingLists.{places};
 
 use crate::kind::{Kind, fits, is_right, meet, of_type, only_if, settled};
 use crate::operands::{
-    called, cast_kind, column, common, exists_kind, kind_or_null, pair, passed, scalar_kind, slot,
+    cast_kind, column, common, exists_kind, kind_of_call, kind_or_null, pair, passed, scalar_kind,
+    slot,
 };
 use crate::shapes::{
     before, further, listed, nested, or_none, select_kinds, table_shape, types_of,
@@ -99,7 +100,7 @@ pub fn kind(alloc: Global, e: &Expr, p: &Places<'_>) -> Result<Kind, NoMemory>
         }
         Expr::Call(name, args) => {
             let ks = kinds(alloc, args.as_slice(), p)?;
-            Ok(called(function(name), ks.as_slice()))
+            Ok(kind_of_call(function(name), ks.as_slice()))
         }
         Expr::Scalar(q) => {
             let shape = query_shape(alloc, q.get(), p)?;

@@ -105,7 +105,7 @@ fn is_known_aggregate(f: Option<Known>) -> bool
 }
 
 #[tactic(auto, unfolding(crate::specs::Aggregates::called))]
-fn called(name: &Name, u: Uses) -> Uses
+fn call_uses(name: &Name, u: Uses) -> Uses
     ensures { result ≡ spec.called name.now u }
 {
     if is_known_aggregate(function(name)) {
@@ -215,7 +215,7 @@ pub fn used(e: &Expr) -> Result<Uses, NoMemory>
             let u = arms_used(arms.as_slice())?;
             Ok(either(u, other_used(other)?))
         }
-        Expr::Call(name, args) => Ok(called(name, all_used(args.as_slice())?)),
+        Expr::Call(name, args) => Ok(call_uses(name, all_used(args.as_slice())?)),
         Expr::Scalar(q) => {
             let u = query_used(q.get())?;
             Ok(of_query(u, query_names(q.get(), 1)?))

@@ -24,7 +24,7 @@ pub struct Recursion {
 
 /// The least rule that a query breaks, its parameters, and the type of its first column.
 #[derive(Drop)]
-pub struct Judged {
+pub struct QueryVerdict {
     pub note: Note,
     pub params: Items<(u32, Ty)>,
     pub result: Ty,
@@ -76,7 +76,7 @@ fn final_shape(alloc: Global, q: &Query, r: &Recursion) -> Result<Option<Items<T
     shape_of(alloc, kinds)
 }
 
-fn judged_by(alloc: Global, f: &File, r: &Recursion) -> Result<Judged, NoMemory>
+fn judged_by(alloc: Global, f: &File, r: &Recursion) -> Result<QueryVerdict, NoMemory>
     ensures { IfOk result (λ j. j ≡ spec.judged_by f.now r.now) }
 {
     let shape = final_shape(alloc, &f.query, r)?;
@@ -89,7 +89,7 @@ fn judged_by(alloc: Global, f: &File, r: &Recursion) -> Result<Judged, NoMemory>
             joined(r.note, answer_note(&shape)),
         ),
     );
-    Ok(Judged {
+    Ok(QueryVerdict {
         note,
         params: params.list,
         result: first_type(&shape),
@@ -98,7 +98,7 @@ fn judged_by(alloc: Global, f: &File, r: &Recursion) -> Result<Judged, NoMemory>
 
 /// The least rule that a query breaks.
 #[tactic(auto, unfolding(crate::specs::Wholes::judged))]
-pub fn judged_file(alloc: Global, s: &Schema, f: &File) -> Result<Judged, NoMemory>
+pub fn judged_file(alloc: Global, s: &Schema, f: &File) -> Result<QueryVerdict, NoMemory>
     ensures { IfOk result (λ j. j ≡ spec.judged s.now f.now) }
 {
     let r = recursion_found(

@@ -13,7 +13,7 @@ use Rattle.away_trees.specs.StatementAlgebra.{StatementAlgebra, stmt_of, branch_
 use Rattle.away_types.specs.declared.slots.Slot.{Slot}
 use Rattle.plsql_meaning.specs.Outcomes.{Label, case_not_found}
 use Rattle.plsql_meaning.specs.Statements.{class_of}
-use Rattle.block_forms.specs.declared.places.Place.{Place}
+use Rattle.block_forms.specs.declared.places.Position.{Position}
 use Rattle.block_forms.specs.declared.places.Numbers.{Numbers}
 use Rattle.block_forms.specs.Around.{Around, exit_to, again_to}
 use Rattle.block_forms.specs.Forms.{Class, Term, Goto}
@@ -21,21 +21,21 @@ use Rattle.block_forms.specs.Patterns.{Part, own, shared, same, never, source_te
 
 -- ---- how much a statement has
 
-abbrev pub place : ℕ → ℕ → ℕ → ℕ → Place
+abbrev pub place : ℕ → ℕ → ℕ → ℕ → Position
 place node expr slot fors = record { node = node; expr = expr; slot = slot; fors = fors }
 
-abbrev pub after : Place → Place → Place
+abbrev pub after : Position → Position → Position
 after p q = place (p.node + q.node) (p.expr + q.expr) (p.slot + q.slot) (p.fors + q.fors)
 
-abbrev pub nothing : Place
+abbrev pub nothing : Position
 nothing = place 0 0 0 0
 
 -- a node by itself
-abbrev pub a_node : Place
+abbrev pub a_node : Position
 a_node = place 1 0 0 0
 
 -- a node with one expression
-abbrev pub with_expr : Place
+abbrev pub with_expr : Position
 with_expr = place 1 1 0 0
 
 abbrev pub one_if : {X : Type 0} → Option X → ℕ
@@ -43,15 +43,15 @@ one_if None = 0
 one_if (Some _) = 1
 
 -- a declaration is a node and a variable
-abbrev pub decl_size : Decl → Place
+abbrev pub decl_size : Decl → Position
 decl_size d = place 1 (one_if d.default) 1 0
 
-abbrev pub decls_size : List Decl → Place
+abbrev pub decls_size : List Decl → Position
 decls_size [] = nothing
 decls_size (d ∷ ds) = after (decl_size d) (decls_size ds)
 
 -- of a loop without its body
-abbrev pub kind_size : LoopKind → Place
+abbrev pub kind_size : LoopKind → Position
 kind_size kind.Plain = a_node
 kind_size (kind.While _) = with_expr
 kind_size (kind.Count _ _ _ _ by) = place 1 (2 + one_if by) 1 1
@@ -66,24 +66,24 @@ pub record Setting : Type 0 where
 
 -- how much a statement has, and its parts by its place, what stands around it and the block that follows
 pub record Laid : Type 0 where
-  pub size : Place
-  pub parts : Setting → Place → Around → ℕ → List Part
+  pub size : Position
+  pub parts : Setting → Position → Around → ℕ → List Part
 
 pub record LaidArm : Type 0 where
   pub test : Expr
-  pub size : Place
+  pub size : Position
   pub body : List Laid
 
-abbrev pub row_size : List Laid → Place
+abbrev pub row_size : List Laid → Position
 row_size [] = nothing
 row_size (x ∷ xs) = after x.size (row_size xs)
 
-abbrev pub arms_size : List LaidArm → Place
+abbrev pub arms_size : List LaidArm → Position
 arms_size [] = nothing
 arms_size (a ∷ rest) = after a.size (arms_size rest)
 
 -- an ELSE is a node
-abbrev pub else_size : Option (List Laid) → Place
+abbrev pub else_size : Option (List Laid) → Position
 else_size None = nothing
 else_size (Some body) = after a_node (row_size body)
 
@@ -96,7 +96,7 @@ module _ (s : Setting) where
   first_block zero i next = next
   first_block (suc _) i next = node s.goto i
 
-  abbrev pub row_parts : List Laid → Place → Around → ℕ → List Part
+  abbrev pub row_parts : List Laid → Position → Around → ℕ → List Part
   row_parts [] p around next = []
   row_parts (x ∷ xs) p around next = x.parts s p around (first_block (length xs) (p.node + x.size.node) next) ++ row_parts xs (after p x.size) around next
 
@@ -104,20 +104,20 @@ module _ (s : Setting) where
   default_term None t k = null_of s.numbers.fixed t
   default_term (Some e) t k = source_term k e
 
-  abbrev pub decl_parts : Decl → Place → ℕ → List Part
+  abbrev pub decl_parts : Decl → Position → ℕ → List Part
   decl_parts d p next = slot_parts s.goto s.numbers (slice_get s.slots p.slot) (node s.goto p.node) p.slot (default_term d.default d.ty p.expr) next
 
-  abbrev pub decls_parts : List Decl → Place → ℕ → List Part
+  abbrev pub decls_parts : List Decl → Position → ℕ → List Part
   decls_parts [] p next = []
   decls_parts (d ∷ ds) p next = decl_parts d p (first_block (length ds) (p.node + 1) next) ++ decls_parts ds (after p (decl_size d)) next
 
   -- before names are resolved an assignment has no slot, and does nothing
-  abbrev pub assign_parts : Option ℕ → Expr → Place → ℕ → List Part
+  abbrev pub assign_parts : Option ℕ → Expr → Position → ℕ → List Part
   assign_parts None e p next = own (node s.goto p.node) (jumps false next) ∷ []
   assign_parts (Some slot) e p next = slot_parts s.goto s.numbers (slice_get s.slots slot) (node s.goto p.node) slot (source_term p.expr e) next
 
   -- the arms from a block on; each leads to the next one
-  abbrev pub arms_parts : List LaidArm → Place → Around → ℕ → ℕ → List Part
+  abbrev pub arms_parts : List LaidArm → Position → Around → ℕ → ℕ → List Part
   arms_parts [] p around next b = []
   arms_parts (a ∷ rest) p around next b =
       same b (node s.goto p.node)
@@ -133,7 +133,7 @@ module _ (s : Setting) where
   lack_parts None b next = same b next ∷ []
   lack_parts (Some c) b next = shared b (fails c) ∷ []
 
-  abbrev pub else_parts : Option (List Laid) → Option Class → Place → Around → ℕ → ℕ → List Part
+  abbrev pub else_parts : Option (List Laid) → Option Class → Position → Around → ℕ → ℕ → List Part
   else_parts None without p around next b = lack_parts without b next
   else_parts (Some body) without p around next b =
       same b (node s.goto p.node)
@@ -141,33 +141,33 @@ module _ (s : Setting) where
       ∷ row_parts body (after p a_node) around next
 
   -- IF, and CASE with the class where no arm is taken
-  abbrev pub branch_parts : List LaidArm → Option (List Laid) → Option Class → Place → Around → ℕ → List Part
+  abbrev pub branch_parts : List LaidArm → Option (List Laid) → Option Class → Position → Around → ℕ → List Part
   branch_parts arms other without p around next =
       arms_parts arms (after p a_node) around next (node s.goto p.node)
       ++ else_parts other without (after p (after a_node (arms_size arms))) around next (lack arms (node s.goto p.node))
 
   -- where the statements of a block begin
-  abbrev pub inside_of : List Decl → Place → Place
+  abbrev pub inside_of : List Decl → Position → Position
   inside_of decls p = after p (after a_node (decls_size decls))
 
-  abbrev pub block_parts : Label → List Decl → List Laid → Place → Around → ℕ → List Part
+  abbrev pub block_parts : Label → List Decl → List Laid → Position → Around → ℕ → List Part
   block_parts label decls body p around next =
       same (node s.goto p.node) (first_block (length decls) (p.node + 1) (first_block (length body) (inside_of decls p).node next))
       ∷ (decls_parts decls (after p a_node) (first_block (length body) (inside_of decls p).node next)
       ++ row_parts body (inside_of decls p) (record { label = label; exit = next; again = None } ∷ around) next)
 
   -- the block to which the body of a loop leads
-  abbrev pub again_of : LoopKind → Place → ℕ
+  abbrev pub again_of : LoopKind → Position → ℕ
   again_of kind.Plain p = node s.goto p.node
   again_of (kind.While _) p = node s.goto p.node
   again_of (kind.Count _ reverse _ _ _) p = for_test s.goto s.numbers reverse p.fors
 
-  abbrev pub kind_parts : LoopKind → Place → ℕ → ℕ → List Part
+  abbrev pub kind_parts : LoopKind → Position → ℕ → ℕ → List Part
   kind_parts kind.Plain p body next = own (node s.goto p.node) (jumps true body) ∷ []
   kind_parts (kind.While e) p body next = own (node s.goto p.node) (branches true (source_term p.expr e) body next) ∷ []
   kind_parts (kind.Count _ reverse first last by) p body next = for_parts s.goto s.numbers reverse first last by p body next
 
-  abbrev pub loop_parts : Label → LoopKind → List Laid → Place → Around → ℕ → List Part
+  abbrev pub loop_parts : Label → LoopKind → List Laid → Position → Around → ℕ → List Part
   loop_parts label k body p around next =
       kind_parts k p (first_block (length body) (p.node + 1) (again_of k p)) next
       ++ row_parts body (after p (kind_size k)) (record { label = label; exit = next; again = Some (again_of k p) } ∷ around) (again_of k p)

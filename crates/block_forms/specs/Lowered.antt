@@ -4,7 +4,7 @@ use Rattle.away_values.specs.declared.types.Ty.{Ty}
 use Rattle.away_trees.specs.declared.statements.Function.{Function}
 use Rattle.away_types.specs.declared.slots.Slot.{Slot}
 use Rattle.plsql_meaning.specs.Outcomes.{no_return}
-use Rattle.block_forms.specs.declared.places.Place.{Place}
+use Rattle.block_forms.specs.declared.places.Position.{Position}
 use Rattle.block_forms.specs.declared.places.Numbers.{Numbers}
 use Rattle.block_forms.specs.Forms.{Term, End, Jump, Branch, Return, Fail, Assignment, Block, Goto}
 use Rattle.block_forms.specs.Places.{Each}
@@ -63,7 +63,7 @@ params_parts s strict result k [] = []
 params_parts s strict result k (p ∷ ps) = param_parts s strict result k p.1 ++ params_parts s strict result (k + 1) ps
 
 -- where the body begins
-abbrev pub body_place : Function → Place
+abbrev pub body_place : Function → Position
 body_place f = place (length f.params) 0 (length f.params) 0
 
 abbrev pub parts_in : Setting → Function → List Part

@@ -6,7 +6,7 @@ use Rattle.away_trees.specs.declared.queries.Expr.{Expr}
 use Rattle.away_types.specs.declared.slots.Slot.{Slot}
 use Rattle.sql_meaning.specs.Reads.{slots_of}
 use Rattle.plsql_meaning.specs.Outcomes.{null_not_allowed, invalid_parameter}
-use Rattle.block_forms.specs.declared.places.Place.{Place}
+use Rattle.block_forms.specs.declared.places.Position.{Position}
 use Rattle.block_forms.specs.declared.places.Numbers.{Numbers}
 use Rattle.block_forms.specs.declared.fixed_list.Fixed.{Fixed}
 use Rattle.block_forms.specs.declared.fixed_list.Fixed.TheVariants as fix
@@ -209,7 +209,7 @@ module _ (g : Goto) (n : Numbers) where
   abbrev pub for_test : Bool → ℕ → ℕ
   for_test reverse f = first_test (n.fixed + position (past_end_entry reverse)) (cur_of f + 2) (cur_of f) g.blocks
 
-  abbrev pub for_parts : Bool → Expr → Expr → Option Expr → Place → ℕ → ℕ → List Part
+  abbrev pub for_parts : Bool → Expr → Expr → Option Expr → Position → ℕ → ℕ → List Part
   for_parts reverse first last by p body next =
       bound_parts (node g p.node) (cur_of p.fors) (source_term p.expr first) (after_bound g (node g p.node))
       ++ (bound_parts (after_bound g (node g p.node)) (cur_of p.fors + 1) (source_term (p.expr + 1) last) (after_bound g (after_bound g (node g p.node)))

@@ -17,6 +17,6 @@ pub use fixed_list::Fixed;
 pub use form::{Form, GotoForm, SsaForm};
 pub use forms::{Block, End, Goto, Phi, Ssa, SsaBlock, Term};
 pub use laws::{runs_that_end_stay, the_fixed_list_stands, worked_forms_are_lowered};
-pub use places::{Numbers, Place};
+pub use places::{Numbers, Position};
 pub use same::{same_assignment, same_numbers, same_term};
 pub use stage::{Stage, Then};

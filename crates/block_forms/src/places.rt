@@ -2,7 +2,7 @@
 
 /// How many nodes, source expressions, variables and FOR loops stand before a statement, or in it.
 #[derive(Clone, Copy, Debug, PartialEq, Eq)]
-pub struct Place {
+pub struct Position {
     pub node: u32,
     pub expr: u32,
     pub slot: u32,

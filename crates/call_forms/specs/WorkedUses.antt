@@ -1,6 +1,6 @@
 -- A worked example: parameters that nothing needs.
 use Rattle.std.specs.Prelude.{ℕ, List, [], ◌∷◌, Some, None}
-use Rattle.block_forms.specs.Forms.{Term}
+use Rattle.block_forms.specs.declared.forms.Term.{Term}
 use Rattle.call_forms.specs.Forms.{Call, Pick, Return, Anf}
 use Rattle.call_forms.specs.Useful.{IsUseful, UsefulParameters}
 

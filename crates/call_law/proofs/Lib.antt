@@ -5,3 +5,7 @@ pub mod RowPlaces
 pub mod Ways
 pub mod MergedRuns
 pub mod InSettings
+pub mod PartTerms
+pub mod StatementTerms
+pub mod FormTerms
+pub mod HasTrees

@@ -63,7 +63,7 @@ fn branch(alloc: Global, term: &Term, yes: u32, no: u32) -> Result<Value, AllocE
 }
 
 #[tactic(auto, using(crate::proofs::Again::return_again, crate::proofs::Again::call_return_again))]
-fn returned(alloc: Global, term: &Term) -> Result<Value, AllocError>
+fn return_value(alloc: Global, term: &Term) -> Result<Value, AllocError>
     ensures value { IfOk result (λ v. view v ≡ return_data term.now) }
     ensures reads { IfOk result (λ _. end_in (return_data term.now) ≡ Some (Return term.now)) }
     ensures reads_call { IfOk result (λ _. call_end_in (return_data term.now) ≡ Some (calls.Return term.now)) }
@@ -73,7 +73,7 @@ fn returned(alloc: Global, term: &Term) -> Result<Value, AllocError>
 }
 
 #[tactic(auto, using(crate::proofs::Again::fail_again, crate::proofs::Again::call_fail_again))]
-fn failed(alloc: Global, code: Class) -> Result<Value, AllocError>
+fn fail_value(alloc: Global, code: Class) -> Result<Value, AllocError>
     ensures value { IfOk result (λ v. view v ≡ fail_data code) }
     ensures reads { IfOk result (λ _. HasCode code → end_in (fail_data code) ≡ Some (Fail code)) }
     ensures reads_call { IfOk result (λ _. HasCode code → call_end_in (fail_data code) ≡ Some (calls.Fail code)) }
@@ -88,8 +88,8 @@ pub(crate) fn end(alloc: Global, end: &End) -> Result<Value, AllocError>
     match end {
         End::Jump(block) => jump(alloc, *block),
         End::Branch(term, yes, no) => branch(alloc, term, *yes, *no),
-        End::Return(term) => returned(alloc, term),
-        End::Fail(code) => failed(alloc, *code),
+        End::Return(term) => return_value(alloc, term),
+        End::Fail(code) => fail_value(alloc, *code),
     }
 }
 
@@ -131,7 +131,7 @@ pub(crate) fn call_end(alloc: Global, end: &CallEnd) -> Result<Value, AllocError
     match end {
         CallEnd::Go(call) => go(alloc, call),
         CallEnd::Pick(term, yes, no) => pick(alloc, term, yes, no),
-        CallEnd::Return(term) => returned(alloc, term),
-        CallEnd::Fail(code) => failed(alloc, *code),
+        CallEnd::Return(term) => return_value(alloc, term),
+        CallEnd::Fail(code) => fail_value(alloc, *code),
     }
 }

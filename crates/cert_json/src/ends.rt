@@ -66,7 +66,7 @@ fn branch(alloc: Global, rest: &[Value]) -> Result<End, Misfit>
     }
 }
 
-fn returned(alloc: Global, rest: &[Value]) -> Result<Term, Misfit>
+fn return_term(alloc: Global, rest: &[Value]) -> Result<Term, Misfit>
     ensures { Gives (λ t. t) result (return_in (map view rest.now)) }
 {
     match rest {
@@ -75,7 +75,7 @@ fn returned(alloc: Global, rest: &[Value]) -> Result<Term, Misfit>
     }
 }
 
-fn failed(rest: &[Value]) -> Result<Class, Misfit>
+fn fail_class(rest: &[Value]) -> Result<Class, Misfit>
     ensures { Gives (λ c. c) result (fail_in (map view rest.now)) }
 {
     match rest {
@@ -93,9 +93,9 @@ fn end_by(alloc: Global, word: &str, rest: &[Value]) -> Result<End, Misfit>
     } else if word == "branch" {
         branch(alloc, rest)
     } else if word == "return" {
-        Ok(End::Return(returned(alloc, rest)?))
+        Ok(End::Return(return_term(alloc, rest)?))
     } else if word == "fail" {
-        Ok(End::Fail(failed(rest)?))
+        Ok(End::Fail(fail_class(rest)?))
     } else {
         Err(Misfit::Shape)
     }
@@ -150,9 +150,9 @@ fn call_end_by(alloc: Global, word: &str, rest: &[Value]) -> Result<CallEnd, Mis
     } else if word == "if" {
         pick(alloc, rest)
     } else if word == "return" {
-        Ok(CallEnd::Return(returned(alloc, rest)?))
+        Ok(CallEnd::Return(return_term(alloc, rest)?))
     } else if word == "fail" {
-        Ok(CallEnd::Fail(failed(rest)?))
+        Ok(CallEnd::Fail(fail_class(rest)?))
     } else {
         Err(Misfit::Shape)
     }

@@ -27,11 +27,11 @@ use Rattle.cert_json.specs.declared.cert.Cert.{Cert}
 use Rattle.cert_json.specs.Spellings.{is_code}
 use Rattle.cert_json.specs.Writable.{CallEndHasCode, EndHasCode, HasCode, HasName, HasSpelling}
 use Rattle.compiling.specs.Stages.{AreForms}
-use Rattle.function_reads.specs.Raising.{RaisesClass}
-use Rattle.function_reads.proofs.Raising.{raise_classes}
-use Rattle.query_texts.specs.Texts.{IsOfTexts}
-use Rattle.query_texts.proofs.ColumnTypes.{columns_of_texts}
-use Rattle.typed_forms.specs.Typed.{HasKind}
+use Rattle.function_facts.specs.Raising.{RaisesClass}
+use Rattle.function_facts.proofs.Raising.{raise_classes}
+use Rattle.cte_prints.specs.Texts.{IsOfTexts}
+use Rattle.cte_prints.proofs.ColumnTypes.{columns_of_texts}
+use Rattle.cte_types.specs.Typed.{HasKind}
 
 -- ---- ends
 

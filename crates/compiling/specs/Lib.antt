@@ -1,3 +1,3 @@
 pub mod Stages
-pub mod Spoken
+pub mod WrittenQuery
 pub mod Compiled

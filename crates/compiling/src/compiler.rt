@@ -5,20 +5,20 @@ ghost use Rattle.away_trees.specs.declared.statements.Function.{Function};
 ghost use Rattle.away_types.specs.CheckedFunctions.{IsChecked};
 ghost use Rattle.away_types.specs.CheckedQueries.{resolved_query};
 ghost use Rattle.compiling.specs.Compiled.{IsCompiled};
-ghost use Rattle.compiling.specs.Spoken.{IsSpokenOf, Speaks};
+ghost use Rattle.compiling.specs.WrittenQuery.{IsWrittenQueryOf, IsWritten};
 ghost use Rattle.compiling.specs.Stages.{AreForms};
-ghost use Rattle.dotted_names.specs.Trees.{dotted};
+ghost use Rattle.qualified_names.specs.Trees.{qualified};
 ghost use Rattle.equivalence.specs.Accepted.{EquivalentWith};
-ghost use Rattle.query_texts.specs.Texts.{IsOfTexts};
+ghost use Rattle.cte_prints.specs.Texts.{IsOfTexts};
 
 use crate::forms::{forms_of, tree_of};
 use away_trees::Query;
 use away_types::{CheckedFunction, CheckedSchema};
 use away_values::NoMemory;
 use cert_json::Cert;
-use dotted_names::dotted_query;
+use cte_prints::trees_read_again;
 use equivalence::accepted_forms_are_equivalent;
-use query_texts::trees_read_again;
+use qualified_names::qualified_query;
 use sql_printer::print_query;
 use sqlite_items::Boxed;
 use std::alloc::Global;
@@ -33,38 +33,38 @@ pub struct Compiled {
 
 /// A query and its text.
 #[derive(Drop)]
-struct Spoken {
+struct WrittenQuery {
     query: Boxed<Query>,
     text: String,
 }
 
 /// A tree with names of its columns.
 fn named(alloc: Global, tree: &Query) -> Result<Boxed<Query>, NoMemory>
-    ensures { IfOk result (λ q. q ≡ dotted tree.now) }
+    ensures { IfOk result (λ q. q ≡ qualified tree.now) }
 {
-    let named = dotted_query(alloc, tree)?;
+    let named = qualified_query(alloc, tree)?;
     Ok(Boxed::new(alloc, named)?)
 }
 
 /// A tree with names of its columns, and the text of that.
-fn text_of(alloc: Global, tree: &Query) -> Result<Spoken, NoMemory>
-    ensures { IfOk result (Speaks tree.now) }
+fn text_of(alloc: Global, tree: &Query) -> Result<WrittenQuery, NoMemory>
+    ensures { IfOk result (IsWritten tree.now) }
 {
     let query = named(alloc, tree)?;
     let text = print_query(alloc, query.get())?;
-    Ok(Spoken { query, text })
+    Ok(WrittenQuery { query, text })
 }
 
 /// The query of a function with these forms, and its text.
-fn spoken_of(
+fn written_query(
     alloc: Global,
     s: &CheckedSchema,
     f: &CheckedFunction,
     c: &Cert,
-) -> Result<Spoken, NoMemory>
+) -> Result<WrittenQuery, NoMemory>
     requires texts { IsOfTexts s.now.schema f.now.function f.now.slots }
     requires forms { AreForms f.now.function f.now.slots c.now }
-    ensures { IfOk result (IsSpokenOf s.now.schema f.now.function f.now.slots c.now) }
+    ensures { IfOk result (IsWrittenQueryOf s.now.schema f.now.function f.now.slots c.now) }
 {
     trees_read_again();
     let tree = tree_of(alloc, f, c, s.schema.tables.len())?;
@@ -82,6 +82,6 @@ pub fn compile(alloc: Global, s: &CheckedSchema, f: &CheckedFunction) -> Result<
     accepted_forms_are_equivalent(f);
     let _count = s.schema.tables.len();
     let cert = forms_of(alloc, f)?;
-    let Spoken { query, text } = spoken_of(alloc, s, f, &cert)?;
+    let WrittenQuery { query, text } = written_query(alloc, s, f, &cert)?;
     Ok(Compiled { query, text, cert })
 }

@@ -7,6 +7,7 @@ ghost use Rattle.cte_template.specs.Making.{making_of};
 ghost use Rattle.cte_template.specs.Numbers.{NumbersFit};
 ghost use Rattle.cte_template.specs.Tree.{tree};
 
+use crate::lengths::normal_forms_are_short;
 use anf_build::to_calls;
 use away_trees::Query;
 use away_types::CheckedFunction;
@@ -15,7 +16,6 @@ use block_forms::expr_table;
 use cert_json::Cert;
 use cte_template::template_tree;
 use goto_lower::lower;
-use short_forms::normal_forms_are_short;
 use sqlite_items::Boxed;
 use ssa_build::build_ssa;
 use std::alloc::Global;

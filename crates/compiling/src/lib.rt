@@ -3,5 +3,7 @@
 
 mod compiler;
 mod forms;
+mod lengths;
 
 pub use compiler::{Compiled, compile};
+pub use lengths::normal_forms_are_short;

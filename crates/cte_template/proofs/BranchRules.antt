@@ -12,13 +12,13 @@ use Rattle.cte_template.specs.Making.{Making}
 use Rattle.cte_template.specs.Places.{nowhere, row_place}
 use Rattle.cte_template.specs.Numbers.{AliasesFit}
 use Rattle.cte_template.specs.Tree.{at_label, branch, branches}
-use Rattle.template_parts.specs.Trees.{gate_as}
+use Rattle.cte_parts.specs.Trees.{gate_as}
 use Rattle.cte_template.specs.Walks.{Walked, walk, selected, written, rest, from_block, keys_of}
 use Rattle.cte_template.specs.declared.body.Draft.{Draft}
-use Rattle.cte_template.specs.declared.places.Place.{Place}
+use Rattle.cte_template.specs.declared.places.ItemColumn.{ItemColumn}
 
 -- a branch whose gate stands in the draft, and whose list is written
-pub branch_is : (m : Making) (i b most : ℕ) (places : Scope Place) (d after : Draft) (list : List Item) (s : Select)
+pub branch_is : (m : Making) (i b most : ℕ) (places : Scope ItemColumn) (d after : Draft) (list : List Item) (s : Select)
     → places ≡ paired row_place nowhere (params_of (slice_get m.anf.blocks b)) (keys_of m i) → d.items ≡ gate_as 1 (at_label m (i + 1)) ∷ [] → d.next ≡ 2
     → most ≡ length m.anf.blocks → written after list ≡ rest m 1 places d (from_block m most b) → s ≡ selected (written after list) → s ≡ branch m i b
 unfolding rest from_block
@@ -28,7 +28,7 @@ branch_is m i b most places d after list s here items next many h made =
     ∙ ap selected (h ∙ (λ j. walk m 1 (here j) ((items ∙ ap (λ n. gate_as 1 (at_label m n) ∷ []) more) j) (next j) (tree m.anf m.tail (many j) b)))
 
 -- the numbers of its aliases fit where the last one does
-pub branch_fits : (m : Making) (i b most : ℕ) (places : Scope Place) (d after : Draft) (list : List Item)
+pub branch_fits : (m : Making) (i b most : ℕ) (places : Scope ItemColumn) (d after : Draft) (list : List Item)
     → places ≡ paired row_place nowhere (params_of (slice_get m.anf.blocks b)) (keys_of m i) → d.items ≡ gate_as 1 (at_label m (i + 1)) ∷ [] → d.next ≡ 2
     → most ≡ length m.anf.blocks → written after list ≡ rest m 1 places d (from_block m most b) → after.next ≤ 2 ^ 64 → AliasesFit m i b
 unfolding rest from_block

@@ -10,10 +10,10 @@ use Rattle.sql_meaning.specs.Trees.{col, item}
 use Rattle.cte_template.specs.Making.{Making}
 use Rattle.cte_template.specs.Places.{beside}
 use Rattle.cte_template.specs.Walks.{cell, cells_at, argument, arguments_at}
-use Rattle.cte_template.specs.declared.places.Place.{Place}
-use Rattle.template_parts.proofs.Lists.{one_more_below}
+use Rattle.cte_template.specs.declared.places.ItemColumn.{ItemColumn}
+use Rattle.cte_parts.proofs.Lists.{one_more_below}
 
-cells_end : (i depth : ℕ) (places : Scope Place) (keys args : List ℕ) (ts : List Ty) (t : Ty)
+cells_end : (i depth : ℕ) (places : Scope ItemColumn) (keys args : List ℕ) (ts : List Ty) (t : Ty)
     → cells_at i depth places keys args (ts ++ (t ∷ [])) ≡ cells_at i depth places keys args ts ++ (cell depth places t (beside keys args (i + length ts)) ∷ [])
 cells_end i depth places keys args [] t =
     let here : i ≡ i + 0 = omega arith in
@@ -36,7 +36,7 @@ grown : (before : List Item) (es fs : List Expr) (e : Expr) → fs ≡ es ++ (e 
 grown before es fs e h =
     append_assoc before (map item es) (item e ∷ []) ∙ ap (λ xs. before ++ xs) (sym (map-append item es (e ∷ []))) ∙ ap (λ xs. before ++ map item xs) (sym h)
 
-pub one_more_cell : (before list : List Item) (depth : ℕ) (places : Scope Place) (keys args : List ℕ) (i k : ℕ) (ts us : List Ty) (t : Ty) (e : Expr)
+pub one_more_cell : (before list : List Item) (depth : ℕ) (places : Scope ItemColumn) (keys args : List ℕ) (i k : ℕ) (ts us : List Ty) (t : Ty) (e : Expr)
     → list ≡ before ++ map item (cells_at 0 depth places keys args ts) → us ≡ ts ++ (t ∷ []) → length ts ≡ i → k ≡ i → e ≡ cell depth places t (beside keys args k)
     → list ++ (item e ∷ []) ≡ before ++ map item (cells_at 0 depth places keys args us)
 one_more_cell before list depth places keys args i k ts us t e h step long here is =

@@ -14,8 +14,8 @@ use Rattle.call_forms.specs.Template.{either}
 use Rattle.sql_meaning.specs.Names.{nameless, bare_columns, bare_select, bare_query}
 use Rattle.sql_meaning.specs.Template.{gate, let_item}
 use Rattle.sql_meaning.specs.Trees.{truth, select, one, lateral}
-use Rattle.template_parts.specs.Names.{alias_name, only_name, row_names}
-use Rattle.template_parts.specs.Trees.{lateral_as, only_as, gate_as, let_as, either_as}
+use Rattle.cte_parts.specs.Names.{alias_name, only_name, row_names}
+use Rattle.cte_parts.specs.Trees.{lateral_as, only_as, gate_as, let_as, either_as}
 
 abbrev pub from_bare : FromItem → FromItem
 from_bare f = from_of nameless f

@@ -7,19 +7,19 @@ use Rattle.std.proofs.lemmas.Bool.{eqb-true, eq-eqb, ne_eqb}
 use Rattle.away_trees.specs.declared.queries.Expr.{Expr}
 use Rattle.call_forms.specs.Scopes.{Scope, paired}
 use Rattle.cte_template.specs.Places.{nowhere, place_or, place_of, stands, at_keys, beside}
-use Rattle.cte_template.specs.declared.places.Place.{Place}
+use Rattle.cte_template.specs.declared.places.ItemColumn.{ItemColumn}
 
 -- ---- the place of a name
 
-pub found : (ps : List (ℕ × Place)) (n : ℕ) → place_of ps n ≡ place_or nowhere ps n
+pub found : (ps : List (ℕ × ItemColumn)) (n : ℕ) → place_of ps n ≡ place_or nowhere ps n
 unfolding place_of
 found ps n = refl
 
-or_more : (d : Place) (ps : List (ℕ × Place)) (k : ℕ) (p : Place) (n : ℕ) → place_or d (ps ++ ((k, p) ∷ [])) n ≡ (if nat_eq k n then p else place_or d ps n)
+or_more : (d : ItemColumn) (ps : List (ℕ × ItemColumn)) (k : ℕ) (p : ItemColumn) (n : ℕ) → place_or d (ps ++ ((k, p) ∷ [])) n ≡ (if nat_eq k n then p else place_or d ps n)
 or_more d [] k p n = refl
 or_more d (q ∷ ps) k p n = or_more (if nat_eq q.0 n then q.1 else d) ps k p n
 
-more : (ps : List (ℕ × Place)) (k : ℕ) (p : Place) (n : ℕ) → place_of (ps ++ ((k, p) ∷ [])) n ≡ (if nat_eq k n then p else place_of ps n)
+more : (ps : List (ℕ × ItemColumn)) (k : ℕ) (p : ItemColumn) (n : ℕ) → place_of (ps ++ ((k, p) ∷ [])) n ≡ (if nat_eq k n then p else place_of ps n)
 unfolding place_of
 more ps k p n = or_more nowhere ps k p n
 
@@ -27,7 +27,7 @@ same_way : (x k : ℕ) (b : Bool) → nat_eq x k ≡ b → nat_eq k x ≡ b
 same_way x k true e = eq-eqb k x (sym (eqb-true x k e))
 same_way x k false e = ne_eqb k x (λ h. let t : nat_eq x k ≡ true = eq-eqb x k (sym h) in absurd (cc))
 
-pub one_stands : (ps : List (ℕ × Place)) (k : ℕ) (p : Place) → place_of (ps ++ ((k, p) ∷ [])) ≡ stands k p (place_of ps)
+pub one_stands : (ps : List (ℕ × ItemColumn)) (k : ℕ) (p : ItemColumn) → place_of (ps ++ ((k, p) ∷ [])) ≡ stands k p (place_of ps)
 unfolding stands
 one_stands ps k p = λ i n. (more ps k p n ∙ by n (nat_eq k n) refl) i
   where
@@ -37,7 +37,7 @@ one_stands ps k p = λ i n. (more ps k p n ∙ by n (nat_eq k n) refl) i
 
 -- ---- keys with their places
 
-no_keys : (ps : List Place) (n : ℕ) → at_keys [] ps n ≡ nowhere
+no_keys : (ps : List ItemColumn) (n : ℕ) → at_keys [] ps n ≡ nowhere
 unfolding at_keys
 no_keys ps n = refl
 
@@ -57,19 +57,19 @@ unfolding place_of
 no_pairs n = refl
 
 -- behind all keys there is none
-pub keys_start : (ks : List ℕ) (ps : List Place) → place_of [] ≡ at_keys (drop (length ks) ks) (drop (length ks) ps)
+pub keys_start : (ks : List ℕ) (ps : List ItemColumn) → place_of [] ≡ at_keys (drop (length ks) ks) (drop (length ks) ps)
 keys_start ks ps = λ i n. (no_pairs n ∙ sym (ap (λ zs. at_keys zs (drop (length ks) ps) n) (dropped ks (length ks) (omega arith)) ∙ no_keys (drop (length ks) ps) n)) i
 
-at_key : (k : ℕ) (ks : List ℕ) (p : Place) (ps : List Place) (n : ℕ) → at_keys (k ∷ ks) (p ∷ ps) n ≡ (if nat_eq k n then p else at_keys ks ps n)
+at_key : (k : ℕ) (ks : List ℕ) (p : ItemColumn) (ps : List ItemColumn) (n : ℕ) → at_keys (k ∷ ks) (p ∷ ps) n ≡ (if nat_eq k n then p else at_keys ks ps n)
 unfolding at_keys
 at_key k ks p ps n = refl
 
 -- one key before the others
-pub keys_next : (pairs : List (ℕ × Place)) (k : ℕ) (ks : List ℕ) (p : Place) (ps : List Place) → place_of pairs ≡ at_keys ks ps
+pub keys_next : (pairs : List (ℕ × ItemColumn)) (k : ℕ) (ks : List ℕ) (p : ItemColumn) (ps : List ItemColumn) → place_of pairs ≡ at_keys ks ps
     → place_of (pairs ++ ((k, p) ∷ [])) ≡ at_keys (k ∷ ks) (p ∷ ps)
-keys_next pairs k ks p ps h = λ i n. (more pairs k p n ∙ (ap (λ (f : ℕ → Place). if nat_eq k n then p else f n) h ∙ sym (at_key k ks p ps n))) i
+keys_next pairs k ks p ps h = λ i n. (more pairs k p n ∙ (ap (λ (f : ℕ → ItemColumn). if nat_eq k n then p else f n) h ∙ sym (at_key k ks p ps n))) i
 
-pub keys_before : (pairs new : List (ℕ × Place)) (ks : List ℕ) (ps : List Place) (i j e : ℕ) (d : Place) → new ≡ pairs ++ ((get_or ks i e, get_or ps i d) ∷ [])
+pub keys_before : (pairs new : List (ℕ × ItemColumn)) (ks : List ℕ) (ps : List ItemColumn) (i j e : ℕ) (d : ItemColumn) → new ≡ pairs ++ ((get_or ks i e, get_or ps i d) ∷ [])
     → j ≡ i + 1 → i < length ks → i < length ps → place_of pairs ≡ at_keys (drop j ks) (drop j ps) → place_of new ≡ at_keys (drop i ks) (drop i ps)
 keys_before pairs new ks ps i j e d grown next lk lp h =
     ap place_of grown
@@ -77,12 +77,12 @@ keys_before pairs new ks ps i j e d grown next lk lp h =
     ∙ sym (λ z. at_keys (drop_more ks i e lk z) (drop_more ps i d lp z)))
 
 -- a key without a place
-pub keys_skip : (ks : List ℕ) (ps : List Place) (i j : ℕ) → length ps ≤ i → length ps ≤ j → at_keys (drop i ks) (drop i ps) ≡ at_keys (drop j ks) (drop j ps)
+pub keys_skip : (ks : List ℕ) (ps : List ItemColumn) (i j : ℕ) → length ps ≤ i → length ps ≤ j → at_keys (drop i ks) (drop i ps) ≡ at_keys (drop j ks) (drop j ps)
 keys_skip ks ps i j g h =
     λ z n. (ap (λ zs. at_keys (drop i ks) zs n) (dropped ps i g) ∙ (no_places (drop i ks) n ∙ sym (ap (λ zs. at_keys (drop j ks) zs n) (dropped ps j h) ∙ no_places (drop j ks) n))) z
 
 -- the places of names stand beside their keys
-pub keys_are : (f : Scope Place) (ks ns : List ℕ) → at_keys ks (map f ns) ≡ paired f nowhere ks ns
+pub keys_are : (f : Scope ItemColumn) (ks ns : List ℕ) → at_keys ks (map f ns) ≡ paired f nowhere ks ns
 keys_are f ks ns = λ i n. each ks ns n i
   where
     each : (ks ns : List ℕ) (n : ℕ) → at_keys ks (map f ns) n ≡ paired f nowhere ks ns n

@@ -8,18 +8,18 @@ use Rattle.away_values.specs.declared.types.Ty.{Ty}
 use Rattle.call_forms.specs.Scopes.{Scope, paired}
 use Rattle.call_forms.specs.Template.{refers, here, deeper, outside, no_column, of_row, cells, argument_cells}
 use Rattle.sql_meaning.specs.Trees.{null_of}
-use Rattle.template_parts.specs.Columns.{column_beside}
+use Rattle.cte_parts.specs.Columns.{column_beside}
 use Rattle.cte_template.specs.Making.{Making}
 use Rattle.cte_template.specs.Places.{nowhere, first_of, row_place, seen, stands, beside}
 use Rattle.cte_template.specs.Walks.{column_at, cell, cells_at, argument, arguments_at}
-use Rattle.cte_template.specs.declared.places.Place.{Place}
+use Rattle.cte_template.specs.declared.places.ItemColumn.{ItemColumn}
 
 -- no name stands deeper than the list
-abbrev pub Shallow : ℕ → Scope Place → Type 0
+abbrev pub Shallow : ℕ → Scope ItemColumn → Type 0
 Shallow depth places = (n : ℕ) → (places n).depth ≤ depth
 
 -- the references of a list at a depth
-abbrev pub refs_of : ℕ → Scope Place → Scope Col
+abbrev pub refs_of : ℕ → Scope ItemColumn → Scope Col
 refs_of depth places n = seen depth (places n)
 
 abbrev at_level : ℕ → ℕ → ℕ → Col
@@ -27,15 +27,15 @@ at_level item column level = record { level = level; item = item; column = colum
 
 -- ---- one select further in
 
-pub deeper_is : (depth : ℕ) (p : Place) → p.depth ≤ depth → seen (suc depth) p ≡ deeper (seen depth p)
+pub deeper_is : (depth : ℕ) (p : ItemColumn) → p.depth ≤ depth → seen (suc depth) p ≡ deeper (seen depth p)
 deeper_is depth p h =
     let same : suc depth - p.depth ≡ suc (depth - p.depth) = omega (arith, h) in
     ap (at_level p.item p.column) same
 
-pub outside_is : (depth : ℕ) (places : Scope Place) → Shallow depth places → refs_of (suc depth) places ≡ outside (refs_of depth places)
+pub outside_is : (depth : ℕ) (places : Scope ItemColumn) → Shallow depth places → refs_of (suc depth) places ≡ outside (refs_of depth places)
 outside_is depth places h = λ i n. deeper_is depth (places n) (h n) i
 
-pub shallow_inside : (depth : ℕ) (places : Scope Place) → Shallow depth places → Shallow (suc depth) places
+pub shallow_inside : (depth : ℕ) (places : Scope ItemColumn) → Shallow depth places → Shallow (suc depth) places
 shallow_inside depth places h n = let le : (places n).depth ≤ depth = h n in omega (arith, le)
 
 -- ---- a name that stands at an item
@@ -50,7 +50,7 @@ first_is depth item =
     let same : depth - depth ≡ 0 = omega arith in
     ap (at_level item 0) same
 
-pub refers_is : (depth n item : ℕ) (places : Scope Place) → refs_of depth (stands n (first_of depth item) places) ≡ refers n (here item 0) (refs_of depth places)
+pub refers_is : (depth n item : ℕ) (places : Scope ItemColumn) → refs_of depth (stands n (first_of depth item) places) ≡ refers n (here item 0) (refs_of depth places)
 unfolding stands
 refers_is depth n item places = λ i m. by m (nat_eq m n) i
   where
@@ -58,7 +58,7 @@ refers_is depth n item places = λ i m. by m (nat_eq m n) i
     by m true = first_is depth item
     by m false = refl
 
-pub shallow_stands : (depth n item : ℕ) (places : Scope Place) → Shallow depth places → Shallow depth (stands n (first_of depth item) places)
+pub shallow_stands : (depth n item : ℕ) (places : Scope ItemColumn) → Shallow depth places → Shallow depth (stands n (first_of depth item) places)
 unfolding stands
 shallow_stands depth n item places h m = by (nat_eq m n)
   where
@@ -79,11 +79,11 @@ paired_maps g f d (k ∷ ks) (n ∷ ns) i = by (nat_eq k i) (paired_maps g f d k
     by true h = refl
     by false h = h
 
-pub entered_is : (out : ℕ) (places : Scope Place) (params args : List ℕ) → refs_of (suc out) (paired places nowhere params args) ≡ paired (refs_of (suc out) places) (no_column out) params args
+pub entered_is : (out : ℕ) (places : Scope ItemColumn) (params args : List ℕ) → refs_of (suc out) (paired places nowhere params args) ≡ paired (refs_of (suc out) places) (no_column out) params args
 entered_is out places params args =
     λ i n. (paired_maps (seen (suc out)) places nowhere params args n ∙ ap (λ c. paired (refs_of (suc out) places) c params args n) (nowhere_is out)) i
 
-pub shallow_paired : (depth : ℕ) (places : Scope Place) (params args : List ℕ) → Shallow depth places → Shallow depth (paired places nowhere params args)
+pub shallow_paired : (depth : ℕ) (places : Scope ItemColumn) (params args : List ℕ) → Shallow depth places → Shallow depth (paired places nowhere params args)
 shallow_paired depth places [] args h n = omega arith
 shallow_paired depth places (k ∷ ks) [] h n = omega arith
 shallow_paired depth places (k ∷ ks) (m ∷ ns) h n = by (nat_eq k n) (shallow_paired depth places ks ns h n)
@@ -120,13 +120,13 @@ beside_is f d [] names i = refl
 beside_is f d (s ∷ slots) [] i = refl
 beside_is f d (s ∷ slots) (n ∷ names) i = ap (λ c. if nat_eq s i then f n else c) (beside_is f d slots names i)
 
-pub slots_are : (out : ℕ) (places : Scope Place) (slots names : List ℕ) → Shallow (suc out) places
+pub slots_are : (out : ℕ) (places : Scope ItemColumn) (slots names : List ℕ) → Shallow (suc out) places
     → column_beside slots (map (column_at (suc (suc out)) places) names) (seen (suc (suc out)) nowhere) ≡ paired (outside (refs_of (suc out) places)) (deeper (no_column out)) slots names
 slots_are out places slots names h =
     λ i slot. (beside_is (column_at (suc (suc out)) places) (seen (suc (suc out)) nowhere) slots names slot
     ∙ (λ j. paired (λ n. deeper_is (suc out) (places n) (h n) j) ((nowhere_is (suc out) ∙ refl) j) slots names slot)) i
 
-pub cells_are : (i depth : ℕ) (places : Scope Place) (keys args : List ℕ) (ts : List Ty) → cells_at i depth places keys args ts ≡ cells i (refs_of depth places) keys args ts
+pub cells_are : (i depth : ℕ) (places : Scope ItemColumn) (keys args : List ℕ) (ts : List Ty) → cells_at i depth places keys args ts ≡ cells i (refs_of depth places) keys args ts
 unfolding beside
 cells_are i depth places keys args [] = refl
 cells_are i depth places keys args (t ∷ ts) =

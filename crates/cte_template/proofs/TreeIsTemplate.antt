@@ -25,12 +25,12 @@ use Rattle.sql_meaning.specs.Reads.{slots_of}
 use Rattle.sql_meaning.specs.Template.{gate, let_item, last}
 use Rattle.sql_meaning.specs.Trees.{col, item, select, table_by, lateral, truth, number, null_of}
 use Rattle.cte_template.specs.Making.{Making}
-use Rattle.template_parts.specs.Names.{table_name, step_name, row_names}
+use Rattle.cte_parts.specs.Names.{table_name, step_name, row_names}
 use Rattle.cte_template.specs.Places.{nowhere, first_of, row_place, stands}
 use Rattle.cte_template.specs.Tree as t
-use Rattle.template_parts.specs.Trees.{gate_as, let_as, either_as, working}
+use Rattle.cte_parts.specs.Trees.{gate_as, let_as, either_as, working}
 use Rattle.cte_template.specs.Walks.{Walked, selected, walk, value_at, let_at, all_columns}
-use Rattle.cte_template.specs.declared.places.Place.{Place}
+use Rattle.cte_template.specs.declared.places.ItemColumn.{ItemColumn}
 use Rattle.cte_template.proofs.Nameless.{from_bare, select_bare, same_lateral, same_gate, same_let, same_selects, same_either, same_select}
 use Rattle.cte_template.proofs.PlacesSeen.{Shallow, refs_of, outside_is, shallow_inside, refers_is, shallow_stands, entered_is, shallow_paired, row_is, row_shallow, slots_are, cells_are, arguments_are}
 
@@ -46,10 +46,10 @@ grown : (before : List FromItem) (f : FromItem) → length (before ++ (f ∷ [])
 grown before f = omega (arith, length-append before (f ∷ []))
 
 module _ (m : Making) where
-  abbrev parts_of : ℕ → Scope Place → ℕ → Body → Parts
+  abbrev parts_of : ℕ → Scope ItemColumn → ℕ → Body → Parts
   parts_of out places n body = template.parts m.table m.types m.tail.columns m.result out (refs_of (suc out) places) n body
 
-  let_same : (out : ℕ) (places : Scope Place) (k : ℕ) (ty : Ty) (u : Term) → Shallow (suc out) places
+  let_same : (out : ℕ) (places : Scope ItemColumn) (k : ℕ) (ty : Ty) (u : Term) → Shallow (suc out) places
       → from_bare (let_at m (suc out) places k ty u) ≡ from_bare (template.let_of m.table m.types m.tail.columns m.result out (refs_of (suc out) places) ty u)
   let_same out places k ty u h =
       let e : Expr = get_or m.table u.expr expr.Null in
@@ -70,11 +70,11 @@ module _ (m : Making) where
   none_added : (before : List FromItem) → bares before ≡ bares before ++ []
   none_added before = sym (append-nil (bares before))
 
-  writes : (out : ℕ) (places : Scope Place) (before : List FromItem) (k : ℕ) (x : Body) → Shallow (suc out) places
+  writes : (out : ℕ) (places : Scope ItemColumn) (before : List FromItem) (k : ℕ) (x : Body) → Shallow (suc out) places
       → Writes (walk m (suc out) places before k x) before (parts_of out places (length before) x)
   writes out places before k (sets n u x) h =
       let added = let_at m (suc out) places k (m.types n) u in
-      let now : Scope Place = stands n (first_of (suc out) (length before)) places in
+      let now : Scope ItemColumn = stands n (first_of (suc out) (length before)) places in
       let next = writes out now (before ++ (added ∷ [])) (suc k) x (shallow_stands (suc out) n (length before) places h) in
       let same : parts_of out now (length (before ++ (added ∷ []))) x
       ≡ template.parts m.table m.types m.tail.columns m.result out (template.refers n (template.here (length before) 0) (refs_of (suc out) places)) (suc (length before)) x
@@ -87,7 +87,7 @@ module _ (m : Making) where
         list = there.list;
       }
   writes out places before k (enters params args x) h =
-      let now : Scope Place = paired places nowhere params args in
+      let now : Scope ItemColumn = paired places nowhere params args in
       subst (λ refs. Writes (walk m (suc out) now before k x) before (template.parts m.table m.types m.tail.columns m.result out refs (length before) x)) (entered_is out places params args)
       (writes out now before k x (shallow_paired (suc out) places params args h))
   writes out places before k (picks u x y) h =

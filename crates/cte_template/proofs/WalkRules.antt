@@ -22,11 +22,11 @@ use Rattle.sql_meaning.specs.Trees.{col, item, null_of}
 use Rattle.cte_template.specs.Making.{Making}
 use Rattle.cte_template.specs.Places.{nowhere, first_of, stands}
 use Rattle.cte_template.specs.Steps.{arm_of, select_of}
-use Rattle.template_parts.specs.Trees.{gate_as, either_as}
+use Rattle.cte_parts.specs.Trees.{gate_as, either_as}
 use Rattle.cte_template.specs.Walks.{Walked, ended, selected, walk, let_at, end_row, call_row, keys_of, all_columns, class_text, rest, written, from_block, from_end, from_call, from_set}
 use Rattle.cte_template.specs.declared.body.Gated.{Gated}
 use Rattle.cte_template.specs.declared.body.Draft.{Draft}
-use Rattle.cte_template.specs.declared.places.Place.{Place}
+use Rattle.cte_template.specs.declared.places.ItemColumn.{ItemColumn}
 
 module _ (m : Making) where
   -- ---- an assignment
@@ -39,11 +39,11 @@ module _ (m : Making) where
   unfolding from_set
   set_some n t body = refl
 
-  pub assigned_none : (depth : ℕ) (places : Scope Place) (d : Draft) (set : Assignment) (body : Body) → set ≡ None
+  pub assigned_none : (depth : ℕ) (places : Scope ItemColumn) (d : Draft) (set : Assignment) (body : Body) → set ≡ None
       → rest m depth places d body ≡ rest m depth places d (from_set m set body)
   assigned_none depth places d set body h = ap (rest m depth places d) (sym (ap (λ o. from_set m o body) h ∙ set_none body))
 
-  pub assigned_one : (depth : ℕ) (places now : Scope Place) (d after : Draft) (n : ℕ) (t : Term) (body : Body)
+  pub assigned_one : (depth : ℕ) (places now : Scope ItemColumn) (d after : Draft) (n : ℕ) (t : Term) (body : Body)
       → now ≡ stands n (first_of depth (length d.items)) places → after.items ≡ d.items ++ (let_at m depth places d.next (m.types n) t ∷ []) → after.next ≡ d.next + 1
       → rest m depth now after body ≡ rest m depth places d (from_set m (Some (n, t)) body)
   unfolding rest
@@ -61,13 +61,13 @@ module _ (m : Making) where
   unfolding from_call from_block
   call_on left c h = ap (λ o. goes_to m.anf m.tail (tree m.anf m.tail left) c o) h
 
-  pub called_label : (left depth : ℕ) (places : Scope Place) (d : Draft) (c : Call) (l : ℕ) (list : List Item) → label_of m.tail c.target ≡ Some l
+  pub called_label : (left depth : ℕ) (places : Scope ItemColumn) (d : Draft) (c : Call) (l : ℕ) (list : List Item) → label_of m.tail c.target ≡ Some l
       → list ≡ map item (call_row m depth places l (keys_of m l) c.args) → written d list ≡ rest m depth places d (from_call m left c)
   unfolding rest
   called_label left depth places d c l list h row =
       ap (λ xs. written d xs) row ∙ sym (ap (λ x. walk m depth places d.items d.next x) (call_label left c l h))
 
-  pub called_on : (left depth : ℕ) (places now : Scope Place) (d : Draft) (c : Call) → label_of m.tail c.target ≡ None
+  pub called_on : (left depth : ℕ) (places now : Scope ItemColumn) (d : Draft) (c : Call) → label_of m.tail c.target ≡ None
       → now ≡ paired places nowhere (params_of (slice_get m.anf.blocks c.target)) c.args
       → rest m depth now d (from_block m left c.target) ≡ rest m depth places d (from_call m left c)
   unfolding rest
@@ -76,7 +76,7 @@ module _ (m : Making) where
 
   -- ---- rows
 
-  pub returned_row : (depth : ℕ) (places : Scope Place) (d after : Draft) (t : Term) (list : List Item)
+  pub returned_row : (depth : ℕ) (places : Scope ItemColumn) (d after : Draft) (t : Term) (list : List Item)
       → after.items ≡ d.items ++ (let_at m depth places d.next m.result t ∷ []) → after.next ≡ d.next + 1
       → list ≡ map item (end_row m (col 0 (length d.items) 0) (null_of ty.Text)) → written after list ≡ rest m depth places d (returns t)
   unfolding rest
@@ -84,12 +84,12 @@ module _ (m : Making) where
       let counted : after.next ≡ suc d.next = omega (arith, next) in
       λ i. record { items = items i; list = row i; next = counted i }
 
-  pub failed_row : (depth : ℕ) (places : Scope Place) (d : Draft) (c : Class) (list : List Item)
+  pub failed_row : (depth : ℕ) (places : Scope ItemColumn) (d : Draft) (c : Class) (list : List Item)
       → list ≡ map item (end_row m (null_of m.result) (class_text m c)) → written d list ≡ rest m depth places d (fails c)
   unfolding rest
   failed_row depth places d c list row = ap (λ xs. written d xs) row
 
-  pub unended_row : (depth : ℕ) (places : Scope Place) (d : Draft) (list : List Item)
+  pub unended_row : (depth : ℕ) (places : Scope ItemColumn) (d : Draft) (list : List Item)
       → list ≡ map item (end_row m (null_of m.result) (null_of ty.Text)) → written d list ≡ rest m depth places d endless
   unfolding rest
   unended_row depth places d list row = ap (λ xs. written d xs) row
@@ -131,17 +131,17 @@ module _ (m : Making) where
   -- ---- arms and tests
 
   -- an arm from a draft of one gate
-  abbrev gated : ℕ → Scope Place → ℕ → Expr → Body → Walked
+  abbrev gated : ℕ → Scope ItemColumn → ℕ → Expr → Body → Walked
   gated depth places alias c body = walk m depth places (gate_as alias c ∷ []) (suc alias) body
 
-  arm_gated : (depth : ℕ) (places : Scope Place) (alias : ℕ) (c : Expr) (gate : Draft) (body : Body)
+  arm_gated : (depth : ℕ) (places : Scope ItemColumn) (alias : ℕ) (c : Expr) (gate : Draft) (body : Body)
       → gate.items ≡ gate_as alias c ∷ [] → gate.next ≡ alias + 1 → rest m depth places gate body ≡ gated depth places alias c body
   unfolding rest
   arm_gated depth places alias c gate body items next =
       let counted : gate.next ≡ suc alias = omega (arith, next) in
       λ i. walk m depth places (items i) (counted i) body
 
-  picked_row : (depth : ℕ) (places : Scope Place) (d after : Draft) (t : Term) (x y : Body) (first second : Walked) (list : List Item) (alias : ℕ)
+  picked_row : (depth : ℕ) (places : Scope ItemColumn) (d after : Draft) (t : Term) (x y : Body) (first second : Walked) (list : List Item) (alias : ℕ)
       → alias ≡ d.next + 1
       → first ≡ gated (depth + 1) places (alias + 1) (col 2 (length d.items) 0) x
       → second ≡ gated (depth + 1) places first.next (is_not_true (col 2 (length d.items) 0)) y
@@ -170,7 +170,7 @@ module _ (m : Making) where
       }
 
   -- a test from its parts as they are written one after the other
-  pub picked_done : (depth inside : ℕ) (places : Scope Place) (d with_test after gate other : Draft) (t : Term) (x y : Body) (first second : Gated) (list : List Item) (place alias : ℕ)
+  pub picked_done : (depth inside : ℕ) (places : Scope ItemColumn) (d with_test after gate other : Draft) (t : Term) (x y : Body) (first second : Gated) (list : List Item) (place alias : ℕ)
       → place ≡ length d.items → inside ≡ depth + 1 → alias ≡ with_test.next + 1
       → with_test.items ≡ d.items ++ (let_at m depth places d.next ty.Boolean t ∷ []) → with_test.next ≡ d.next + 1
       → gate.items ≡ gate_as alias (col 2 place 0) ∷ [] → gate.next ≡ alias + 1 → first ≡ arm_of (rest m inside places gate x)

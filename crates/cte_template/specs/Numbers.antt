@@ -4,7 +4,7 @@ use Rattle.block_forms.specs.Places.{EachAt}
 use Rattle.call_forms.specs.Bodies.{body_of}
 use Rattle.call_forms.specs.Forms.{params_of}
 use Rattle.call_forms.specs.Scopes.{paired}
-use Rattle.template_parts.specs.Trees.{gate_as}
+use Rattle.cte_parts.specs.Trees.{gate_as}
 use Rattle.cte_template.specs.Making.{Making}
 use Rattle.cte_template.specs.Places.{nowhere, row_place}
 use Rattle.cte_template.specs.Tree.{at_label}

@@ -9,7 +9,7 @@ use Rattle.cte_template.specs.declared.body.Gated.{Gated}
 use Rattle.cte_template.specs.declared.body.Draft.{Draft}
 use Rattle.cte_template.specs.declared.body.Next.{Next}
 use Rattle.cte_template.specs.declared.body.Next.TheVariants.{Row, On}
-use Rattle.cte_template.specs.declared.places.Place.{Place}
+use Rattle.cte_template.specs.declared.places.ItemColumn.{ItemColumn}
 
 -- the list, or what is written from the next block on
 abbrev pub reached : Making → ℕ → ℕ → Next → Draft → Walked

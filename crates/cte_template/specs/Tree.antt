@@ -14,9 +14,9 @@ use Rattle.call_forms.specs.Scopes.{paired}
 use Rattle.call_forms.specs.Template.{is_label, entry_place}
 use Rattle.sql_meaning.specs.Trees.{col, number, truth, null_of, select}
 use Rattle.cte_template.specs.Making.{Making}
-use Rattle.template_parts.specs.Names.{table_name, step_name, row_names}
+use Rattle.cte_parts.specs.Names.{table_name, step_name, row_names}
 use Rattle.cte_template.specs.Places.{nowhere, row_place}
-use Rattle.template_parts.specs.Trees.{lateral_as, gate_as, working}
+use Rattle.cte_parts.specs.Trees.{lateral_as, gate_as, working}
 use Rattle.cte_template.specs.Walks.{walk, selected, all_columns, arguments_at, keys_of}
 
 -- how many columns hold values

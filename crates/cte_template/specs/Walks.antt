@@ -21,11 +21,11 @@ use Rattle.sql_meaning.specs.Placed.{placed_at}
 use Rattle.sql_meaning.specs.Reads.{slots_of}
 use Rattle.sql_meaning.specs.Trees.{col, null_of, item}
 use Rattle.cte_template.specs.Making.{Making}
-use Rattle.template_parts.specs.Columns.{column_beside}
-use Rattle.template_parts.specs.Trees.{gate_as, let_as, either_as}
+use Rattle.cte_parts.specs.Columns.{column_beside}
+use Rattle.cte_parts.specs.Trees.{gate_as, let_as, either_as}
 use Rattle.cte_template.specs.Places.{nowhere, first_of, seen, stands, beside}
 use Rattle.cte_template.specs.declared.body.Draft.{Draft}
-use Rattle.cte_template.specs.declared.places.Place.{Place}
+use Rattle.cte_template.specs.declared.places.ItemColumn.{ItemColumn}
 
 pub record Walked : Type 0 where
   pub items : List FromItem
@@ -40,27 +40,27 @@ abbrev pub ended : List FromItem → List Expr → ℕ → Walked
 ended items list next = record { items = items; list = map item list; next = next }
 
 -- the column of a name, from a list at the depth
-abbrev pub column_at : ℕ → Scope Place → ℕ → Col
+abbrev pub column_at : ℕ → Scope ItemColumn → ℕ → Col
 column_at depth places n = seen depth (places n)
 
 -- the column of a name, and NULL of the type where there is none
-abbrev pub cell : ℕ → Scope Place → Ty → Option ℕ → Expr
+abbrev pub cell : ℕ → Scope ItemColumn → Ty → Option ℕ → Expr
 cell depth places t None = null_of t
 cell depth places t (Some n) = expr.Column (column_at depth places n)
 
 -- the cells of columns from the i-th on: of the names in a label's places
-abbrev pub cells_at : ℕ → ℕ → Scope Place → List ℕ → List ℕ → List Ty → List Expr
+abbrev pub cells_at : ℕ → ℕ → Scope ItemColumn → List ℕ → List ℕ → List Ty → List Expr
 cells_at i depth places keys args [] = []
 cells_at i depth places keys args (t ∷ ts) = cell depth places t (beside keys args i) ∷ cells_at (suc i) depth places keys args ts
 
 module _ (m : Making) where
   -- the expression of a term, where its slots are the columns of its names, one select further in
-  abbrev pub value_at : ℕ → Scope Place → Ty → Term → Expr
+  abbrev pub value_at : ℕ → Scope ItemColumn → Ty → Term → Expr
   value_at depth places t u =
       let e : Expr = get_or m.table u.expr expr.Null in
       placed_at t (column_beside (slots_of e) (map (column_at (suc depth) places) u.names) (seen (suc depth) nowhere)) e
 
-  abbrev pub let_at : ℕ → Scope Place → ℕ → Ty → Term → FromItem
+  abbrev pub let_at : ℕ → Scope ItemColumn → ℕ → Ty → Term → FromItem
   let_at depth places k t u = let_as k (value_at depth places t u)
 
   -- a finished row
@@ -68,7 +68,7 @@ module _ (m : Making) where
   end_row value class = (end_at m.table m.types m.tail.columns m.result value class).list
 
   -- the row of a call to a label, counted from 0
-  abbrev pub call_row : ℕ → Scope Place → ℕ → List ℕ → List ℕ → List Expr
+  abbrev pub call_row : ℕ → Scope ItemColumn → ℕ → List ℕ → List ℕ → List Expr
   call_row depth places label keys args =
       (call_at m.table m.types m.tail.columns m.result label (cells_at 0 depth places keys args m.tail.columns)).list
 
@@ -92,7 +92,7 @@ module _ (m : Making) where
   class_text = text_of m.table m.types m.tail.columns m.result
 
   -- Behind the items, from alias k on. The list of the select stands at the depth.
-  abbrev pub walk : ℕ → Scope Place → List FromItem → ℕ → Body → Walked
+  abbrev pub walk : ℕ → Scope ItemColumn → List FromItem → ℕ → Body → Walked
   walk depth places items k (sets n t x) =
       walk depth (stands n (first_of depth (length items)) places) (items ++ (let_at depth places k (m.types n) t ∷ [])) (suc k) x
   walk depth places items k (enters params args x) = walk depth (paired places nowhere params args) items k x
@@ -111,7 +111,7 @@ module _ (m : Making) where
 -- ---- what is left to write
 
 -- the rest of a label from a draft on
-unfoldable pub rest : Making → ℕ → Scope Place → Draft → Body → Walked
+unfoldable pub rest : Making → ℕ → Scope ItemColumn → Draft → Body → Walked
 rest m depth places d body = walk m depth places d.items d.next body
 
 -- a draft whose list is told

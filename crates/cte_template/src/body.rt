@@ -10,12 +10,12 @@ ghost use Rattle.sql_meaning.specs.Trees.{item as item_of, null_of};
 ghost use Rattle.sql_meaning.specs.Trees as tree;
 ghost use Rattle.cte_template.specs.Making.{making};
 ghost use Rattle.cte_template.specs.Places.{place_of as standing, stands, first_of};
-ghost use Rattle.template_laws.specs.Terms.{FailsByClass, EndHasClass};
+ghost use Rattle.call_law.specs.Terms.{FailsByClass, EndHasClass};
 ghost use Rattle.cte_template.specs.Walks as spec;
 ghost use Rattle.cte_template.specs.Steps as steps;
-ghost use Rattle.template_parts.specs.Trees.{gate_as as gate_item, either_as as either_item};
+ghost use Rattle.cte_parts.specs.Trees.{gate_as as gate_item, either_as as either_item};
 
-use crate::places::{Place, entered};
+use crate::places::{ItemColumn, entered};
 use crate::rows::{all_columns, call_row, end_row};
 use crate::terms::let_at;
 use crate::writer::{Writer, label_of, params_of, type_of};
@@ -23,9 +23,9 @@ use away_trees::{Expr, FromItem, Item};
 use away_values::{Class, NoMemory, Ty};
 use block_forms::Term;
 use call_forms::{Call, CallEnd};
+use cte_parts::{after, class_text, col, either_as, gate_as, not_true, null, select};
 use sqlite_items::Items;
 use std::alloc::Global;
-use template_parts::{after, class_text, col, either_as, gate_as, not_true, null, select};
 
 /// The items of a select so far, and the number of the next alias.
 #[derive(Drop)]
@@ -38,7 +38,7 @@ pub(crate) struct Draft {
 #[derive(Drop)]
 pub(crate) enum Next {
     Row(Items<Item>),
-    On(u32, Items<(u32, Place)>),
+    On(u32, Items<(u32, ItemColumn)>),
 }
 
 /// The items and the list of a select, and the number of the next alias.
@@ -54,7 +54,7 @@ fn add_let(
     alloc: Global,
     w: &Writer<'_>,
     depth: usize,
-    pairs: &[(u32, Place)],
+    pairs: &[(u32, ItemColumn)],
     draft: &mut Draft,
     ty: Ty,
     term: &Term,
@@ -73,10 +73,10 @@ fn assigned(
     alloc: Global,
     w: &Writer<'_>,
     depth: usize,
-    pairs: Items<(u32, Place)>,
+    pairs: Items<(u32, ItemColumn)>,
     draft: &mut Draft,
     set: &Option<(u32, Term)>,
-) -> Result<Items<(u32, Place)>, NoMemory>
+) -> Result<Items<(u32, ItemColumn)>, NoMemory>
     ensures { IfOk result (λ now. (body : Body) → spec.rest (making w.now) depth (standing now) draft.new body ≡ spec.rest (making w.now) depth (standing pairs) draft.old (spec.from_set (making w.now) set.now body)) }
 {
     match set {
@@ -93,15 +93,15 @@ fn assigned(
 /// The name stands at the first column of an item from now on.
 #[tactic(auto, using(crate::proofs::PlaceRules::one_stands))]
 fn placed_first(
-    pairs: Items<(u32, Place)>,
+    pairs: Items<(u32, ItemColumn)>,
     name: u32,
     depth: usize,
     item: usize,
-) -> Result<Items<(u32, Place)>, NoMemory>
+) -> Result<Items<(u32, ItemColumn)>, NoMemory>
     ensures { IfOk result (λ now. standing now ≡ stands name (first_of depth item) (standing pairs)) }
 {
     let mut pairs = pairs;
-    let place = Place {
+    let place = ItemColumn {
         depth,
         item,
         column: 0,
@@ -111,12 +111,12 @@ fn placed_first(
 }
 
 /// A call: the row of a label, or the block that is entered.
-fn called(
+fn behind_call(
     alloc: Global,
     w: &Writer<'_>,
     left: usize,
     depth: usize,
-    pairs: &[(u32, Place)],
+    pairs: &[(u32, ItemColumn)],
     draft: &mut Draft,
     call: &Call,
 ) -> Result<Next, NoMemory>
@@ -134,11 +134,11 @@ fn called(
 
 /// The row of a term that is returned.
 #[tactic(auto, using(crate::proofs::WalkRules::end_rules))]
-fn returned(
+fn value_row(
     alloc: Global,
     w: &Writer<'_>,
     depth: usize,
-    pairs: &[(u32, Place)],
+    pairs: &[(u32, ItemColumn)],
     draft: &mut Draft,
     term: &Term,
 ) -> Result<Items<Item>, NoMemory>
@@ -160,7 +160,7 @@ fn unended(alloc: Global, w: &Writer<'_>) -> Result<Items<Item>, NoMemory>
 }
 
 /// The row of a fault.
-fn failed(alloc: Global, w: &Writer<'_>, class: Class) -> Result<Items<Item>, NoMemory>
+fn fault_row(alloc: Global, w: &Writer<'_>, class: Class) -> Result<Items<Item>, NoMemory>
     requires { is_class class.code ≡ true }
     ensures { IfOk result (λ list. list ≡ map item_of (spec.end_row (making w.now) (null_of w.now.result) (spec.class_text (making w.now) class))) }
 {
@@ -176,7 +176,7 @@ fn left_by(
     w: &Writer<'_>,
     left: usize,
     depth: usize,
-    pairs: &[(u32, Place)],
+    pairs: &[(u32, ItemColumn)],
     draft: &mut Draft,
     end: &CallEnd,
 ) -> Result<Next, NoMemory>
@@ -185,17 +185,17 @@ fn left_by(
     ensures { IfOk result (λ next. steps.reached (making w.now) depth left next draft.new ≡ spec.rest (making w.now) depth (standing pairs.now) draft.old (spec.from_end (making w.now) left end.now)) }
 {
     match end {
-        CallEnd::Go(call) => called(alloc, w, left, depth, pairs, draft, call),
+        CallEnd::Go(call) => behind_call(alloc, w, left, depth, pairs, draft, call),
         CallEnd::Pick(term, yes, no) => {
             let list = picked(alloc, w, left, depth, pairs, draft, term, yes, no)?;
             Ok(Next::Row(list))
         }
         CallEnd::Return(term) => {
-            let list = returned(alloc, w, depth, pairs, draft, term)?;
+            let list = value_row(alloc, w, depth, pairs, draft, term)?;
             Ok(Next::Row(list))
         }
         CallEnd::Fail(class) => {
-            let list = failed(alloc, w, *class)?;
+            let list = fault_row(alloc, w, *class)?;
             Ok(Next::Row(list))
         }
     }
@@ -209,7 +209,7 @@ fn visited(
     left: usize,
     depth: usize,
     block: u32,
-    pairs: Items<(u32, Place)>,
+    pairs: Items<(u32, ItemColumn)>,
     draft: &mut Draft,
 ) -> Result<Next, NoMemory>
     requires classes { Each FailsByClass w.now.anf.now.blocks }
@@ -230,7 +230,7 @@ pub(crate) fn body_of(
     most: usize,
     depth: usize,
     block: u32,
-    pairs: Items<(u32, Place)>,
+    pairs: Items<(u32, ItemColumn)>,
     draft: &mut Draft,
 ) -> Result<Items<Item>, NoMemory>
     requires classes { Each FailsByClass w.now.anf.now.blocks }
@@ -259,14 +259,14 @@ fn through(
     w: &Writer<'_>,
     left: usize,
     depth: usize,
-    pairs: &[(u32, Place)],
+    pairs: &[(u32, ItemColumn)],
     draft: &mut Draft,
     call: &Call,
 ) -> Result<Items<Item>, NoMemory>
     requires classes { Each FailsByClass w.now.anf.now.blocks }
     ensures { IfOk result (λ list. spec.written draft.new list ≡ spec.rest (making w.now) depth (standing pairs.now) draft.old (spec.from_call (making w.now) left call.now)) }
 {
-    match called(alloc, w, left, depth, pairs, draft, call)? {
+    match behind_call(alloc, w, left, depth, pairs, draft, call)? {
         Next::Row(list) => Ok(list),
         Next::On(block, places) => body_of(alloc, w, left, depth, block, places, draft),
     }
@@ -308,7 +308,7 @@ fn arm(
     w: &Writer<'_>,
     left: usize,
     depth: usize,
-    pairs: &[(u32, Place)],
+    pairs: &[(u32, ItemColumn)],
     gate: Draft,
     call: &Call,
 ) -> Result<Gated, NoMemory>
@@ -367,7 +367,7 @@ fn picked(
     w: &Writer<'_>,
     left: usize,
     depth: usize,
-    pairs: &[(u32, Place)],
+    pairs: &[(u32, ItemColumn)],
     draft: &mut Draft,
     term: &Term,
     yes: &Call,

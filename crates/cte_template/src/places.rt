@@ -6,24 +6,24 @@ ghost use Rattle.cte_template.specs.Places as spec;
 
 use away_trees::Col;
 use away_values::NoMemory;
+use cte_parts::small;
 use sqlite_items::Items;
 use std::alloc::Global;
-use template_parts::small;
 
 /// A column of an item of a select. The select of the query's step has depth 0, the branches have depth 1, and each test opens selects that are one
 /// deeper.
 #[derive(Clone, Copy, Debug, PartialEq, Eq)]
-pub struct Place {
+pub struct ItemColumn {
     pub depth: usize,
     pub item: usize,
     pub column: usize,
 }
 
 /// A column that no row has.
-pub(crate) fn nowhere() -> Place
+pub(crate) fn nowhere() -> ItemColumn
     ensures { result ≡ spec.nowhere }
 {
-    Place {
+    ItemColumn {
         depth: 0,
         item: 1,
         column: 0,
@@ -31,7 +31,7 @@ pub(crate) fn nowhere() -> Place
 }
 
 /// The column from a list at a depth.
-pub(crate) fn seen(place: Place, depth: usize) -> Result<Col, NoMemory>
+pub(crate) fn seen(place: ItemColumn, depth: usize) -> Result<Col, NoMemory>
     ensures { IfOk result (λ c. c ≡ spec.seen depth place) }
 {
     Ok(Col {
@@ -43,7 +43,7 @@ pub(crate) fn seen(place: Place, depth: usize) -> Result<Col, NoMemory>
 
 /// Where a name stands; the last pair with it counts.
 #[tactic(auto, using(crate::proofs::PlaceRules::found))]
-pub(crate) fn place_of(pairs: &[(u32, Place)], name: u32) -> Place
+pub(crate) fn place_of(pairs: &[(u32, ItemColumn)], name: u32) -> ItemColumn
     ensures { result ≡ spec.place_of pairs.now name }
 {
     let mut found = nowhere();
@@ -58,9 +58,9 @@ pub(crate) fn place_of(pairs: &[(u32, Place)], name: u32) -> Place
 /// Where each name of a list stands.
 pub(crate) fn places_of(
     alloc: Global,
-    pairs: &[(u32, Place)],
+    pairs: &[(u32, ItemColumn)],
     names: &[u32],
-) -> Result<Items<Place>, NoMemory>
+) -> Result<Items<ItemColumn>, NoMemory>
     ensures { IfOk result (λ list. list ≡ map (spec.place_of pairs.now) names.now) }
 {
     let mut list = Items::new(alloc);
@@ -71,12 +71,12 @@ pub(crate) fn places_of(
 }
 
 /// The places of a row's columns, behind the flag and the label.
-pub(crate) fn row_places(alloc: Global, columns: &[u32]) -> Result<Items<Place>, NoMemory>
+pub(crate) fn row_places(alloc: Global, columns: &[u32]) -> Result<Items<ItemColumn>, NoMemory>
     ensures { IfOk result (λ list. list ≡ map spec.row_place columns.now) }
 {
     let mut list = Items::new(alloc);
     for column in columns {
-        list.push(Place {
+        list.push(ItemColumn {
             depth: 0,
             item: 0,
             column: *column as usize + 2,
@@ -89,8 +89,8 @@ pub(crate) fn row_places(alloc: Global, columns: &[u32]) -> Result<Items<Place>,
 pub(crate) fn keys_at(
     alloc: Global,
     keys: &[u32],
-    places: &[Place],
-) -> Result<Items<(u32, Place)>, NoMemory>
+    places: &[ItemColumn],
+) -> Result<Items<(u32, ItemColumn)>, NoMemory>
     ensures { IfOk result (λ pairs. spec.place_of pairs ≡ spec.at_keys keys.now places.now) }
 {
     let mut pairs = Items::new(alloc);
@@ -107,10 +107,10 @@ pub(crate) fn keys_at(
 /// The parameters of a block at the places of what is passed.
 pub(crate) fn entered(
     alloc: Global,
-    pairs: &[(u32, Place)],
+    pairs: &[(u32, ItemColumn)],
     params: &[u32],
     args: &[u32],
-) -> Result<Items<(u32, Place)>, NoMemory>
+) -> Result<Items<(u32, ItemColumn)>, NoMemory>
     ensures { IfOk result (λ list. spec.place_of list ≡ paired (spec.place_of pairs.now) spec.nowhere params.now args.now) }
 {
     let places = places_of(alloc, pairs, args)?;
@@ -122,7 +122,7 @@ pub(crate) fn on_row(
     alloc: Global,
     params: &[u32],
     columns: &[u32],
-) -> Result<Items<(u32, Place)>, NoMemory>
+) -> Result<Items<(u32, ItemColumn)>, NoMemory>
     ensures { IfOk result (λ list. spec.place_of list ≡ paired spec.row_place spec.nowhere params.now columns.now) }
 {
     let places = row_places(alloc, columns)?;

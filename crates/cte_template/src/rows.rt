@@ -6,13 +6,13 @@ ghost use Rattle.cte_template.specs.Making.{making};
 ghost use Rattle.cte_template.specs.Places.{place_of as standing};
 ghost use Rattle.cte_template.specs.Walks as spec;
 
-use crate::places::{Place, beside, place_of, seen};
+use crate::places::{ItemColumn, beside, place_of, seen};
 use crate::writer::{Writer, places_at, type_of};
 use away_trees::{Expr, Item};
 use away_values::{NoMemory, Ty};
+use cte_parts::{add, after, col, null, number, only, small, sum, truth};
 use sqlite_items::Items;
 use std::alloc::Global;
-use template_parts::{add, after, col, null, number, only, small, sum, truth};
 
 /// Adds NULL of each type.
 fn add_nulls(alloc: Global, list: &mut Items<Item>, types: &[Ty]) -> Result<(), NoMemory>
@@ -54,7 +54,7 @@ pub(crate) fn end_row(
 fn cell(
     alloc: Global,
     depth: usize,
-    pairs: &[(u32, Place)],
+    pairs: &[(u32, ItemColumn)],
     passed: Option<u32>,
     ty: Ty,
 ) -> Result<Expr, NoMemory>
@@ -71,7 +71,7 @@ fn add_cells(
     alloc: Global,
     list: &mut Items<Item>,
     depth: usize,
-    pairs: &[(u32, Place)],
+    pairs: &[(u32, ItemColumn)],
     keys: &[u32],
     args: &[u32],
     columns: &[Ty],
@@ -90,7 +90,7 @@ pub(crate) fn call_row(
     alloc: Global,
     w: &Writer<'_>,
     depth: usize,
-    pairs: &[(u32, Place)],
+    pairs: &[(u32, ItemColumn)],
     label: usize,
     args: &[u32],
 ) -> Result<Items<Item>, NoMemory>

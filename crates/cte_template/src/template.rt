@@ -11,7 +11,7 @@ ghost use Rattle.call_forms.specs.Merged.{Merged};
 ghost use Rattle.call_forms.specs.Templated.{Templated};
 ghost use Rattle.cte_template.specs.Making.{making, making_of};
 ghost use Rattle.cte_template.specs.Numbers.{AliasesFit, NumbersFit};
-ghost use Rattle.template_laws.specs.Terms.{FailsByClass};
+ghost use Rattle.call_law.specs.Terms.{FailsByClass};
 ghost use Rattle.cte_template.specs.Tree as spec;
 
 use crate::body::{behind, body_of};
@@ -23,12 +23,12 @@ use away_types::CheckedFunction;
 use away_values::{NoMemory, Ty};
 use block_forms::{ExprTable, Goto, Ssa};
 use call_forms::{Anf, Tail};
-use sqlite_items::Items;
-use std::alloc::Global;
-use template_parts::{
+use cte_parts::{
     Known, add, after, alone, col, equal, not, null, number, only, row_names, select, subquery,
     sum, truth, working,
 };
+use sqlite_items::Items;
+use std::alloc::Global;
 
 /// Whether the row is at the label with this number.
 fn at_label(alloc: Global, w: &Writer<'_>, label: usize) -> Result<Expr, NoMemory>

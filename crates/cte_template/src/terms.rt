@@ -5,20 +5,20 @@ ghost use Rattle.cte_template.specs.Making.{making};
 ghost use Rattle.cte_template.specs.Places.{place_of as standing};
 ghost use Rattle.cte_template.specs.Walks as spec;
 
-use crate::places::{Place, nowhere, place_of, seen};
+use crate::places::{ItemColumn, nowhere, place_of, seen};
 use crate::writer::Writer;
 use away_trees::{Col, Expr, FromItem};
 use away_values::{NoMemory, Ty};
 use block_forms::Term;
+use cte_parts::{after, let_as, null, place};
 use sqlite_items::Items;
 use std::alloc::Global;
-use template_parts::{after, let_as, null, place};
 
 /// The column of each name, from a list at a depth.
 fn columns_of(
     alloc: Global,
     depth: usize,
-    pairs: &[(u32, Place)],
+    pairs: &[(u32, ItemColumn)],
     names: &[u32],
 ) -> Result<Items<Col>, NoMemory>
     ensures { IfOk result (λ list. list ≡ map (spec.column_at depth (standing pairs.now)) names.now) }
@@ -35,7 +35,7 @@ fn value_at(
     alloc: Global,
     w: &Writer<'_>,
     depth: usize,
-    pairs: &[(u32, Place)],
+    pairs: &[(u32, ItemColumn)],
     ty: Ty,
     term: &Term,
 ) -> Result<Expr, NoMemory>
@@ -55,7 +55,7 @@ pub(crate) fn let_at(
     alloc: Global,
     w: &Writer<'_>,
     depth: usize,
-    pairs: &[(u32, Place)],
+    pairs: &[(u32, ItemColumn)],
     alias: usize,
     ty: Ty,
     term: &Term,

@@ -2,7 +2,7 @@
 
 ghost use Rattle.std.specs.Prelude.{IsTrue};
 ghost use Rattle.block_forms.specs.Places.{Each};
-ghost use Rattle.template_laws.specs.Terms.{EndHasClass, FailsByClass};
+ghost use Rattle.call_law.specs.Terms.{EndHasClass, FailsByClass};
 
 use crate::template::tree;
 use crate::writer::Writer;

@@ -6,7 +6,7 @@ use Rattle.away_trees.specs.declared.statements.Function.{Function}
 use Rattle.away_types.specs.CheckedQueries.{resolved_query}
 use Rattle.away_gen.specs.Texts.{IsCase}
 use Rattle.away_gen.specs.declared.case.DemoCase.{DemoCase}
-use Rattle.query_texts.specs.Texts.{IsOfTexts}
+use Rattle.cte_prints.specs.Texts.{IsOfTexts}
 use Rattle.demonstration.specs.Summary.{AreRuns, IsOver, IsSummary, iterations_for}
 use Rattle.demonstration.specs.Trial.{IsTrial}
 use Rattle.demonstration.specs.declared.summary.Summary.{Summary}

@@ -1,3 +1,3 @@
 pub mod Trial
-pub mod Told
+pub mod CompiledQuery
 pub mod Summary

@@ -17,7 +17,7 @@ use Rattle.sql_eval.specs.Lengths.{IsLength}
 use Rattle.sql_meaning.specs.AtBound.{rows_of_tables}
 use Rattle.sql_meaning.specs.Context.{Rows}
 use Rattle.sql_meaning.specs.Working.{sql}
-use Rattle.demonstration.specs.Told.{IsCompiledText}
+use Rattle.demonstration.specs.CompiledQuery.{IsCompiledText}
 use Rattle.demonstration.specs.declared.summary.Runs.{Runs}
 use Rattle.demonstration.specs.declared.summary.Summary.{Summary}
 use Rattle.demonstration.specs.declared.trial.Trial.{Trial}

@@ -2,8 +2,8 @@
 
 ghost use Rattle.std.specs.Prelude.{◌≡◌, IfOk, List, length, string_bytes, ℕ};
 ghost use Rattle.away_types.specs.CheckedQueries.{resolved_query};
-ghost use Rattle.demonstration.specs.Told.{IsTold, Tells};
-ghost use Rattle.query_texts.specs.Texts.{IsOfTexts};
+ghost use Rattle.demonstration.specs.CompiledQuery.{IsCompiledQuery, HasText};
+ghost use Rattle.cte_prints.specs.Texts.{IsOfTexts};
 
 use away_trees::Query;
 use away_types::{CheckedFunction, CheckedQuery, CheckedSchema, check_query};
@@ -14,29 +14,33 @@ use std::alloc::Global;
 
 /// The query of a function, with its names resolved, and the length of its text.
 #[derive(Drop)]
-pub(crate) struct Told {
+pub(crate) struct CompiledQuery {
     pub(crate) query: Boxed<CheckedQuery>,
     pub(crate) bytes: u64,
 }
 
 /// Compiles the function.
-pub(crate) fn told_of(
+pub(crate) fn compiled_query(
     alloc: Global,
     schema: &CheckedSchema,
     function: &CheckedFunction,
-) -> Result<Told, NoMemory>
+) -> Result<CompiledQuery, NoMemory>
     requires texts { IsOfTexts schema.now.schema function.now.function function.now.slots }
-    ensures { IfOk result (λ told. (text : List ℕ) × IsTold schema.now.schema function.now.function function.now.slots text told) }
+    ensures { IfOk result (λ told. (text : List ℕ) × IsCompiledQuery schema.now.schema function.now.function function.now.slots text told) }
 {
     let compiled = compile(alloc, schema, function)?;
-    told_in(alloc, schema, compiled)
+    with_length(alloc, schema, compiled)
 }
 
-fn told_in(alloc: Global, schema: &CheckedSchema, compiled: Compiled) -> Result<Told, NoMemory>
-    ensures { IfOk result (Tells schema.now.schema compiled.query (string_bytes compiled.text)) }
+fn with_length(
+    alloc: Global,
+    schema: &CheckedSchema,
+    compiled: Compiled,
+) -> Result<CompiledQuery, NoMemory>
+    ensures { IfOk result (HasText schema.now.schema compiled.query (string_bytes compiled.text)) }
 {
     let bytes = compiled.text.len() as u64;
-    Ok(Told {
+    Ok(CompiledQuery {
         query: resolved(alloc, schema, compiled.query)?,
         bytes,
     })

@@ -2,10 +2,10 @@
 
 ghost use Rattle.std.specs.Prelude.{◌≡◌, ◌≤◌, ◌+◌, ◌*◌, IfOk, List, ℕ};
 ghost use Rattle.demonstration.specs.Summary.{AreRuns, IsOver, IsSummary, iterations_for};
-ghost use Rattle.query_texts.specs.Texts.{IsOfTexts};
+ghost use Rattle.cte_prints.specs.Texts.{IsOfTexts};
 ghost use Rattle.sql_meaning.specs.AtBound.{rows_of_tables};
 
-use crate::compiled::told_of;
+use crate::compiled::compiled_query;
 use crate::trial::{Trial, trial_of};
 use away_gen::make_case;
 use away_trees::Query;
@@ -53,7 +53,7 @@ fn over_case(alloc: Global, number: u64, trial: &Trial, args: &[Value]) -> Resul
     requires texts { IsOfTexts trial.now.schema.schema trial.now.counted.function.function trial.now.counted.function.slots }
     ensures { IfOk result (λ summary. (text : List ℕ) × IsOver number text trial.now args.now summary) }
 {
-    let told = told_of(alloc, trial.schema.get(), trial.counted.function.get())?;
+    let told = compiled_query(alloc, trial.schema.get(), trial.counted.function.get())?;
     let most = most_iterations(trial.counted.nodes);
     Ok(Summary {
         number,

@@ -25,9 +25,9 @@ use Rattle.block_forms.specs.Machines.{Ran, IsOver}
 use Rattle.block_forms.specs.Runs.{ssa_runs}
 use Rattle.call_forms.specs.declared.forms.Anf.{Anf}
 use Rattle.call_forms.specs.declared.forms.Tail.{Tail}
-use Rattle.lowering_law.specs.Law.{Meets, Keeps}
-use Rattle.query_law.specs.QueryAnswers.{AnswersAs}
-use Rattle.query_law.proofs.Composed.{more_before}
+use Rattle.goto_law.specs.Law.{Meets, Keeps}
+use Rattle.cte_law.specs.QueryAnswers.{AnswersAs}
+use Rattle.cte_law.proofs.Composed.{more_before}
 use Rattle.ssa_check.specs.Naming.{NamedRunsInLockstep}
 use Rattle.equivalence.specs.Accepted.{AcceptedForms, EquivalentWith}
 

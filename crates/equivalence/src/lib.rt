@@ -16,8 +16,8 @@ ghost use Rattle.equivalence.specs.Worked.{SignOfIsAccepted};
 use away_types::CheckedFunction;
 use block_forms::worked_forms_are_lowered;
 use call_forms::worked_calls_are_related;
-use lowering_law::forms_of_checked_functions_keep_answers;
-use query_law::forms_answer_as_the_query;
+use cte_law::forms_answer_as_the_query;
+use goto_law::forms_of_checked_functions_keep_answers;
 use ssa_check::naming_keeps_answers;
 
 /// Where a function is checked under a schema, and four forms stand between it and a query in the six relations, the query is equivalent to the function.

@@ -7,10 +7,10 @@ use away_trees::Query;
 use away_types::{CheckedFunction, CheckedQuery, CheckedSchema, check_query};
 use block_forms::{Goto, Ssa};
 use call_forms::{Anf, Tail};
+use cte_check::check_templated;
 use sql_text::read_query;
 use sqlite_items::Boxed;
 use std::process::Abort;
-use template_check::check_templated;
 
 /// The query of the function's tail form, where a label is each block but the last.
 const PIECES: [&str; 37] = [

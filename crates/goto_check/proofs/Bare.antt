@@ -12,7 +12,7 @@ use Rattle.away_trees.specs.declared.statements.Stmt.TheBlock as b
 use Rattle.away_trees.specs.StatementAlgebra.{stmt_of, stmts_of, branches_of}
 use Rattle.away_types.specs.declared.slots.Slot.{Slot}
 use Rattle.plsql_meaning.specs.Outcomes.{case_not_found}
-use Rattle.block_forms.specs.declared.places.Place.{Place}
+use Rattle.block_forms.specs.declared.places.Position.{Position}
 use Rattle.block_forms.specs.declared.forms.Block.{Block}
 use Rattle.block_forms.specs.declared.forms.Term.{Term}
 use Rattle.block_forms.specs.Around.{Around}
@@ -22,7 +22,7 @@ use Rattle.goto_check.specs.declared.asking.Asking.{Asking}
 use Rattle.goto_check.specs.declared.asking.Question.{Question}
 use Rattle.goto_check.specs.declared.asking.Question.TheVariants as question
 use Rattle.goto_check.specs.Runs.{run_of}
-use Rattle.goto_check.specs.Told.{numbers_told, told}
+use Rattle.goto_check.specs.AnswerRuns.{yes_numbers, answer_run}
 
 -- ---- parts without what stands there
 
@@ -43,21 +43,21 @@ bare_append (x ∷ xs) ys = ap (λ z. bare_part x ∷ z) (bare_append xs ys)
 bare_both : (xs ys xs' ys' : List Part) → bare xs ≡ bare xs' → bare ys ≡ bare ys' → bare (xs ++ ys) ≡ bare (xs' ++ ys')
 bare_both xs ys xs' ys' e f = bare_append xs ys ∙ ((λ i. e i ++ f i) ∙ sym (bare_append xs' ys'))
 
-owned_bare : (blocks : List Block) (c : ℕ) (ps : List Part) → numbers_told blocks (question.Owns c) ps ≡ numbers_told blocks (question.Owns c) (bare ps)
+owned_bare : (blocks : List Block) (c : ℕ) (ps : List Part) → yes_numbers blocks (question.Owns c) ps ≡ yes_numbers blocks (question.Owns c) (bare ps)
 owned_bare blocks c [] = refl
 owned_bare blocks c (own b x ∷ ps) = ap (λ l. cond (nat_eq b c) (b ∷ l) l) (owned_bare blocks c ps)
 owned_bare blocks c (shared b x ∷ ps) = owned_bare blocks c ps
 owned_bare blocks c (same a b ∷ ps) = owned_bare blocks c ps
 owned_bare blocks c (never ∷ ps) = owned_bare blocks c ps
 
-shared_bare : (blocks : List Block) (c : ℕ) (ps : List Part) → numbers_told blocks (question.Shares c) ps ≡ numbers_told blocks (question.Shares c) (bare ps)
+shared_bare : (blocks : List Block) (c : ℕ) (ps : List Part) → yes_numbers blocks (question.Shares c) ps ≡ yes_numbers blocks (question.Shares c) (bare ps)
 shared_bare blocks c [] = refl
 shared_bare blocks c (own b x ∷ ps) = shared_bare blocks c ps
 shared_bare blocks c (shared b x ∷ ps) = ap (λ l. cond (nat_eq b c) (b ∷ l) l) (shared_bare blocks c ps)
 shared_bare blocks c (same a b ∷ ps) = shared_bare blocks c ps
 shared_bare blocks c (never ∷ ps) = shared_bare blocks c ps
 
-which_bare : (blocks : List Block) (ps : List Part) → numbers_told blocks question.Which ps ≡ numbers_told blocks question.Which (bare ps)
+which_bare : (blocks : List Block) (ps : List Part) → yes_numbers blocks question.Which ps ≡ yes_numbers blocks question.Which (bare ps)
 which_bare blocks [] = refl
 which_bare blocks (own b x ∷ ps) = ap (λ l. b ∷ l) (which_bare blocks ps)
 which_bare blocks (shared b x ∷ ps) = ap (λ l. b ∷ l) (which_bare blocks ps)
@@ -65,19 +65,19 @@ which_bare blocks (same a b ∷ ps) = which_bare blocks ps
 which_bare blocks (never ∷ ps) = which_bare blocks ps
 
 -- what is told without what stands there
-same_told : (blocks : List Block) (q : Question) (xs ys : List Part) → ((ps : List Part) → numbers_told blocks q ps ≡ numbers_told blocks q (bare ps)) → bare xs ≡ bare ys → numbers_told blocks q xs ≡ numbers_told blocks q ys
-same_told blocks q xs ys told e = told xs ∙ (ap (λ ps. numbers_told blocks q ps) e ∙ sym (told ys))
+same_answer : (blocks : List Block) (q : Question) (xs ys : List Part) → ((ps : List Part) → yes_numbers blocks q ps ≡ yes_numbers blocks q (bare ps)) → bare xs ≡ bare ys → yes_numbers blocks q xs ≡ yes_numbers blocks q ys
+same_answer blocks q xs ys answer_run e = answer_run xs ∙ (ap (λ ps. yes_numbers blocks q ps) e ∙ sym (answer_run ys))
 
 -- parts that are the same where a part that fails is asked for, and are at the same blocks, answer the same
-pub told_bare : (a : Asking) (xs ys : List Part) → (a.question ≡ question.Fails → xs ≡ ys) → bare xs ≡ bare ys → told a xs ≡ told a ys
-unfolding told
-told_bare a xs ys equal e = ap run_of (by a.question refl)
+pub answer_bare : (a : Asking) (xs ys : List Part) → (a.question ≡ question.Fails → xs ≡ ys) → bare xs ≡ bare ys → answer_run a xs ≡ answer_run a ys
+unfolding answer_run
+answer_bare a xs ys equal e = ap run_of (by a.question refl)
   where
-    by : (q : Question) → a.question ≡ q → numbers_told a.goto.now.blocks a.question xs ≡ numbers_told a.goto.now.blocks a.question ys
-    by question.Fails is = ap (λ ps. numbers_told a.goto.now.blocks a.question ps) (equal is)
-    by (question.Owns c) is = subst (λ q. numbers_told a.goto.now.blocks q xs ≡ numbers_told a.goto.now.blocks q ys) (sym is) (same_told a.goto.now.blocks (question.Owns c) xs ys (owned_bare a.goto.now.blocks c) e)
-    by (question.Shares c) is = subst (λ q. numbers_told a.goto.now.blocks q xs ≡ numbers_told a.goto.now.blocks q ys) (sym is) (same_told a.goto.now.blocks (question.Shares c) xs ys (shared_bare a.goto.now.blocks c) e)
-    by question.Which is = subst (λ q. numbers_told a.goto.now.blocks q xs ≡ numbers_told a.goto.now.blocks q ys) (sym is) (same_told a.goto.now.blocks question.Which xs ys (which_bare a.goto.now.blocks) e)
+    by : (q : Question) → a.question ≡ q → yes_numbers a.goto.now.blocks a.question xs ≡ yes_numbers a.goto.now.blocks a.question ys
+    by question.Fails is = ap (λ ps. yes_numbers a.goto.now.blocks a.question ps) (equal is)
+    by (question.Owns c) is = subst (λ q. yes_numbers a.goto.now.blocks q xs ≡ yes_numbers a.goto.now.blocks q ys) (sym is) (same_answer a.goto.now.blocks (question.Owns c) xs ys (owned_bare a.goto.now.blocks c) e)
+    by (question.Shares c) is = subst (λ q. yes_numbers a.goto.now.blocks q xs ≡ yes_numbers a.goto.now.blocks q ys) (sym is) (same_answer a.goto.now.blocks (question.Shares c) xs ys (shared_bare a.goto.now.blocks c) e)
+    by question.Which is = subst (λ q. yes_numbers a.goto.now.blocks q xs ≡ yes_numbers a.goto.now.blocks q ys) (sym is) (same_answer a.goto.now.blocks question.Which xs ys (which_bare a.goto.now.blocks) e)
 
 -- ---- the patterns
 
@@ -90,7 +90,7 @@ module _ (s : Setting) where
   bare_slot None b slot e n m = refl
   bare_slot (Some x) b slot e n m = bare_set x.not_null x.ty b slot e n m
 
-  bare_assign : (slot : Option ℕ) (e : Expr) (p : Place) (n m : ℕ) → bare (assign_parts s slot e p n) ≡ bare (assign_parts s slot e p m)
+  bare_assign : (slot : Option ℕ) (e : Expr) (p : Position) (n m : ℕ) → bare (assign_parts s slot e p n) ≡ bare (assign_parts s slot e p m)
   bare_assign None e p n m = refl
   bare_assign (Some slot) e p n m = bare_slot (slice_get s.slots slot) _ slot _ n m
 
@@ -105,7 +105,7 @@ module _ (s : Setting) where
       by true = refl
       by false = bare_leave when k b to next to' next'
 
-  bare_decls : (ds : List Decl) (p : Place) (n m : ℕ) → bare (decls_parts s ds p n) ≡ bare (decls_parts s ds p m)
+  bare_decls : (ds : List Decl) (p : Position) (n m : ℕ) → bare (decls_parts s ds p n) ≡ bare (decls_parts s ds p m)
   bare_decls [] p n m = refl
   bare_decls (d ∷ ds) p n m =
       bare_both (decl_parts s d p (first_block s (length ds) (p.node + 1) n)) (decls_parts s ds (after p (decl_size d)) n)
@@ -116,13 +116,13 @@ module _ (s : Setting) where
   bare_lack None b n m = refl
   bare_lack (Some c) b n m = refl
 
-  pub bare_kind : (k : LoopKind) (p : Place) (body next body' next' : ℕ) → bare (kind_parts s k p body next) ≡ bare (kind_parts s k p body' next')
+  pub bare_kind : (k : LoopKind) (p : Position) (body next body' next' : ℕ) → bare (kind_parts s k p body next) ≡ bare (kind_parts s k p body' next')
   bare_kind kind.Plain p body next body' next' = refl
   bare_kind (kind.While e) p body next body' next' = refl
   bare_kind (kind.Count var reverse first last None) p body next body' next' = refl
   bare_kind (kind.Count var reverse first last (Some e)) p body next body' next' = refl
 
-  bare_choice : (L : List LaidArm) (without : Option Class) (p : Place) (A B : Around) (n m : ℕ) →
+  bare_choice : (L : List LaidArm) (without : Option Class) (p : Position) (A B : Around) (n m : ℕ) →
       bare (arms_parts s L (after p a_node) A n (node s.goto p.node)) ≡ bare (arms_parts s L (after p a_node) B m (node s.goto p.node)) →
       bare (arms_parts s L (after p a_node) A n (node s.goto p.node) ++ lack_parts s without (lack s L (node s.goto p.node)) n)
       ≡ bare (arms_parts s L (after p a_node) B m (node s.goto p.node) ++ lack_parts s without (lack s L (node s.goto p.node)) m)
@@ -131,7 +131,7 @@ module _ (s : Setting) where
       (arms_parts s L (after p a_node) B m (node s.goto p.node)) (lack_parts s without (lack s L (node s.goto p.node)) m)
       e (bare_lack without _ n m)
 
-  bare_other : (L : List LaidArm) (R : List Laid) (p : Place) (A B : Around) (n m : ℕ) →
+  bare_other : (L : List LaidArm) (R : List Laid) (p : Position) (A B : Around) (n m : ℕ) →
       bare (arms_parts s L (after p a_node) A n (node s.goto p.node)) ≡ bare (arms_parts s L (after p a_node) B m (node s.goto p.node)) →
       bare (row_parts s R (after (after p (after a_node (arms_size L))) a_node) A n) ≡ bare (row_parts s R (after (after p (after a_node (arms_size L))) a_node) B m) →
       bare (arms_parts s L (after p a_node) A n (node s.goto p.node) ++ else_parts s (Some R) None (after p (after a_node (arms_size L))) A n (lack s L (node s.goto p.node)))
@@ -144,7 +144,7 @@ module _ (s : Setting) where
       e (ap (λ q. same 0 0 ∷ same 0 0 ∷ q) f)
 
   mutual
-    bare_stmt : (x : Stmt) (p : Place) (A B : Around) (n m : ℕ) → bare ((stmt_of laying x).parts s p A n) ≡ bare ((stmt_of laying x).parts s p B m)
+    bare_stmt : (x : Stmt) (p : Position) (A B : Around) (n m : ℕ) → bare ((stmt_of laying x).parts s p A n) ≡ bare ((stmt_of laying x).parts s p B m)
     bare_stmt (b.Block' label decls k body closing) p A B n m =
         let L = stmts_of laying body in
         ap (λ z. same 0 0 ∷ z) (bare_both (decls_parts s decls (after p a_node) (first_block s (length L) (inside_of s decls p).node n)) (row_parts s L (inside_of s decls p) (record { label = label; exit = n; again = None } ∷ A) n)
@@ -167,7 +167,7 @@ module _ (s : Setting) where
     bare_stmt (b.Into strict targets query) p A B n m = refl
     bare_stmt b.Nothing p A B n m = refl
 
-    bare_row : {k : _} → (r : b.Row_of-Stmt k) (p : Place) (A B : Around) (n m : ℕ) → bare (row_parts s (stmts_of laying r) p A n) ≡ bare (row_parts s (stmts_of laying r) p B m)
+    bare_row : {k : _} → (r : b.Row_of-Stmt k) (p : Position) (A B : Around) (n m : ℕ) → bare (row_parts s (stmts_of laying r) p A n) ≡ bare (row_parts s (stmts_of laying r) p B m)
     bare_row b.end_of-Stmt p A B n m = refl
     bare_row (b.more_of-Stmt x rest) p A B n m =
         let L = stmts_of laying rest in
@@ -176,7 +176,7 @@ module _ (s : Setting) where
         (z.parts s p B (first_block s (length L) (p.node + z.size.node) m)) (row_parts s L (after p z.size) B m)
         (bare_stmt x p A B _ _) (bare_row rest (after p z.size) A B n m)
 
-    bare_arms : {k : _} → (r : b.Row_of-Arm k) (p : Place) (A B : Around) (n m c : ℕ) → bare (arms_parts s (branches_of laying r) p A n c) ≡ bare (arms_parts s (branches_of laying r) p B m c)
+    bare_arms : {k : _} → (r : b.Row_of-Arm k) (p : Position) (A B : Around) (n m c : ℕ) → bare (arms_parts s (branches_of laying r) p A n c) ≡ bare (arms_parts s (branches_of laying r) p B m c)
     bare_arms b.end_of-Arm p A B n m c = refl
     bare_arms (b.more_of-Arm test k body rest) p A B n m c =
         let L = stmts_of laying body in
@@ -186,11 +186,11 @@ module _ (s : Setting) where
         (row_parts s L (after p with_expr) B m) (arms_parts s R z B m (no_of s.goto c))
         (bare_row body (after p with_expr) A B n m) (bare_arms rest z A B n m (no_of s.goto c)))
 
-  pub bare_statement : (x : Stmt) (p : Place) (A B : Around) (n m : ℕ) → bare ((laid x).parts s p A n) ≡ bare ((laid x).parts s p B m)
+  pub bare_statement : (x : Stmt) (p : Position) (A B : Around) (n m : ℕ) → bare ((laid x).parts s p A n) ≡ bare ((laid x).parts s p B m)
   unfolding laid
   bare_statement x p A B n m = bare_stmt x p A B n m
 
-  pub bare_body : (xs : List Stmt) (p : Place) (A B : Around) (n m : ℕ) → bare (row_parts s (laid_row xs) p A n) ≡ bare (row_parts s (laid_row xs) p B m)
+  pub bare_body : (xs : List Stmt) (p : Position) (A B : Around) (n m : ℕ) → bare (row_parts s (laid_row xs) p A n) ≡ bare (row_parts s (laid_row xs) p B m)
   bare_body [] p A B n m = refl
   bare_body (x ∷ xs) p A B n m =
       let L = laid_row xs in

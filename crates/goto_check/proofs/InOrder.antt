@@ -6,7 +6,7 @@ use Rattle.std.proofs.lemmas.Bool.Decides.{nat_tests}
 use Rattle.block_forms.specs.declared.forms.Block.{Block}
 use Rattle.block_forms.specs.Lowered.{EachOnce, one_of, owners, sharers}
 use Rattle.block_forms.specs.Patterns.{Part, own, shared, same, never}
-use Rattle.goto_check.specs.Told.{blocks_in}
+use Rattle.goto_check.specs.AnswerRuns.{blocks_in}
 
 -- how often a number is in a list
 abbrev times : ℕ → List ℕ → ℕ

@@ -2,7 +2,7 @@ pub mod Rooms
 pub mod Equations
 pub mod Blocks
 pub mod JoinedRuns
-pub mod Telling
+pub mod AnswerRules
 pub mod Questions
 pub mod Lists
 pub mod Occurrences

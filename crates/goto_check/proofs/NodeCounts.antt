@@ -9,7 +9,7 @@ use Rattle.away_trees.specs.declared.statements.Stmt.{Stmt}
 use Rattle.away_trees.specs.declared.statements.Stmt.TheBlock as b
 use Rattle.away_trees.specs.StatementAlgebra.{stmt_of, stmts_of, branches_of}
 use Rattle.away_trees.specs.Count.{counting, nodes_of, nodes}
-use Rattle.block_forms.specs.declared.places.Place.{Place}
+use Rattle.block_forms.specs.declared.places.Position.{Position}
 use Rattle.block_forms.specs.Laid.{laying, laid, after, place, a_node, with_expr, nothing, one_if, decl_size, decls_size, kind_size, row_size, arms_size}
 use Rattle.block_forms.specs.Lowered.{numbers_of, body_place}
 use Rattle.goto_check.specs.Room.{Small, Room}
@@ -18,13 +18,13 @@ sum-cons : (x : ℕ) (xs : List ℕ) → sum (x ∷ xs) ≡ x + sum xs
 sum-cons x xs = sum_by-cons (λ n. n) x xs
 
 -- so many nodes, and in each at most three expressions, a variable and a FOR
-pub record Fits (p : Place) (k : ℕ) : Type 0 where
+pub record Fits (p : Position) (k : ℕ) : Type 0 where
   pub node : p.node ≡ k
   pub expr : p.expr ≤ 3 * k
   pub slot : p.slot ≤ k
   pub fors : p.fors ≤ k
 
-fits_after : (p q : Place) (k l : ℕ) → Fits p k → Fits q l → Fits (after p q) (k + l)
+fits_after : (p q : Position) (k l : ℕ) → Fits p k → Fits q l → Fits (after p q) (k + l)
 fits_after p q k l f h = record { node = omega (arith, f.node, h.node); expr = omega (arith, f.expr, h.expr); slot = omega (arith, f.slot, h.slot); fors = omega (arith, f.fors, h.fors) }
 
 fits_place : (n e s f k : ℕ) → n ≡ k → e ≤ 3 * k → s ≤ k → f ≤ k → Fits (place n e s f) k
@@ -50,7 +50,7 @@ fits_decl d = by d.default
     by None = fits_place 1 0 1 0 1 refl (omega arith) (omega arith) (omega arith)
     by (Some x) = fits_place 1 1 1 0 1 refl (omega arith) (omega arith) (omega arith)
 
-resized : (p : Place) (k l : ℕ) → k ≡ l → Fits p k → Fits p l
+resized : (p : Position) (k l : ℕ) → k ≡ l → Fits p k → Fits p l
 resized p k l e f = record { node = omega (arith, e, f.node); expr = omega (arith, e, f.expr); slot = omega (arith, e, f.slot); fors = omega (arith, e, f.fors) }
 
 fits_decls : (ds : List Decl) → Fits (decls_size ds) (length ds)

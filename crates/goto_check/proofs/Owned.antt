@@ -5,7 +5,7 @@ use Rattle.block_forms.specs.Patterns.{Part}
 use Rattle.goto_check.specs.declared.runs.Run.{Run}
 use Rattle.goto_check.specs.declared.runs.Run.TheVariants.{Empty}
 use Rattle.goto_check.specs.Runs.{repeated}
-use Rattle.goto_check.specs.Told.{IsOnce}
+use Rattle.goto_check.specs.AnswerRuns.{IsOnce}
 use Rattle.goto_check.proofs.JoinedRuns.{repeated_none}
 
 pub shared_once : (ps : List Part) (b : ℕ) (r : Run) (e : Bool) → owners b ps ≡ 0 → r ≡ repeated (sharers b ps) b → IsTrue e ↔ (r ≡ Empty) → IsTrue (not e) ↔ IsOnce ps b

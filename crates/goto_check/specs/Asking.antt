@@ -55,23 +55,23 @@ is_found (Some x) y = is_block x y
 -- ---- answers
 
 -- whether a part fails to stand, whether a block is its own, whether it is one that the part may share, or whether the part has a block
-abbrev pub says : List Block → Question → Part → Bool
-says blocks question.Fails (own b x) = not (is_found (slice_get blocks b) x)
-says blocks question.Fails (shared b x) = not (is_found (slice_get blocks b) x)
-says blocks question.Fails (same a b) = not (nat_eq a b)
-says blocks question.Fails never = true
-says blocks (question.Owns c) (own b x) = nat_eq b c
-says blocks (question.Owns c) (shared b x) = false
-says blocks (question.Owns c) (same a b) = false
-says blocks (question.Owns c) never = false
-says blocks (question.Shares c) (own b x) = false
-says blocks (question.Shares c) (shared b x) = nat_eq b c
-says blocks (question.Shares c) (same a b) = false
-says blocks (question.Shares c) never = false
-says blocks question.Which (own b x) = true
-says blocks question.Which (shared b x) = true
-says blocks question.Which (same a b) = false
-says blocks question.Which never = false
+abbrev pub says_yes : List Block → Question → Part → Bool
+says_yes blocks question.Fails (own b x) = not (is_found (slice_get blocks b) x)
+says_yes blocks question.Fails (shared b x) = not (is_found (slice_get blocks b) x)
+says_yes blocks question.Fails (same a b) = not (nat_eq a b)
+says_yes blocks question.Fails never = true
+says_yes blocks (question.Owns c) (own b x) = nat_eq b c
+says_yes blocks (question.Owns c) (shared b x) = false
+says_yes blocks (question.Owns c) (same a b) = false
+says_yes blocks (question.Owns c) never = false
+says_yes blocks (question.Shares c) (own b x) = false
+says_yes blocks (question.Shares c) (shared b x) = nat_eq b c
+says_yes blocks (question.Shares c) (same a b) = false
+says_yes blocks (question.Shares c) never = false
+says_yes blocks question.Which (own b x) = true
+says_yes blocks question.Which (shared b x) = true
+says_yes blocks question.Which (same a b) = false
+says_yes blocks question.Which never = false
 
 -- ---- where it is asked
 

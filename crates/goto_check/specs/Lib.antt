@@ -2,7 +2,7 @@ pub mod Asking
 pub mod Enclosing
 pub mod Wanted
 pub mod Runs
-pub mod Told
+pub mod AnswerRuns
 pub mod Room
 pub mod Passing
 pub mod Below

@@ -2,7 +2,7 @@
 
 ghost use Rattle.std.specs.Prelude.{◌≡◌, [], ◌∷◌};
 ghost use Rattle.block_forms.specs.Patterns.{own, shared, same, never};
-ghost use Rattle.goto_check.specs.Told.{told};
+ghost use Rattle.goto_check.specs.AnswerRuns.{answer_run};
 ghost use Rattle.goto_check.specs.Wanted.{shape};
 
 use crate::runs::{Run, only};
@@ -38,9 +38,9 @@ pub(crate) struct Answer {
 }
 
 /// A part with a block of its own.
-#[tactic(auto, using(crate::proofs::Telling::one_part))]
+#[tactic(auto, using(crate::proofs::AnswerRules::one_part))]
 pub(crate) fn ask_own(a: &Asking<'_>, at: usize, want: &Shape<'_>) -> Run
-    ensures { result ≡ told a.now (own at (shape want.now) ∷ []) }
+    ensures { result ≡ answer_run a.now (own at (shape want.now) ∷ []) }
 {
     match a.question {
         Question::Fails => only(!is_shape(a.goto, at, want), at),
@@ -51,9 +51,9 @@ pub(crate) fn ask_own(a: &Asking<'_>, at: usize, want: &Shape<'_>) -> Run
 }
 
 /// A part with a block that others may share.
-#[tactic(auto, using(crate::proofs::Telling::one_part))]
+#[tactic(auto, using(crate::proofs::AnswerRules::one_part))]
 pub(crate) fn ask_shared(a: &Asking<'_>, at: usize, want: &Shape<'_>) -> Run
-    ensures { result ≡ told a.now (shared at (shape want.now) ∷ []) }
+    ensures { result ≡ answer_run a.now (shared at (shape want.now) ∷ []) }
 {
     match a.question {
         Question::Fails => only(!is_shape(a.goto, at, want), at),
@@ -64,9 +64,9 @@ pub(crate) fn ask_shared(a: &Asking<'_>, at: usize, want: &Shape<'_>) -> Run
 }
 
 /// Two blocks that are to be one.
-#[tactic(auto, using(crate::proofs::Telling::one_part))]
+#[tactic(auto, using(crate::proofs::AnswerRules::one_part))]
 pub(crate) fn ask_same(a: &Asking<'_>, x: usize, y: usize) -> Run
-    ensures { result ≡ told a.now (same x y ∷ []) }
+    ensures { result ≡ answer_run a.now (same x y ∷ []) }
 {
     match a.question {
         Question::Fails => only(x != y, x),
@@ -77,9 +77,9 @@ pub(crate) fn ask_same(a: &Asking<'_>, x: usize, y: usize) -> Run
 }
 
 /// What no form has.
-#[tactic(auto, using(crate::proofs::Telling::one_part))]
+#[tactic(auto, using(crate::proofs::AnswerRules::one_part))]
 pub(crate) fn ask_never(a: &Asking<'_>) -> Run
-    ensures { result ≡ told a.now (never ∷ []) }
+    ensures { result ≡ answer_run a.now (never ∷ []) }
 {
     match a.question {
         Question::Fails => Run::FromTo(0, 0),

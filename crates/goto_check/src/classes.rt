@@ -8,10 +8,7 @@ ghost use Rattle.plsql_meaning.specs.Outcomes.{raised_message};
 ghost use Rattle.plsql_meaning.specs.Statements as meaning;
 
 use away_trees::Raised;
-use away_values::Class;
-
-/// raise_exception
-const RAISED_MESSAGE: Class = Class { code: *b"P0001" };
+use away_values::{Class, sqlstate};
 
 fn length_of(text: &str) -> usize
     ensures { result ≡ length (chars text.now) }
@@ -59,7 +56,7 @@ fn class_of_text(text: &str) -> Class
     if is_class(text) {
         of_bytes(text.as_bytes())
     } else {
-        RAISED_MESSAGE
+        sqlstate::RAISE_EXCEPTION
     }
 }
 
@@ -68,7 +65,7 @@ pub(crate) fn class_of(raised: &Raised) -> Class
     ensures { result ≡ meaning.class_of raised.now }
 {
     match raised {
-        Raised::Message(_) => RAISED_MESSAGE,
+        Raised::Message(_) => sqlstate::RAISE_EXCEPTION,
         Raised::State(code) => class_of_text(code.text()),
     }
 }

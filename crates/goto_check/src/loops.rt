@@ -5,28 +5,25 @@ ghost use Rattle.block_forms.specs.FixedList.{many};
 ghost use Rattle.block_forms.specs.Laid.{after, kind_size, again_of, kind_parts};
 ghost use Rattle.block_forms.specs.Patterns.{bound_parts, step_parts, turn_parts, for_parts, head_after, for_test};
 ghost use Rattle.goto_check.specs.Asking.{IsAsked, numbers_in, setting_in};
-ghost use Rattle.goto_check.specs.Told.{told};
+ghost use Rattle.goto_check.specs.AnswerRuns.{answer_run};
 ghost use Rattle.goto_check.specs.Room.{here, Room};
 ghost use Rattle.goto_check.specs.Wanted.{wanted};
 
 use crate::asking::{Asking, Question, ask_own, ask_shared};
-use crate::patterns::{NULL_NOT_ALLOWED, entry_term, is_null, source_term};
+use crate::patterns::{entry_term, is_null, source_term};
 use crate::read::{after_bound, first_test, jump_of, no_of, node, yes_of};
 use crate::runs::{Run, join};
 use crate::shapes::{Reads, Shape, Wanted};
 use crate::spots::Spot;
 use away_trees::{Expr, LoopKind};
-use away_values::{Class, Ty};
+use away_values::{Ty, sqlstate};
 use block_forms::{Fixed, Goto};
 
-/// invalid_parameter_value
-const INVALID_PARAMETER: Class = Class { code: *b"22023" };
-
 /// A bound is set, and is not NULL.
-#[tactic(auto, using(crate::proofs::Telling::told_rules))]
+#[tactic(auto, using(crate::proofs::AnswerRules::answer_rules))]
 fn ask_bound(a: &Asking<'_>, b: usize, slot: usize, want: &Wanted<'_>, next: usize) -> Run
     requires { a.now.fixed + many ≤ 2 ^ 64 }
-    ensures { result ≡ told a.now (bound_parts a.now.goto.now (numbers_in a.now) b slot (wanted want.now) next) }
+    ensures { result ≡ answer_run a.now (bound_parts a.now.goto.now (numbers_in a.now) b slot (wanted want.now) next) }
 {
     let test = jump_of(a.goto, b);
     let fault = yes_of(a.goto, test);
@@ -35,7 +32,7 @@ fn ask_bound(a: &Asking<'_>, b: usize, slot: usize, want: &Wanted<'_>, next: usi
         ask_own(a, b, &Shape::Sets(slot, want, test)),
         join(
             ask_own(a, test, &Shape::Branch(false, &null, fault, next)),
-            ask_shared(a, fault, &Shape::Fail(NULL_NOT_ALLOWED)),
+            ask_shared(a, fault, &Shape::Fail(sqlstate::NULL_VALUE_NOT_ALLOWED)),
         ),
     )
 }
@@ -49,7 +46,7 @@ fn head_after(g: &Goto, step: &Option<Expr>, b: usize) -> usize
     }
 }
 
-#[tactic(auto, using(crate::proofs::Telling::told_rules))]
+#[tactic(auto, using(crate::proofs::AnswerRules::answer_rules))]
 fn ask_step(
     a: &Asking<'_>,
     by: &Option<Expr>,
@@ -59,7 +56,7 @@ fn ask_step(
     head: usize,
 ) -> Run
     requires { a.now.fixed + many ≤ 2 ^ 64 }
-    ensures { result ≡ told a.now (step_parts a.now.goto.now (numbers_in a.now) by.now expr b step head) }
+    ensures { result ≡ answer_run a.now (step_parts a.now.goto.now (numbers_in a.now) by.now expr b step head) }
 {
     match by {
         None => {
@@ -74,7 +71,7 @@ fn ask_step(
                 ask_bound(a, b, step, &source_term(expr, e), test),
                 join(
                     ask_own(a, test, &Shape::Branch(false, &not_positive, fault, head)),
-                    ask_shared(a, fault, &Shape::Fail(INVALID_PARAMETER)),
+                    ask_shared(a, fault, &Shape::Fail(sqlstate::INVALID_PARAMETER_VALUE)),
                 ),
             )
         }
@@ -90,7 +87,7 @@ struct Counter {
     step: usize,
 }
 
-#[tactic(auto, using(crate::proofs::Telling::told_rules))]
+#[tactic(auto, using(crate::proofs::AnswerRules::answer_rules))]
 fn ask_turn(
     a: &Asking<'_>,
     reverse: bool,
@@ -101,7 +98,7 @@ fn ask_turn(
     next: usize,
 ) -> Run
     requires { a.now.fixed + many ≤ 2 ^ 64 }
-    ensures { result ≡ told a.now (turn_parts a.now.goto.now (numbers_in a.now) reverse c.var c.cur c.last c.step head test body next) }
+    ensures { result ≡ answer_run a.now (turn_parts a.now.goto.now (numbers_in a.now) reverse c.var c.cur c.last c.step head test body next) }
 {
     let in_range = entry_term(a.fixed, Fixed::in_range(reverse), Reads::Two(c.cur, c.last));
     let copy = entry_term(a.fixed, Fixed::Copy, Reads::One(c.cur));
@@ -131,7 +128,7 @@ fn for_test(a: &Asking<'_>, reverse: bool, p: Spot) -> usize
     first_test(leaves_range, cur + 2, cur, a.goto.blocks.as_slice())
 }
 
-#[tactic(auto, using(crate::proofs::Telling::told_rules))]
+#[tactic(auto, using(crate::proofs::AnswerRules::answer_rules))]
 fn ask_for(
     a: &Asking<'_>,
     reverse: bool,
@@ -144,7 +141,7 @@ fn ask_for(
 ) -> Run
     requires room { Room (numbers_in a.now) (here p) }
     requires more { p.expr + 2 < 2 ^ 64 }
-    ensures { result ≡ told a.now (for_parts a.now.goto.now (numbers_in a.now) reverse first.now last.now by.now (here p) body next) }
+    ensures { result ≡ answer_run a.now (for_parts a.now.goto.now (numbers_in a.now) reverse first.now last.now by.now (here p) body next) }
 {
     let cur = a.counters + 3 * p.fors;
     let counter = Counter {
@@ -199,7 +196,7 @@ pub(crate) fn turns_to(a: &Asking<'_>, kind: &LoopKind, p: Spot) -> usize
 /// The blocks of a loop, but its body's.
 pub(crate) fn ask_kind(a: &Asking<'_>, kind: &LoopKind, p: Spot, body: usize, next: usize) -> Run
     requires { Room (numbers_in a.now) (after (here p) (kind_size kind.now)) }
-    ensures { result ≡ told a.now (kind_parts (setting_in a.now) kind.now (here p) body next) }
+    ensures { result ≡ answer_run a.now (kind_parts (setting_in a.now) kind.now (here p) body next) }
 {
     match kind {
         LoopKind::Plain => ask_own(a, node(a.goto, p.node), &Shape::Jump(true, body)),

@@ -7,7 +7,7 @@ ghost use Rattle.block_forms.specs.Lowered.{EachOnce, owners, sharers, parts_in,
 ghost use Rattle.goto_check.specs.Asking.{numbers_in, setting_in};
 ghost use Rattle.goto_check.specs.Room.{Room};
 ghost use Rattle.goto_check.specs.Runs.{run_of, repeated};
-ghost use Rattle.goto_check.specs.Told.{numbers_told, blocks_in, IsOnce};
+ghost use Rattle.goto_check.specs.AnswerRuns.{yes_numbers, blocks_in, IsOnce};
 
 use crate::asking::{Asking, Question};
 use crate::parameters::ask_function;
@@ -15,10 +15,10 @@ use crate::runs::{Run, is_empty, is_up_to};
 use away_trees::Function;
 
 /// What the parts of the function answer to another question.
-#[tactic(auto, unfolding(crate::specs::Told::told))]
+#[tactic(auto, unfolding(crate::specs::AnswerRuns::answer_run))]
 fn asked(a: &Asking<'_>, f: &Function, question: Question) -> Run
     requires { Room (numbers_in a.now) (after (body_place f.now) (laid f.now.body).size) }
-    ensures { result ≡ run_of (numbers_told a.now.goto.now.blocks question (parts_in (setting_in a.now) f.now)) }
+    ensures { result ≡ run_of (yes_numbers a.now.goto.now.blocks question (parts_in (setting_in a.now) f.now)) }
 {
     let asking = Asking {
         goto: a.goto,

@@ -5,7 +5,7 @@ ghost use Rattle.block_forms.specs.FixedList.{many};
 ghost use Rattle.block_forms.specs.Laid.{after, laid};
 ghost use Rattle.block_forms.specs.Lowered.{param_parts, params_parts, parts_in, body_place};
 ghost use Rattle.goto_check.specs.Asking.{numbers_in, setting_in};
-ghost use Rattle.goto_check.specs.Told.{told};
+ghost use Rattle.goto_check.specs.AnswerRuns.{answer_run};
 ghost use Rattle.goto_check.specs.Room.{Room};
 
 use crate::asking::{Asking, ask_own, ask_same, ask_shared};
@@ -17,16 +17,13 @@ use crate::shapes::Shape;
 use crate::spots::spot_of;
 use crate::stand::ask_statement;
 use away_trees::Function;
-use away_values::{Class, Name, Ty};
+use away_values::{Name, Ty, sqlstate};
 
-/// no_return: a function ends without RETURN
-const NO_RETURN: Class = Class { code: *b"2F005" };
-
-#[tactic(auto, using(crate::proofs::Telling::told_rules))]
+#[tactic(auto, using(crate::proofs::AnswerRules::answer_rules))]
 fn ask_param(a: &Asking<'_>, strict: bool, result_type: Ty, k: usize, ty: Ty) -> Run
     requires fixed { a.now.fixed + many ≤ 2 ^ 64 }
     requires more { k + 1 < 2 ^ 64 }
-    ensures { result ≡ told a.now (param_parts (setting_in a.now) strict result_type k ty) }
+    ensures { result ≡ answer_run a.now (param_parts (setting_in a.now) strict result_type k ty) }
 {
     let b = node(a.goto, k);
     let next = node(a.goto, k + 1);
@@ -43,11 +40,11 @@ fn ask_param(a: &Asking<'_>, strict: bool, result_type: Ty, k: usize, ty: Ty) ->
     }
 }
 
-#[tactic(auto, using(crate::proofs::Telling::told_rules))]
+#[tactic(auto, using(crate::proofs::AnswerRules::answer_rules))]
 fn ask_params(a: &Asking<'_>, strict: bool, result_type: Ty, k: usize, params: &[(Name, Ty)]) -> Run
     requires fixed { a.now.fixed + many ≤ 2 ^ 64 }
     requires more { k + length params.now < 2 ^ 64 }
-    ensures { result ≡ told a.now (params_parts (setting_in a.now) strict result_type k params.now) }
+    ensures { result ≡ answer_run a.now (params_parts (setting_in a.now) strict result_type k params.now) }
 {
     match params {
         [] => Run::Empty,
@@ -59,17 +56,21 @@ fn ask_params(a: &Asking<'_>, strict: bool, result_type: Ty, k: usize, params: &
 }
 
 /// All parts of a function.
-#[tactic(auto, using(crate::proofs::Telling::told_rules))]
+#[tactic(auto, using(crate::proofs::AnswerRules::answer_rules))]
 pub(crate) fn ask_function(a: &Asking<'_>, f: &Function) -> Run
     requires { Room (numbers_in a.now) (after (body_place f.now) (laid f.now.body).size) }
-    ensures { result ≡ told a.now (parts_in (setting_in a.now) f.now) }
+    ensures { result ≡ answer_run a.now (parts_in (setting_in a.now) f.now) }
 {
     let many = f.params.len();
     let body = spot_of(many, 0, many, 0);
     let finish = a.goto.finish as usize;
     let start = node(a.goto, 0);
     let entry = ask_shared(a, a.goto.entry as usize, &Shape::Jump(false, start));
-    let end = ask_shared(a, finish, &Shape::Fail(NO_RETURN));
+    let end = ask_shared(
+        a,
+        finish,
+        &Shape::Fail(sqlstate::FUNCTION_EXECUTED_NO_RETURN_STATEMENT),
+    );
     let params = ask_params(a, f.strict, f.result, 0, f.params.as_slice());
     let inside = ask_statement(a, &f.body, body, &Enclosing::Outside, finish);
     join(entry, join(end, join(params, inside.run)))

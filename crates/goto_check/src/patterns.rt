@@ -4,7 +4,7 @@ ghost use Rattle.std.specs.Prelude.{◌≡◌, ◌+◌, ◌≤◌, ◌^◌};
 ghost use Rattle.block_forms.specs.FixedList.{many};
 ghost use Rattle.block_forms.specs.Patterns.{entry_term, null_of, is_null, source_term, set_parts, slot_parts, leave_parts, exit_parts};
 ghost use Rattle.goto_check.specs.Asking.{numbers_in};
-ghost use Rattle.goto_check.specs.Told.{told};
+ghost use Rattle.goto_check.specs.AnswerRuns.{answer_run};
 ghost use Rattle.goto_check.specs.Wanted.{wanted, wanted_slots};
 
 use crate::asking::{Asking, ask_never, ask_own, ask_shared};
@@ -13,11 +13,8 @@ use crate::runs::{Run, join};
 use crate::shapes::{Reads, Shape, Wanted};
 use away_trees::Expr;
 use away_types::Slot;
-use away_values::{Class, Ty};
+use away_values::{Ty, sqlstate};
 use block_forms::Fixed;
-
-/// null_value_not_allowed
-pub(crate) const NULL_NOT_ALLOWED: Class = Class { code: *b"22004" };
 
 /// An entry of the fixed list that reads these slots.
 pub(crate) fn entry_term<'a>(fixed: usize, entry: Fixed, reads: Reads<'a>) -> Wanted<'a>
@@ -53,7 +50,7 @@ pub(crate) fn source_term<'a>(expr: usize, e: &'a Expr) -> Wanted<'a>
     }
 }
 
-#[tactic(auto, using(crate::proofs::Telling::told_rules))]
+#[tactic(auto, using(crate::proofs::AnswerRules::answer_rules))]
 fn ask_set(
     a: &Asking<'_>,
     not_null: bool,
@@ -64,7 +61,7 @@ fn ask_set(
     next: usize,
 ) -> Run
     requires { a.now.fixed + many ≤ 2 ^ 64 }
-    ensures { result ≡ told a.now (set_parts a.now.goto.now (numbers_in a.now) not_null ty b slot (wanted want.now) next) }
+    ensures { result ≡ answer_run a.now (set_parts a.now.goto.now (numbers_in a.now) not_null ty b slot (wanted want.now) next) }
 {
     if not_null {
         let test = jump_of(a.goto, b);
@@ -74,7 +71,7 @@ fn ask_set(
             ask_own(a, b, &Shape::Sets(slot, want, test)),
             join(
                 ask_own(a, test, &Shape::Branch(false, &null, fault, next)),
-                ask_shared(a, fault, &Shape::Fail(NULL_NOT_ALLOWED)),
+                ask_shared(a, fault, &Shape::Fail(sqlstate::NULL_VALUE_NOT_ALLOWED)),
             ),
         )
     } else {
@@ -92,7 +89,7 @@ pub(crate) fn ask_slot(
     next: usize,
 ) -> Run
     requires { a.now.fixed + many ≤ 2 ^ 64 }
-    ensures { result ≡ told a.now (slot_parts a.now.goto.now (numbers_in a.now) s b slot (wanted want.now) next) }
+    ensures { result ≡ answer_run a.now (slot_parts a.now.goto.now (numbers_in a.now) s b slot (wanted want.now) next) }
 {
     match s {
         None => ask_set(a, false, Ty::Bigint, b, slot, want, next),
@@ -109,7 +106,7 @@ pub(crate) fn ask_leave(
     to: usize,
     next: usize,
 ) -> Run
-    ensures { result ≡ told a.now (leave_parts a.now.goto.now (numbers_in a.now) when.now expr b to next) }
+    ensures { result ≡ answer_run a.now (leave_parts a.now.goto.now (numbers_in a.now) when.now expr b to next) }
 {
     match when {
         None => ask_own(a, b, &Shape::Jump(false, to)),
@@ -126,7 +123,7 @@ pub(crate) fn ask_exit(
     to: usize,
     next: usize,
 ) -> Run
-    ensures { result ≡ told a.now (exit_parts a.now.goto.now (numbers_in a.now) when.now expr b to next) }
+    ensures { result ≡ answer_run a.now (exit_parts a.now.goto.now (numbers_in a.now) when.now expr b to next) }
 {
     if b == a.goto.entry as usize {
         ask_never(a)

@@ -7,7 +7,7 @@ ghost use Rattle.block_forms.specs.Patterns as form;
 ghost use Rattle.plsql_meaning.specs.Statements as meaning;
 ghost use Rattle.block_forms.specs.Laid.{a_node, after, laid, laid_row, laid_arms, row_size, arms_size, decls_size, kind_size, row_parts, arms_parts, decls_parts};
 ghost use Rattle.goto_check.specs.Asking.{IsAsked, numbers_in, setting_in};
-ghost use Rattle.goto_check.specs.Told.{told};
+ghost use Rattle.goto_check.specs.AnswerRuns.{answer_run};
 ghost use Rattle.goto_check.specs.Enclosing.{around_of};
 ghost use Rattle.goto_check.specs.Room.{here, Room, Small};
 ghost use Rattle.goto_check.specs.Runs.{join};
@@ -25,11 +25,8 @@ use crate::sizes::{decl_size, decls_size, kind_size, size_of};
 use crate::spots::{Spot, after, spot_of};
 use away_trees::{Arm, Decl, Expr, LoopKind, Raised, Stmt};
 use away_types::Slot;
-use away_values::{Class, Name, Ty};
+use away_values::{Class, Name, Ty, sqlstate};
 use block_forms::Goto;
-
-/// case_not_found
-const CASE_NOT_FOUND: Class = Class { code: *b"20000" };
 
 /// The first block of so many nodes, or what follows where there is none.
 pub(crate) fn first_block(a: &Asking<'_>, many: usize, i: usize, next: usize) -> usize
@@ -56,7 +53,7 @@ fn default_term<'a>(a: &Asking<'_>, default: &'a Option<Expr>, ty: Ty, expr: usi
 
 fn ask_decl(a: &Asking<'_>, d: &Decl, p: Spot, next: usize) -> Run
     requires { Room (numbers_in a.now) (here p) }
-    ensures { result ≡ told a.now (l.decl_parts (setting_in a.now) d.now (here p) next) }
+    ensures { result ≡ answer_run a.now (l.decl_parts (setting_in a.now) d.now (here p) next) }
 {
     let default = default_term(a, &d.default, d.ty, p.expr);
     ask_slot(
@@ -69,10 +66,10 @@ fn ask_decl(a: &Asking<'_>, d: &Decl, p: Spot, next: usize) -> Run
     )
 }
 
-#[tactic(auto, using(crate::proofs::Telling::told_rules, crate::proofs::Rooms::room_rules))]
+#[tactic(auto, using(crate::proofs::AnswerRules::answer_rules, crate::proofs::Rooms::room_rules))]
 fn ask_decls(a: &Asking<'_>, decls: &[Decl], p: Spot, next: usize) -> Run
     requires { Room (numbers_in a.now) (after (here p) (decls_size decls.now)) }
-    ensures { result ≡ told a.now (decls_parts (setting_in a.now) decls.now (here p) next) }
+    ensures { result ≡ answer_run a.now (decls_parts (setting_in a.now) decls.now (here p) next) }
 {
     match decls {
         [] => Run::Empty,
@@ -85,7 +82,7 @@ fn ask_decls(a: &Asking<'_>, decls: &[Decl], p: Spot, next: usize) -> Run
 
 fn ask_assign(a: &Asking<'_>, slot: Option<u32>, e: &Expr, p: Spot, next: usize) -> Run
     requires { Room (numbers_in a.now) (here p) }
-    ensures { result ≡ told a.now (l.assign_parts (setting_in a.now) slot e.now (here p) next) }
+    ensures { result ≡ answer_run a.now (l.assign_parts (setting_in a.now) slot e.now (here p) next) }
 {
     match slot {
         None => ask_own(a, node(a.goto, p.node), &Shape::Jump(false, next)),
@@ -113,9 +110,9 @@ struct Tested {
 }
 
 /// What follows where no arm is taken and there is no ELSE.
-#[tactic(auto, using(crate::proofs::Telling::told_rules))]
+#[tactic(auto, using(crate::proofs::AnswerRules::answer_rules))]
 fn ask_lack(a: &Asking<'_>, tested: Tested, without: Option<Class>, next: usize) -> Answer
-    ensures run { result.run ≡ join tested.run (told a.now (l.lack_parts (setting_in a.now) without tested.lack next)) }
+    ensures run { result.run ≡ join tested.run (answer_run a.now (l.lack_parts (setting_in a.now) without tested.lack next)) }
     ensures end { result.end ≡ tested.end }
 {
     let run = match without {
@@ -158,20 +155,20 @@ fn follows(a: &Asking<'_>, s: &Stmt, p: Spot, many: usize, next: usize) -> usize
 }
 
 fn ask_return(a: &Asking<'_>, e: &Expr, p: Spot) -> Run
-    ensures { result ≡ told a.now (form.own (form.node a.now.goto.now p.node) (form.returns (form.source_term p.expr e.now)) ∷ []) }
+    ensures { result ≡ answer_run a.now (form.own (form.node a.now.goto.now p.node) (form.returns (form.source_term p.expr e.now)) ∷ []) }
 {
     let term = source_term(p.expr, e);
     ask_own(a, node(a.goto, p.node), &Shape::Return(&term))
 }
 
 fn ask_raise(a: &Asking<'_>, raised: &Raised, p: Spot) -> Run
-    ensures { result ≡ told a.now (form.shared (form.node a.now.goto.now p.node) (form.fails (meaning.class_of raised.now)) ∷ []) }
+    ensures { result ≡ answer_run a.now (form.shared (form.node a.now.goto.now p.node) (form.fails (meaning.class_of raised.now)) ∷ []) }
 {
     ask_shared(a, node(a.goto, p.node), &Shape::Fail(class_of(raised)))
 }
 
 #[cycle(stand)]
-#[tactic(auto, using(crate::proofs::Telling::told_rules, crate::proofs::Equations::laid_rules, crate::proofs::Rooms::room_rules))]
+#[tactic(auto, using(crate::proofs::AnswerRules::answer_rules, crate::proofs::Equations::laid_rules, crate::proofs::Rooms::room_rules))]
 pub(crate) fn ask_statement(
     a: &Asking<'_>,
     s: &Stmt,
@@ -180,7 +177,7 @@ pub(crate) fn ask_statement(
     next: usize,
 ) -> Answer
     requires { Room (numbers_in a.now) (after (here p) (laid s.now).size) }
-    ensures run { result.run ≡ told a.now ((laid s.now).parts (setting_in a.now) (here p) (around_of around.now) next) }
+    ensures run { result.run ≡ answer_run a.now ((laid s.now).parts (setting_in a.now) (here p) (around_of around.now) next) }
     ensures end { here result.end ≡ after (here p) (laid s.now).size }
 {
     match s {
@@ -200,7 +197,7 @@ pub(crate) fn ask_statement(
         Stmt::Cases(arms, other) => {
             let tested = ask_tests(a, arms.as_slice(), p, around, next);
             match other {
-                None => ask_lack(a, tested, Some(CASE_NOT_FOUND), next),
+                None => ask_lack(a, tested, Some(sqlstate::CASE_NOT_FOUND), next),
                 Some(body) => ask_else(a, tested, body.as_slice(), around, next),
             }
         }
@@ -239,10 +236,10 @@ pub(crate) fn ask_statement(
 }
 
 #[cycle(stand)]
-#[tactic(auto, using(crate::proofs::Telling::told_rules, crate::proofs::Rooms::room_rules))]
+#[tactic(auto, using(crate::proofs::AnswerRules::answer_rules, crate::proofs::Rooms::room_rules))]
 fn ask_row(a: &Asking<'_>, list: &[Stmt], p: Spot, around: &Enclosing<'_>, next: usize) -> Answer
     requires { Room (numbers_in a.now) (after (here p) (row_size (laid_row list.now))) }
-    ensures run { result.run ≡ told a.now (row_parts (setting_in a.now) (laid_row list.now) (here p) (around_of around.now) next) }
+    ensures run { result.run ≡ answer_run a.now (row_parts (setting_in a.now) (laid_row list.now) (here p) (around_of around.now) next) }
     ensures end { here result.end ≡ after (here p) (row_size (laid_row list.now)) }
 {
     let mut run = Run::Empty;
@@ -258,7 +255,7 @@ fn ask_row(a: &Asking<'_>, list: &[Stmt], p: Spot, around: &Enclosing<'_>, next:
 }
 
 #[cycle(stand)]
-#[tactic(auto, using(crate::proofs::Telling::told_rules, crate::proofs::Rooms::room_rules))]
+#[tactic(auto, using(crate::proofs::AnswerRules::answer_rules, crate::proofs::Rooms::room_rules))]
 fn ask_block(
     a: &Asking<'_>,
     label: &Option<Name>,
@@ -269,7 +266,8 @@ fn ask_block(
     next: usize,
 ) -> Answer
     requires { Room (numbers_in a.now) (after (here p) (after (after a_node (decls_size decls.now)) (row_size (laid_row body.now)))) }
-    ensures run { result.run ≡ told a.now (l.block_parts (setting_in a.now) label.now decls.now (laid_row body.now) (here p) (around_of around.now) next) }
+    ensures run { result.run ≡ answer_run a.now (l.block_parts (setting_in a.now) label.now decls.now (laid_row body.now) (here p)
+        (around_of around.now) next) }
     ensures end { here result.end ≡ after (here p) (after (after a_node (decls_size decls.now)) (row_size (laid_row body.now))) }
 {
     let one = spot_of(1, 0, 0, 0);
@@ -287,7 +285,7 @@ fn ask_block(
 }
 
 #[cycle(stand)]
-#[tactic(auto, using(crate::proofs::Telling::told_rules, crate::proofs::Rooms::room_rules))]
+#[tactic(auto, using(crate::proofs::AnswerRules::answer_rules, crate::proofs::Rooms::room_rules))]
 fn ask_loop(
     a: &Asking<'_>,
     label: &Option<Name>,
@@ -298,7 +296,7 @@ fn ask_loop(
     next: usize,
 ) -> Answer
     requires { Room (numbers_in a.now) (after (here p) (after (kind_size kind.now) (row_size (laid_row body.now)))) }
-    ensures run { result.run ≡ told a.now (l.loop_parts (setting_in a.now) label.now kind.now (laid_row body.now) (here p) (around_of around.now) next) }
+    ensures run { result.run ≡ answer_run a.now (l.loop_parts (setting_in a.now) label.now kind.now (laid_row body.now) (here p) (around_of around.now) next) }
     ensures end { here result.end ≡ after (here p) (after (kind_size kind.now) (row_size (laid_row body.now))) }
 {
     let again = turns_to(a, kind, p);
@@ -313,7 +311,7 @@ fn ask_loop(
 }
 
 #[cycle(stand)]
-#[tactic(auto, using(crate::proofs::Telling::told_rules, crate::proofs::Rooms::room_rules, crate::proofs::Equations::laid_arm_is))]
+#[tactic(auto, using(crate::proofs::AnswerRules::answer_rules, crate::proofs::Rooms::room_rules, crate::proofs::Equations::laid_arm_is))]
 fn ask_arms(
     a: &Asking<'_>,
     arms: &[Arm],
@@ -323,7 +321,7 @@ fn ask_arms(
     b: usize,
 ) -> Tested
     requires { Room (numbers_in a.now) (after (here p) (arms_size (laid_arms arms.now))) }
-    ensures run { result.run ≡ told a.now (arms_parts (setting_in a.now) (laid_arms arms.now) (here p) (around_of around.now) next b) }
+    ensures run { result.run ≡ answer_run a.now (arms_parts (setting_in a.now) (laid_arms arms.now) (here p) (around_of around.now) next b) }
     ensures end { here result.end ≡ after (here p) (arms_size (laid_arms arms.now)) }
     ensures lack { result.lack ≡ l.lack (setting_in a.now) (laid_arms arms.now) b }
 {
@@ -355,7 +353,8 @@ fn ask_arms(
 #[tactic(auto, using(crate::proofs::Rooms::room_rules))]
 fn ask_tests(a: &Asking<'_>, arms: &[Arm], p: Spot, around: &Enclosing<'_>, next: usize) -> Tested
     requires { Room (numbers_in a.now) (after (here p) (after a_node (arms_size (laid_arms arms.now)))) }
-    ensures run { result.run ≡ told a.now (arms_parts (setting_in a.now) (laid_arms arms.now) (after (here p) a_node) (around_of around.now) next (form.node a.now.goto.now p.node)) }
+    ensures run { result.run ≡ answer_run a.now (arms_parts (setting_in a.now) (laid_arms arms.now) (after (here p) a_node) (around_of around.now) next
+        (form.node a.now.goto.now p.node)) }
     ensures end { here result.end ≡ after (here p) (after a_node (arms_size (laid_arms arms.now))) }
     ensures lack { result.lack ≡ l.lack (setting_in a.now) (laid_arms arms.now) (form.node a.now.goto.now p.node) }
 {
@@ -365,7 +364,7 @@ fn ask_tests(a: &Asking<'_>, arms: &[Arm], p: Spot, around: &Enclosing<'_>, next
 
 /// The ELSE behind the arms.
 #[cycle(stand)]
-#[tactic(auto, using(crate::proofs::Telling::told_rules, crate::proofs::Rooms::room_rules))]
+#[tactic(auto, using(crate::proofs::AnswerRules::answer_rules, crate::proofs::Rooms::room_rules))]
 fn ask_else(
     a: &Asking<'_>,
     tested: Tested,
@@ -374,7 +373,8 @@ fn ask_else(
     next: usize,
 ) -> Answer
     requires { Room (numbers_in a.now) (after (here tested.end) (after a_node (row_size (laid_row body.now)))) }
-    ensures run { result.run ≡ join tested.run (told a.now (l.else_parts (setting_in a.now) (Some (laid_row body.now)) None (here tested.end) (around_of around.now) next tested.lack)) }
+    ensures run { result.run ≡ join tested.run (answer_run a.now
+        (l.else_parts (setting_in a.now) (Some (laid_row body.now)) None (here tested.end) (around_of around.now) next tested.lack)) }
     ensures end { here result.end ≡ after (here tested.end) (after a_node (row_size (laid_row body.now))) }
 {
     let q = tested.end;

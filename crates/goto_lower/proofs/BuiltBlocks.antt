@@ -12,7 +12,7 @@ use Rattle.block_forms.specs.Around.{Around}
 use Rattle.block_forms.specs.declared.forms.Block.{Block}
 use Rattle.block_forms.specs.Patterns.{node, set_parts, slot_parts}
 use Rattle.plsql_meaning.specs.Outcomes.{Label}
-use Rattle.block_forms.specs.declared.places.Place.{Place}
+use Rattle.block_forms.specs.declared.places.Position.{Position}
 use Rattle.block_forms.specs.Laid.{Laid, Setting, after, place, nothing, decl_size, decls_size, default_term, decl_parts, decls_parts, first_block, row_parts, laying, a_node}
 use Rattle.goto_lower.specs.Building.{Built, row_many, row_first, row_blocks, row_firsts, row_vars, set_blocks, set_many, decls_many, decls_first, decls_firsts, decls_blocks, default_of, built_step}
 use Rattle.goto_lower.proofs.BuiltRows.{Good, GoodRow, row_size_same, row_many_is, row_nodes_are, row_vars_are, row_first_is, row_stands, node_is}
@@ -30,14 +30,14 @@ module _ (s : Setting) where
   abbrev firsts_of : List Decl → ℕ → List ℕ
   firsts_of ds start = decls_firsts ds start
 
-  abbrev blocks_of : List Decl → Place → ℕ → ℕ → List Block
+  abbrev blocks_of : List Decl → Position → ℕ → ℕ → List Block
   blocks_of ds p next start = decls_blocks s.numbers ds p next start
 
   default_same : (e : Option Expr) (t : Ty) (k : ℕ) → default_of s.numbers e t k ≡ default_term s e t k
   default_same None t k = refl
   default_same (Some e) t k = refl
 
-  decls_many_is : (ds : List Decl) (p : Place) (next start : ℕ) → length (blocks_of ds p next start) ≡ many_of ds
+  decls_many_is : (ds : List Decl) (p : Position) (next start : ℕ) → length (blocks_of ds p next start) ≡ many_of ds
   decls_many_is [] p next start = refl
   decls_many_is (d ∷ ds) p next start =
       let e = default_of s.numbers d.default d.ty p.expr in
@@ -57,7 +57,7 @@ module _ (s : Setting) where
   decls_first_is [] i start next ns = refl
   decls_first_is (d ∷ ds) i start next ns = node_is s i start (seg_head s.goto.nodes (firsts_of ds (start + set_many d.not_null)) start i ns)
 
-  decls_stand : (ds : List Decl) (p : Place) (next start : ℕ) → Seg s.goto.blocks start (blocks_of ds p next start) → Seg s.goto.nodes p.node (firsts_of ds start) → Seg s.slots p.slot (map slot_of ds) → Fine s.goto.blocks start (many_of ds) (decls_parts s ds p next)
+  decls_stand : (ds : List Decl) (p : Position) (next start : ℕ) → Seg s.goto.blocks start (blocks_of ds p next start) → Seg s.goto.nodes p.node (firsts_of ds start) → Seg s.slots p.slot (map slot_of ds) → Fine s.goto.blocks start (many_of ds) (decls_parts s ds p next)
   decls_stand [] p next start bs ns vs = (tt, refl)
   decls_stand (d ∷ ds) p next start bs ns vs =
       let B = s.goto.blocks in

@@ -7,7 +7,7 @@ use Rattle.away_types.specs.declared.slots.Slot.{Slot}
 use Rattle.block_forms.specs.Around.{Around}
 use Rattle.block_forms.specs.declared.forms.Block.{Block}
 use Rattle.block_forms.specs.Patterns.{source_term, branches, fails, Part, own, same, node, no_of, end_in, no_in}
-use Rattle.block_forms.specs.declared.places.Place.{Place}
+use Rattle.block_forms.specs.declared.places.Position.{Position}
 use Rattle.block_forms.specs.Laid.{Laid, LaidArm, Setting, after, place, nothing, first_block, row_parts, arms_parts, else_parts, branch_parts, lack, a_node, with_expr}
 use Rattle.block_forms.specs.Laid as l
 use Rattle.goto_lower.specs.Building.{Built, BuiltArm, row_many, row_first, row_blocks, row_firsts, row_vars, arm_size, arms_vars, arms_many, arms_first, arms_blocks, arms_firsts, branched}
@@ -29,7 +29,7 @@ module _ (s : Setting) where
   GoodArms (x ∷ xs) [] = ⊥
   GoodArms (x ∷ xs) (y ∷ ys) = GoodArm x y × GoodArms xs ys
 
-  abbrev Blocks : List BuiltArm → Place → Around → ℕ → ℕ → ℕ → List Block
+  abbrev Blocks : List BuiltArm → Position → Around → ℕ → ℕ → ℕ → List Block
   Blocks ys p around next lck start = arms_blocks ys p around next lck start
 
   arms_size_same : (xs : List LaidArm) (ys : List BuiltArm) → GoodArms xs ys → l.arms_size xs ≡ b.arms_size ys
@@ -47,7 +47,7 @@ module _ (s : Setting) where
   abbrev firsts_of : List BuiltArm → ℕ → ℕ → List ℕ
   firsts_of ys next start = arms_firsts ys next start
 
-  arms_many_is : (xs : List LaidArm) (ys : List BuiltArm) → GoodArms xs ys → (p : Place) (around : Around) (next lck start : ℕ) → length (Blocks ys p around next lck start) ≡ many_of ys
+  arms_many_is : (xs : List LaidArm) (ys : List BuiltArm) → GoodArms xs ys → (p : Position) (around : Around) (next lck start : ℕ) → length (Blocks ys p around next lck start) ≡ many_of ys
   arms_many_is [] [] good p around next lck start = refl
   arms_many_is [] (y ∷ ys) good p around next lck start = absurd good
   arms_many_is (x ∷ xs) [] good p around next lck start = absurd good
@@ -58,7 +58,7 @@ module _ (s : Setting) where
   arms_nodes_are [] [] good next start = refl
   arms_nodes_are [] (y ∷ ys) good next start = absurd good
   arms_nodes_are (x ∷ xs) (y ∷ ys) good next start =
-      omega (arith, length-append (row_firsts y.body (start + 1) next) (firsts_of ys next (start + (1 + row_many y.body))), row_nodes_are s x.body y.body good.0.body (start + 1) next, arms_nodes_are xs ys good.1 next (start + (1 + row_many y.body)), ap (λ (z : Place). z.node) good.0.size_is)
+      omega (arith, length-append (row_firsts y.body (start + 1) next) (firsts_of ys next (start + (1 + row_many y.body))), row_nodes_are s x.body y.body good.0.body (start + 1) next, arms_nodes_are xs ys good.1 next (start + (1 + row_many y.body)), ap (λ (z : Position). z.node) good.0.size_is)
   arms_nodes_are (x ∷ xs) [] good next start = absurd good
 
   arms_vars_are : (xs : List LaidArm) (ys : List BuiltArm) → GoodArms xs ys → length (arms_vars ys) ≡ (l.arms_size xs).slot
@@ -66,9 +66,9 @@ module _ (s : Setting) where
   arms_vars_are [] (y ∷ ys) good = absurd good
   arms_vars_are (x ∷ xs) [] good = absurd good
   arms_vars_are (x ∷ xs) (y ∷ ys) good =
-      omega (arith, length-append (row_vars y.body) (arms_vars ys), row_vars_are s x.body y.body good.0.body, arms_vars_are xs ys good.1, ap (λ (z : Place). z.slot) good.0.size_is)
+      omega (arith, length-append (row_vars y.body) (arms_vars ys), row_vars_are s x.body y.body good.0.body, arms_vars_are xs ys good.1, ap (λ (z : Position). z.slot) good.0.size_is)
 
-  arms_stand : (xs : List LaidArm) (ys : List BuiltArm) → GoodArms xs ys → (p : Place) (around : Around) (next lck start : ℕ) → s.goto.entry < start → Seg s.goto.blocks start (Blocks ys p around next lck start) → Seg s.goto.nodes p.node (firsts_of ys next start) → Seg s.slots p.slot (arms_vars ys) →
+  arms_stand : (xs : List LaidArm) (ys : List BuiltArm) → GoodArms xs ys → (p : Position) (around : Around) (next lck start : ℕ) → s.goto.entry < start → Seg s.goto.blocks start (Blocks ys p around next lck start) → Seg s.goto.nodes p.node (firsts_of ys next start) → Seg s.slots p.slot (arms_vars ys) →
       Fine s.goto.blocks start (many_of ys) (arms_parts s xs p around next (first_of ys start lck)) × (lack s xs (first_of ys start lck) ≡ lck)
   arms_stand [] [] good p around next lck start late bs ns vs = ((tt, refl), refl)
   arms_stand [] (y ∷ ys) good p around next lck start late bs ns vs = absurd good
@@ -90,13 +90,13 @@ module _ (s : Setting) where
       let no : no_of s.goto start ≡ other = ap (end_in no_in) h0 in
       let first_is : first_block s (length x.body) (p.node + 1) next ≡ row_first y.body (start + 1) next = row_first_is s x.body y.body good.0.body (p.node + 1) (start + 1) next ns2 in
       let at_then : (start + 1) + row_many y.body ≡ then = omega arith in
-      let at_node : (p.node + 1) + (l.row_size x.body).node ≡ (after p x.size).node = omega (arith, ap (λ (z : Place). z.node) good.0.size_is) in
+      let at_node : (p.node + 1) + (l.row_size x.body).node ≡ (after p x.size).node = omega (arith, ap (λ (z : Position). z.node) good.0.size_is) in
       let bs2 : Seg B then rest_blocks = subst (λ k. Seg B k rest_blocks) at_then (seg_right B body_blocks rest_blocks (start + 1) (row_many y.body) (row_many_is s x.body y.body good.0.body (after p with_expr) around next (start + 1)) bs1) in
       let ns3 : Seg N (after p x.size).node rest_firsts = subst (λ k. Seg N k rest_firsts) at_node (seg_right N body_firsts rest_firsts (p.node + 1) (l.row_size x.body).node (row_nodes_are s x.body y.body good.0.body (start + 1) next) ns1) in
       let V = s.slots in
       let at_body : p.slot ≡ (after p with_expr).slot = omega arith in
       let vs1 : Seg V (after p with_expr).slot (row_vars y.body) = subst (λ k. Seg V k (row_vars y.body)) at_body (seg_left V (row_vars y.body) (arms_vars ys) p.slot vs) in
-      let at_rest : p.slot + (l.row_size x.body).slot ≡ (after p x.size).slot = omega (arith, ap (λ (z : Place). z.slot) good.0.size_is) in
+      let at_rest : p.slot + (l.row_size x.body).slot ≡ (after p x.size).slot = omega (arith, ap (λ (z : Position). z.slot) good.0.size_is) in
       let vs2 : Seg V (after p x.size).slot (arms_vars ys) = subst (λ k. Seg V k (arms_vars ys)) at_rest (seg_right V (row_vars y.body) (arms_vars ys) p.slot (l.row_size x.body).slot (row_vars_are s x.body y.body good.0.body) vs) in
       let rec = arms_stand xs ys good.1 (after p x.size) around next lck then (omega (arith, late)) (subst (λ z. Seg B then (Blocks ys (after p z) around next lck then)) (sym good.0.size_same) bs2) ns3 vs2 in
       let own_body = row_stands s x.body y.body good.0.body (after p with_expr) around next (start + 1) (omega (arith, late)) (seg_left B body_blocks rest_blocks (start + 1) bs1) ns2 vs1 in
@@ -125,7 +125,7 @@ module _ (s : Setting) where
   Made ys other without = branched ys other without
 
   -- the arms, where they begin at the first block of the node
-  module _ (xs : List LaidArm) (ys : List BuiltArm) (good : GoodArms xs ys) (p : Place) (around : Around) (next lck start : ℕ) (late : s.goto.entry < start) (others : List ℕ)
+  module _ (xs : List LaidArm) (ys : List BuiltArm) (good : GoodArms xs ys) (p : Position) (around : Around) (next lck start : ℕ) (late : s.goto.entry < start) (others : List ℕ)
       (bs : Seg s.goto.blocks start (Blocks ys (after p a_node) around next lck start))
       (ns : Seg s.goto.nodes p.node (first_of ys start lck ∷ (firsts_of ys next start ++ others))) (more : List Slot) (vs : Seg s.slots p.slot (arms_vars ys ++ more)) where
     first_is : node s.goto p.node ≡ first_of ys start lck
@@ -218,5 +218,5 @@ module _ (s : Setting) where
         (fine_same B none (first_block s (length ds) (q.node + 1) next) there from (row_many cs) (lacks ∙ sym (row_first_is s ds cs row (q.node + 1) from next ns2)) inside));
   }
     where
-      made_at : Place → Place
+      made_at : Position → Position
       made_at p = after p (after a_node (b.arms_size ys))

@@ -11,7 +11,7 @@ use Rattle.block_forms.specs.declared.forms.Term.{Term}
 use Rattle.block_forms.specs.declared.forms.Block.{Block}
 use Rattle.block_forms.specs.Patterns.{source_term, is_null, not_positive, one, copy, in_range, leaves_range, moved, sets, branches, fails, own, shared, node, jump_of, yes_of, no_of, end_in, jump_in, yes_in, no_in, set_parts, bound_parts, step_parts, turn_parts, for_parts, after_bound, head_after, for_head, for_test}
 use Rattle.plsql_meaning.specs.Outcomes.{Label, null_not_allowed, invalid_parameter}
-use Rattle.block_forms.specs.declared.places.Place.{Place}
+use Rattle.block_forms.specs.declared.places.Position.{Position}
 use Rattle.block_forms.specs.Slots.{slot}
 use Rattle.block_forms.specs.Laid.{Laid, Setting, after, place, first_block, row_parts, laying, one_if}
 use Rattle.block_forms.specs.Laid as l
@@ -69,7 +69,7 @@ module _ (s : Setting) where
         ap (no_of s.goto) second ∙ ap (end_in no_in) h,
       )
 
-  turns_stand : (reverse : Bool) (p : Place) (body next head : ℕ) → Seg B head (turn_blocks s.numbers reverse p body next head) →
+  turns_stand : (reverse : Bool) (p : Position) (body next head : ℕ) → Seg B head (turn_blocks s.numbers reverse p body next head) →
       Fine B head 4 (turn_parts s.goto s.numbers reverse p.slot (cur_at s.numbers p) (cur_at s.numbers p + 1) (cur_at s.numbers p + 2) head (head + 1 + 1) body next)
       × (slice_get B (head + 1 + 1) ≡ Some (branches false (leaves_range S reverse (cur_at s.numbers p + 2) (cur_at s.numbers p)) next (head + 1 + 1 + 1)))
   turns_stand reverse p body next head bs =
@@ -110,15 +110,15 @@ module _ (s : Setting) where
   abbrev Head : Option Expr → ℕ → ℕ
   Head by start = head_at by start
 
-  abbrev Cur : Place → ℕ
+  abbrev Cur : Position → ℕ
   Cur p = cur_at s.numbers p
 
-  for_length : (reverse : Bool) (e1 e2 : Expr) (by : Option Expr) (p : Place) (body next start : ℕ) → length (for_blocks s.numbers reverse e1 e2 by p body next start) ≡ 3 + 3 + step_many by + 4
+  for_length : (reverse : Bool) (e1 e2 : Expr) (by : Option Expr) (p : Position) (body next start : ℕ) → length (for_blocks s.numbers reverse e1 e2 by p body next start) ≡ 3 + 3 + step_many by + 4
   for_length reverse e1 e2 by p body next start =
       omega (arith, step_length by (p.expr + 2) (Cur p + 2) (Head by start) (start + 3 + 3), length-append (step_blocks s.numbers by (p.expr + 2) (Cur p + 2) (Head by start) (start + 3 + 3)) (turn_blocks s.numbers reverse p body next (Head by start)))
 
   -- all blocks of a FOR but its body's, from its first one on
-  module _ (found : Found) (reverse : Bool) (e1 e2 : Expr) (by : Option Expr) (p : Place) (body next start : ℕ) (bs : Seg B start (for_blocks s.numbers reverse e1 e2 by p body next start)) where
+  module _ (found : Found) (reverse : Bool) (e1 e2 : Expr) (by : Option Expr) (p : Position) (body next start : ℕ) (bs : Seg B start (for_blocks s.numbers reverse e1 e2 by p body next start)) where
     pub for_stands : Fine B start (3 + (3 + (step_many by + 4))) (bound_parts s.goto s.numbers start (Cur p) (source_term p.expr e1) (after_bound s.goto start)
         ++ (bound_parts s.goto s.numbers (after_bound s.goto start) (Cur p + 1) (source_term (p.expr + 1) e2) (after_bound s.goto (after_bound s.goto start))
         ++ (step_parts s.goto s.numbers by (p.expr + 2) (after_bound s.goto (after_bound s.goto start)) (Cur p + 2) (for_head s.goto by start)

@@ -7,7 +7,7 @@ use Rattle.away_trees.specs.StatementAlgebra.{stmt_of}
 use Rattle.away_types.specs.declared.slots.Slot.{Slot}
 use Rattle.block_forms.specs.declared.forms.Block.{Block}
 use Rattle.block_forms.specs.declared.places.Numbers.{Numbers}
-use Rattle.block_forms.specs.declared.places.Place.{Place}
+use Rattle.block_forms.specs.declared.places.Position.{Position}
 use Rattle.block_forms.specs.Laid.{Setting, laid}
 use Rattle.block_forms.specs.Lowered.{AllStand, EachOnce, all_parts, setting, numbers_of, body_place}
 use Rattle.block_forms.specs.Patterns.{branches, leaves_range}
@@ -43,7 +43,7 @@ body_keys : (f : Function) (slots : List Slot) → OwnSlots f slots →
 unfolding built_of
 body_keys f slots owned =
     let n = numbers_of f in
-    let same : (laid f.body).size.expr ≡ (stmt_of (building n slots finish) f.body).size.expr = ap (λ (z : Place). z.expr) (size_built f slots owned) in
+    let same : (laid f.body).size.expr ≡ (stmt_of (building n slots finish) f.body).size.expr = ap (λ (z : Position). z.expr) (size_built f slots owned) in
     (keyed n slots finish f.body).keys_are (body_place f) [] finish (body_start f) (omega arith)
 
 rising : (f : Function) (slots : List Slot) → OwnSlots f slots → Rising 0 (keys (numbers_of f).fixed (built f slots).blocks)

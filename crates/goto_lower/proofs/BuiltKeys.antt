@@ -14,7 +14,7 @@ use Rattle.away_types.specs.declared.slots.Slot.{Slot}
 use Rattle.plsql_meaning.specs.Outcomes.{Label, case_not_found, invalid_parameter}
 use Rattle.block_forms.specs.declared.forms.Block.{Block}
 use Rattle.block_forms.specs.declared.forms.Term.{Term}
-use Rattle.block_forms.specs.declared.places.Place.{Place}
+use Rattle.block_forms.specs.declared.places.Position.{Position}
 use Rattle.block_forms.specs.declared.places.Numbers.{Numbers}
 use Rattle.block_forms.specs.declared.fixed_list.Fixed.{Fixed}
 use Rattle.block_forms.specs.declared.fixed_list.Fixed.TheVariants as fix
@@ -74,7 +74,7 @@ module _ (n : Numbers) where
   slot_keys None slot e next start = refl
   slot_keys (Some s) slot e next start = set_keys s.not_null s.ty slot e next start
 
-  decls_keys : (ds : List Decl) (p : Place) (next start : ℕ) → keys S (decls_blocks n ds p next start) ≡ []
+  decls_keys : (ds : List Decl) (p : Position) (next start : ℕ) → keys S (decls_blocks n ds p next start) ≡ []
   decls_keys [] p next start = refl
   decls_keys (d ∷ ds) p next start =
       let then = decls_first ds (start + set_many d.not_null) next in
@@ -92,7 +92,7 @@ module _ (n : Numbers) where
   -- ---- rows
 
   pub record Keyed (y : Built) : Type 0 where
-    pub keys_are : (p : Place) (around : Around) (next start : ℕ) → p.expr + y.size.expr ≤ S → keys S (y.blocks p around next start) ≡ curs p.fors y.size.fors
+    pub keys_are : (p : Position) (around : Around) (next start : ℕ) → p.expr + y.size.expr ≤ S → keys S (y.blocks p around next start) ≡ curs p.fors y.size.fors
 
   abbrev pub AllKeyed : List Built → Type 0
   AllKeyed [] = Unit {0}
@@ -102,7 +102,7 @@ module _ (n : Numbers) where
   ArmsKeyed [] = Unit {0}
   ArmsKeyed (y ∷ ys) = AllKeyed y.body × ArmsKeyed ys
 
-  row_keys : (ys : List Built) → AllKeyed ys → (p : Place) (around : Around) (next start : ℕ) → p.expr + (row_size ys).expr ≤ S → keys S (row_blocks ys p around next start) ≡ curs p.fors (row_size ys).fors
+  row_keys : (ys : List Built) → AllKeyed ys → (p : Position) (around : Around) (next start : ℕ) → p.expr + (row_size ys).expr ≤ S → keys S (row_blocks ys p around next start) ≡ curs p.fors (row_size ys).fors
   row_keys [] c p around next start le = refl
   row_keys (y ∷ ys) c p around next start le =
       two (y.blocks p around (row_first ys (start + y.many) next) start) (row_blocks ys (after p y.size) around next (start + y.many)) p.fors y.size.fors (row_size ys).fors
@@ -110,10 +110,10 @@ module _ (n : Numbers) where
       (row_keys ys c.1 (after p y.size) around next (start + y.many) (omega arith))
 
   -- blocks without a counter before a row, and at its end
-  before : (xs : List Block) (ys : List Built) → AllKeyed ys → (p : Place) (around : Around) (next start : ℕ) → p.expr + (row_size ys).expr ≤ S → keys S xs ≡ [] → keys S (xs ++ row_blocks ys p around next start) ≡ curs p.fors (row_size ys).fors
+  before : (xs : List Block) (ys : List Built) → AllKeyed ys → (p : Position) (around : Around) (next start : ℕ) → p.expr + (row_size ys).expr ≤ S → keys S xs ≡ [] → keys S (xs ++ row_blocks ys p around next start) ≡ curs p.fors (row_size ys).fors
   before xs ys c p around next start le none = keys_append S xs (row_blocks ys p around next start) ∙ (λ i. none i ++ row_keys ys c p around next start le i)
 
-  arms_keys : (ys : List BuiltArm) → ArmsKeyed ys → (p : Place) (around : Around) (next lack start : ℕ) → p.expr + (arms_size ys).expr ≤ S → keys S (arms_blocks ys p around next lack start) ≡ curs p.fors (arms_size ys).fors
+  arms_keys : (ys : List BuiltArm) → ArmsKeyed ys → (p : Position) (around : Around) (next lack start : ℕ) → p.expr + (arms_size ys).expr ≤ S → keys S (arms_blocks ys p around next lack start) ≡ curs p.fors (arms_size ys).fors
   arms_keys [] c p around next lack start le = refl
   arms_keys (y ∷ ys) c p around next lack start le =
       let test = branches false (source_term p.expr y.test) (row_first y.body (start + 1) next) (arms_first ys (start + (1 + row_many y.body)) lack) in
@@ -197,10 +197,10 @@ module _ (n : Numbers) where
   range_key false cur last y m = entry_key fix.AtMost (cur ∷ last ∷ []) y m (λ h. absurd (omega arith)) (λ h. absurd (omega arith))
   range_key true cur last y m = entry_key fix.AtLeast (cur ∷ last ∷ []) y m (λ h. absurd (omega arith)) (λ h. absurd (omega arith))
 
-  turn_keys : (reverse : Bool) (p : Place) (body next head : ℕ) → keys S (turn_blocks n reverse p body next head) ≡ cur_at n p ∷ []
+  turn_keys : (reverse : Bool) (p : Position) (body next head : ℕ) → keys S (turn_blocks n reverse p body next head) ≡ cur_at n p ∷ []
   turn_keys reverse p body next head = λ i. range_key reverse (cur_at n p) (cur_at n p + 1) (head + 1) next i ++ (leaves_key S reverse (cur_at n p + 2) (cur_at n p) next (head + 1 + 1 + 1) i ++ [])
 
-  for_keys : (reverse : Bool) (e1 e2 : Expr) (by : Option Expr) (p : Place) (body next start : ℕ) → keys S (for_blocks n reverse e1 e2 by p body next start) ≡ cur_at n p ∷ []
+  for_keys : (reverse : Bool) (e1 e2 : Expr) (by : Option Expr) (p : Position) (body next start : ℕ) → keys S (for_blocks n reverse e1 e2 by p body next start) ≡ cur_at n p ∷ []
   for_keys reverse e1 e2 by p body next start =
       let three = step_blocks n by (p.expr + 2) (cur_at n p + 2) (head_at by start) (start + 3 + 3) in
       let four = turn_blocks n reverse p body next (head_at by start) in

@@ -14,7 +14,7 @@ use Rattle.plsql_meaning.specs.Outcomes.{no_return}
 use Rattle.block_forms.specs.declared.forms.Block.{Block}
 use Rattle.block_forms.specs.declared.forms.Goto.{Goto}
 use Rattle.block_forms.specs.declared.places.Numbers.{Numbers}
-use Rattle.block_forms.specs.declared.places.Place.{Place}
+use Rattle.block_forms.specs.declared.places.Position.{Position}
 use Rattle.block_forms.specs.Expressions.{sources, sourcing}
 use Rattle.block_forms.specs.Laid.{Setting, laid, laying}
 use Rattle.block_forms.specs.Lowered.{Lowered, NoWayTo, BlockBelow, numbers_of, body_place, setting}
@@ -68,8 +68,8 @@ body_safe f slots owned =
     let long = slots_long f slots owned in
     let room : n.counters ≤ length slots = omega arith in
     let size = size_built f slots owned in
-    let s : (laid f.body).size.slot ≡ (stmt_of (building n slots finish) f.body).size.slot = ap (λ (z : Place). z.slot) size in
-    let h : (laid f.body).size.fors ≡ (stmt_of (building n slots finish) f.body).size.fors = ap (λ (z : Place). z.fors) size in
+    let s : (laid f.body).size.slot ≡ (stmt_of (building n slots finish) f.body).size.slot = ap (λ (z : Position). z.slot) size in
+    let h : (laid f.body).size.fors ≡ (stmt_of (building n slots finish) f.body).size.fors = ap (λ (z : Position). z.fors) size in
     (secure n (length slots) room slots finish (omega arith) f.body (own_reads f slots owned) (own_assigned f slots owned)).secure (body_place f) [] finish (body_start f) (record { slots = omega arith; hidden = omega arith }) tt (omega arith) (omega arith)
 
 all_safe : (f : Function) (slots : List Slot) → OwnSlots f slots → Every (Safe (length slots)) (built f slots).blocks

@@ -4,7 +4,7 @@ use Rattle.std.specs.Prelude.{slice_get}
 use Rattle.block_forms.specs.Around.{Around}
 use Rattle.block_forms.specs.declared.forms.Block.{Block}
 use Rattle.block_forms.specs.Patterns.{node, or_zero}
-use Rattle.block_forms.specs.declared.places.Place.{Place}
+use Rattle.block_forms.specs.declared.places.Position.{Position}
 use Rattle.block_forms.specs.Laid.{Laid, Setting, after, first_block, row_parts}
 use Rattle.block_forms.specs.Laid as l
 use Rattle.goto_lower.specs.Building.{Built, row_many, row_first, row_blocks, row_firsts, row_vars}
@@ -15,11 +15,11 @@ use Rattle.goto_lower.proofs.Covering.{Fine, fine_join}
 module _ (s : Setting) where
   pub record Good (x : Laid) (y : Built) : Type 0 where
     pub size_same : x.size ≡ y.size
-    pub many_is : (p : Place) (around : Around) (next start : ℕ) → length (y.blocks p around next start) ≡ y.many
+    pub many_is : (p : Position) (around : Around) (next start : ℕ) → length (y.blocks p around next start) ≡ y.many
     pub nodes_are : (start next : ℕ) → length (y.firsts start next) ≡ x.size.node
     pub vars_are : length y.vars ≡ x.size.slot
     pub first_is : (start next : ℕ) → slice_get (y.firsts start next) 0 ≡ Some (y.first start next)
-    pub stands : (p : Place) (around : Around) (next start : ℕ) → s.goto.entry < start → Seg s.goto.blocks start (y.blocks p around next start) → Seg s.goto.nodes p.node (y.firsts start next) → Seg s.slots p.slot y.vars → Fine s.goto.blocks start y.many (x.parts s p around next)
+    pub stands : (p : Position) (around : Around) (next start : ℕ) → s.goto.entry < start → Seg s.goto.blocks start (y.blocks p around next start) → Seg s.goto.nodes p.node (y.firsts start next) → Seg s.slots p.slot y.vars → Fine s.goto.blocks start y.many (x.parts s p around next)
 
   abbrev pub GoodRow : List Laid → List Built → Type 0
   GoodRow [] [] = Unit {0}
@@ -33,7 +33,7 @@ module _ (s : Setting) where
   row_size_same (x ∷ xs) [] good = absurd good
   row_size_same (x ∷ xs) (y ∷ ys) good = λ i. after (good.0.size_same i) (row_size_same xs ys good.1 i)
 
-  pub row_many_is : (xs : List Laid) (ys : List Built) → GoodRow xs ys → (p : Place) (around : Around) (next start : ℕ) → length (row_blocks ys p around next start) ≡ row_many ys
+  pub row_many_is : (xs : List Laid) (ys : List Built) → GoodRow xs ys → (p : Position) (around : Around) (next start : ℕ) → length (row_blocks ys p around next start) ≡ row_many ys
   row_many_is [] [] good p around next start = refl
   row_many_is [] (y ∷ ys) good p around next start = absurd good
   row_many_is (x ∷ xs) [] good p around next start = absurd good
@@ -63,7 +63,7 @@ module _ (s : Setting) where
   row_first_is (x ∷ xs) (y ∷ ys) good i start next seg =
       node_is i _ (seg_first s.goto.nodes (y.firsts start (row_first ys (start + y.many) next)) _ i (good.0.first_is start (row_first ys (start + y.many) next)) (seg_left s.goto.nodes (y.firsts start (row_first ys (start + y.many) next)) (row_firsts ys (start + y.many) next) i seg))
 
-  pub row_stands : (xs : List Laid) (ys : List Built) → GoodRow xs ys → (p : Place) (around : Around) (next start : ℕ) → s.goto.entry < start → Seg s.goto.blocks start (row_blocks ys p around next start) → Seg s.goto.nodes p.node (row_firsts ys start next) → Seg s.slots p.slot (row_vars ys) →
+  pub row_stands : (xs : List Laid) (ys : List Built) → GoodRow xs ys → (p : Position) (around : Around) (next start : ℕ) → s.goto.entry < start → Seg s.goto.blocks start (row_blocks ys p around next start) → Seg s.goto.nodes p.node (row_firsts ys start next) → Seg s.slots p.slot (row_vars ys) →
       Fine s.goto.blocks start (row_many ys) (row_parts s xs p around next)
   row_stands [] [] good p around next start late bs ns vs = (tt, refl)
   row_stands [] (y ∷ ys) good p around next start late bs ns vs = absurd good

@@ -17,7 +17,7 @@ use Rattle.plsql_meaning.specs.Outcomes.{Label, case_not_found, invalid_paramete
 use Rattle.plsql_meaning.specs.Statements.{class_of}
 use Rattle.block_forms.specs.declared.forms.Block.{Block}
 use Rattle.block_forms.specs.declared.forms.Term.{Term}
-use Rattle.block_forms.specs.declared.places.Place.{Place}
+use Rattle.block_forms.specs.declared.places.Position.{Position}
 use Rattle.block_forms.specs.declared.places.Numbers.{Numbers}
 use Rattle.block_forms.specs.Around.{Around, exit_to, again_to, exits_at, again_at}
 use Rattle.block_forms.specs.Expressions.{sourcing, in_turn, if_there, defaults}
@@ -128,7 +128,7 @@ module _ (n : Numbers) (limit : ℕ) (room : n.counters ≤ limit) where
   default_below None t k h = term_below (null_of n.fixed t) tt
   default_below (Some e) t k h = source_below k e h.0
 
-  decls_safe : (ds : List Decl) (p : Place) (next start : ℕ) → Every OwnReads (defaults ds) → p.slot + (decls_size ds).slot ≤ n.counters → 1 ≤ next → 1 ≤ start → AllSafe (decls_blocks n ds p next start)
+  decls_safe : (ds : List Decl) (p : Position) (next start : ℕ) → Every OwnReads (defaults ds) → p.slot + (decls_size ds).slot ≤ n.counters → 1 ≤ next → 1 ≤ start → AllSafe (decls_blocks n ds p next start)
   decls_safe [] p next start reads slots q r = tt
   decls_safe (d ∷ ds) p next start reads slots q r =
       let to = decls_first ds (start + set_many d.not_null) next in
@@ -171,12 +171,12 @@ module _ (n : Numbers) (limit : ℕ) (room : n.counters ≤ limit) where
   -- ---- statements
 
   -- a place whose variables and hidden slots are the function's
-  pub record Within (p size : Place) : Type 0 where
+  pub record Within (p size : Position) : Type 0 where
     pub slots : p.slot + size.slot ≤ n.counters
     pub hidden : n.counters + 3 * (p.fors + size.fors) ≤ limit
 
   pub record Secure (y : Built) : Type 0 where
-    pub secure : (p : Place) (around : Around) (next start : ℕ) → Within p y.size → GoodAround around → 1 ≤ next → 1 ≤ start → AllSafe (y.blocks p around next start)
+    pub secure : (p : Position) (around : Around) (next start : ℕ) → Within p y.size → GoodAround around → 1 ≤ next → 1 ≤ start → AllSafe (y.blocks p around next start)
 
   abbrev AllSecure : List Built → Type 0
   AllSecure ys = Every Secure ys
@@ -188,7 +188,7 @@ module _ (n : Numbers) (limit : ℕ) (room : n.counters ≤ limit) where
   row_good : (ys : List Built) → AllCounted ys → (start next : ℕ) → 1 ≤ start → 1 ≤ next → 1 ≤ row_first ys start next
   row_good ys c start next p q = subst (λ k. 1 ≤ k) (sym (row_from ys c start next)) (from_first (row_many ys) start next p q)
 
-  row_safe : (ys : List Built) → AllCounted ys → AllSecure ys → (p : Place) (around : Around) (next start : ℕ) → Within p (row_size ys) → GoodAround around → 1 ≤ next → 1 ≤ start → AllSafe (row_blocks ys p around next start)
+  row_safe : (ys : List Built) → AllCounted ys → AllSecure ys → (p : Position) (around : Around) (next start : ℕ) → Within p (row_size ys) → GoodAround around → 1 ≤ next → 1 ≤ start → AllSafe (row_blocks ys p around next start)
   row_safe [] c h p around next start w g q r = tt
   row_safe (y ∷ ys) c h p around next start w g q r =
       safe_join (y.blocks p around (row_first ys (start + y.many) next) start) (row_blocks ys (after p y.size) around next (start + y.many))
@@ -199,7 +199,7 @@ module _ (n : Numbers) (limit : ℕ) (room : n.counters ≤ limit) where
   arms_good [] start next p q = q
   arms_good (y ∷ ys) start next p q = p
 
-  arms_safe : (ys : List BuiltArm) → ArmsCounted ys → ArmsSecure ys → (p : Place) (around : Around) (next lack start : ℕ) → Within p (arms_size ys) → GoodAround around → 1 ≤ next → 1 ≤ lack → 1 ≤ start → AllSafe (arms_blocks ys p around next lack start)
+  arms_safe : (ys : List BuiltArm) → ArmsCounted ys → ArmsSecure ys → (p : Position) (around : Around) (next lack start : ℕ) → Within p (arms_size ys) → GoodAround around → 1 ≤ next → 1 ≤ lack → 1 ≤ start → AllSafe (arms_blocks ys p around next lack start)
   arms_safe [] c h p around next lack start w g q l r = tt
   arms_safe (y ∷ ys) c h p around next lack start w g q l r =
       let behind = start + (1 + row_many y.body) in (
@@ -269,7 +269,7 @@ module _ (n : Numbers) (limit : ℕ) (room : n.counters ≤ limit) where
       (set_safe true ty.Bigint slot (source_term k e) (start + 3) start lt (source_below k e h.0) (omega arith))
       (safe_branch false (not_positive n.fixed slot) (start + 3 + 1) head (term_below (not_positive n.fixed slot) (lt, tt)) (omega arith) p, (safe_fail invalid_parameter, tt))
 
-  turn_safe : (reverse : Bool) (p : Place) (body next head : ℕ) → p.slot < n.counters → n.counters + 3 * (p.fors + 1) ≤ limit → 1 ≤ body → 1 ≤ next → 1 ≤ head → AllSafe (turn_blocks n reverse p body next head)
+  turn_safe : (reverse : Bool) (p : Position) (body next head : ℕ) → p.slot < n.counters → n.counters + 3 * (p.fors + 1) ≤ limit → 1 ≤ body → 1 ≤ next → 1 ≤ head → AllSafe (turn_blocks n reverse p body next head)
   turn_safe reverse p body next head lt h q r t =
       let c0 : cur_at n p < limit = omega arith in
       let c1 : cur_at n p + 1 < limit = omega arith in
@@ -284,7 +284,7 @@ module _ (n : Numbers) (limit : ℕ) (room : n.counters ≤ limit) where
         ),
       )
 
-  for_safe : (reverse : Bool) (e1 e2 : Expr) (by : Option Expr) (p : Place) (body next start : ℕ) → OwnReads e1 → OwnReads e2 → Every OwnReads (if_there by) → p.slot < n.counters → n.counters + 3 * (p.fors + 1) ≤ limit → 1 ≤ body → 1 ≤ next → 1 ≤ start → AllSafe (for_blocks n reverse e1 e2 by p body next start)
+  for_safe : (reverse : Bool) (e1 e2 : Expr) (by : Option Expr) (p : Position) (body next start : ℕ) → OwnReads e1 → OwnReads e2 → Every OwnReads (if_there by) → p.slot < n.counters → n.counters + 3 * (p.fors + 1) ≤ limit → 1 ≤ body → 1 ≤ next → 1 ≤ start → AllSafe (for_blocks n reverse e1 e2 by p body next start)
   for_safe reverse e1 e2 by p body next start r1 r2 r3 lt h q r t =
       let c0 : cur_at n p < limit = omega arith in
       let c1 : cur_at n p + 1 < limit = omega arith in

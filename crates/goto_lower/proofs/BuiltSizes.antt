@@ -13,7 +13,7 @@ use Rattle.away_types.specs.declared.slots.Slot.{Slot}
 use Rattle.plsql_meaning.specs.Outcomes.{Label, case_not_found}
 use Rattle.block_forms.specs.declared.forms.Block.{Block}
 use Rattle.block_forms.specs.declared.forms.Term.{Term}
-use Rattle.block_forms.specs.declared.places.Place.{Place}
+use Rattle.block_forms.specs.declared.places.Position.{Position}
 use Rattle.block_forms.specs.declared.places.Numbers.{Numbers}
 use Rattle.block_forms.specs.Around.{Around}
 use Rattle.block_forms.specs.Laid.{after, decl_size, with_expr, a_node, decls_size}
@@ -22,7 +22,7 @@ use Rattle.goto_lower.specs.Building as spec
 use Rattle.goto_lower.specs.Building.{Built, BuiltArm, building, first_from, row_many, row_first, row_blocks, set_many, slot_many, set_blocks, slot_blocks, decls_many, decls_first, decls_blocks, decl_blocks, default_of, arm_size, arms_size, arms_many, arms_first, arms_blocks, branched, looped, step_many, step_blocks, head_at, turn_blocks, for_blocks, cur_at, count_size}
 
 pub record Counted (y : Built) : Type 0 where
-  pub many_is : (p : Place) (around : Around) (next start : ℕ) → length (y.blocks p around next start) ≡ y.many
+  pub many_is : (p : Position) (around : Around) (next start : ℕ) → length (y.blocks p around next start) ≡ y.many
   pub first_is : (start next : ℕ) → y.first start next ≡ first_from y.many start next
 
 abbrev pub AllCounted : List Built → Type 0
@@ -46,7 +46,7 @@ row_from (y ∷ ys) c start next =
     ∙ ap (λ k. first_from y.many start k) (row_from ys c.1 (start + y.many) next)
     ∙ two_parts y.many (row_many ys) start next
 
-pub row_length : (ys : List Built) → AllCounted ys → (p : Place) (around : Around) (next start : ℕ) → length (row_blocks ys p around next start) ≡ row_many ys
+pub row_length : (ys : List Built) → AllCounted ys → (p : Position) (around : Around) (next start : ℕ) → length (row_blocks ys p around next start) ≡ row_many ys
 row_length [] c p around next start = refl
 row_length (y ∷ ys) c p around next start =
     omega (arith, length-append (y.blocks p around (row_first ys (start + y.many) next) start) (row_blocks ys (after p y.size) around next (start + y.many)), c.0.many_is p around (row_first ys (start + y.many) next) start, row_length ys c.1 (after p y.size) around next (start + y.many))
@@ -72,7 +72,7 @@ arms_from : (ys : List BuiltArm) (start next : ℕ) → arms_first ys start next
 arms_from [] start next = refl
 arms_from (y ∷ ys) start next = let e : suc (row_many y.body + arms_many ys) ≡ (1 + row_many y.body) + arms_many ys = omega arith in ap (λ m. first_from m start next) e
 
-pub arms_length : (ys : List BuiltArm) → ArmsCounted ys → (p : Place) (around : Around) (next lack start : ℕ) → length (arms_blocks ys p around next lack start) ≡ arms_many ys
+pub arms_length : (ys : List BuiltArm) → ArmsCounted ys → (p : Position) (around : Around) (next lack start : ℕ) → length (arms_blocks ys p around next lack start) ≡ arms_many ys
 arms_length [] c p around next lack start = refl
 arms_length (y ∷ ys) c p around next lack start =
     omega (arith, length-append (row_blocks y.body (after p with_expr) around next (start + 1)) (arms_blocks ys (after p (arm_size y)) around next lack (start + (1 + row_many y.body))), row_length y.body c.0 (after p with_expr) around next (start + 1), arms_length ys c.1 (after p (arm_size y)) around next lack (start + (1 + row_many y.body)))
@@ -88,7 +88,7 @@ module _ (n : Numbers) where
   slot_length None slot e next start = refl
   slot_length (Some x) slot e next start = set_length x.not_null x.ty slot e next start
 
-  pub decls_length : (ds : List Decl) (p : Place) (next start : ℕ) → length (decls_blocks n ds p next start) ≡ decls_many ds
+  pub decls_length : (ds : List Decl) (p : Position) (next start : ℕ) → length (decls_blocks n ds p next start) ≡ decls_many ds
   decls_length [] p next start = refl
   decls_length (d ∷ ds) p next start =
       let then = decls_first ds (start + set_many d.not_null) next in
@@ -98,7 +98,7 @@ module _ (n : Numbers) where
   step_length None k slot head start = refl
   step_length (Some e) k slot head start = refl
 
-  pub for_length : (reverse : Bool) (e1 e2 : Expr) (by : Option Expr) (p : Place) (body next start : ℕ) → length (for_blocks n reverse e1 e2 by p body next start) ≡ 3 + 3 + step_many by + 4
+  pub for_length : (reverse : Bool) (e1 e2 : Expr) (by : Option Expr) (p : Position) (body next start : ℕ) → length (for_blocks n reverse e1 e2 by p body next start) ≡ 3 + 3 + step_many by + 4
   for_length reverse e1 e2 by p body next start =
       omega (arith, step_length by (p.expr + 2) (cur_at n p + 2) (head_at by start) (start + 3 + 3), length-append (step_blocks n by (p.expr + 2) (cur_at n p + 2) (head_at by start) (start + 3 + 3)) (turn_blocks n reverse p body next (head_at by start)))
 
@@ -129,7 +129,7 @@ assigned_first : (o : Option Slot) (start next : ℕ) → start ≡ first_from (
 assigned_first None start next = refl
 assigned_first (Some s) start next = let e : set_many s.not_null + 0 ≡ set_many s.not_null = omega arith in set_from s.not_null 0 start next ∙ ap (λ m. first_from m start next) e
 
-loop_counted : (label : Label) (size : Place) (head : Place → ℕ → ℕ → Block) (ys : List Built) → AllCounted ys → Counted (looped label size head ys)
+loop_counted : (label : Label) (size : Position) (head : Position → ℕ → ℕ → Block) (ys : List Built) → AllCounted ys → Counted (looped label size head ys)
 loop_counted label size head ys c = record {
   many_is = λ p around next start. omega (arith, row_length ys c (after p size) (record { label = label; exit = next; again = Some start } ∷ around) start (start + 1));
   first_is = λ start next. let e : suc (row_many ys) ≡ 1 + row_many ys = omega arith in ap (λ m. first_from m start next) e;

@@ -14,7 +14,7 @@ use Rattle.block_forms.specs.declared.forms.Term.{Term}
 use Rattle.block_forms.specs.declared.forms.Block.{Block}
 use Rattle.block_forms.specs.Patterns.{Part, own, source_term, is_null, sets, branches, jumps, fails, node, jump_of, yes_of, no_of, end_in, jump_in, yes_in, no_in, set_parts, slot_parts, leave_parts, exit_parts, never}
 use Rattle.plsql_meaning.specs.Outcomes.{Label, null_not_allowed}
-use Rattle.block_forms.specs.declared.places.Place.{Place}
+use Rattle.block_forms.specs.declared.places.Position.{Position}
 use Rattle.block_forms.specs.Laid.{Laid, Setting, after, place, nothing, first_block, row_parts, laying, a_node, with_expr}
 use Rattle.block_forms.specs.Laid as l
 use Rattle.goto_lower.specs.Building.{Built, row_many, row_first, row_blocks, row_firsts, row_vars, set_blocks, set_many, slot_blocks, slot_many, leave_block, built_step}
@@ -115,7 +115,7 @@ module _ (s : Setting) where
   -- ---- loops
 
   -- a loop whose head is one block
-  module _ (label : Label) (xs : List Laid) (ys : List Built) (good : GoodRow s xs ys) (head : ℕ → ℕ → Block) (p q : Place) (around : Around) (next start : ℕ) (late : s.goto.entry < start) (follows : q.node ≡ p.node + 1) (same_slot : q.slot ≡ p.slot)
+  module _ (label : Label) (xs : List Laid) (ys : List Built) (good : GoodRow s xs ys) (head : ℕ → ℕ → Block) (p q : Position) (around : Around) (next start : ℕ) (late : s.goto.entry < start) (follows : q.node ≡ p.node + 1) (same_slot : q.slot ≡ p.slot)
       (bs : Seg s.goto.blocks start (head (row_first ys (start + 1) start) next ∷ row_blocks ys q (record { label = label; exit = next; again = Some start } ∷ around) start (start + 1)))
       (ns : Seg s.goto.nodes p.node (start ∷ row_firsts ys (start + 1) start)) (vs : Seg s.slots p.slot (row_vars ys)) where
     abbrev Inside : ℕ → List Part

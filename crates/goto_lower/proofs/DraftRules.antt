@@ -1,7 +1,7 @@
 -- What a form that is built has, by what was pushed.
 use Rattle.std.proofs.Common.{◌≡◌, ◌≢◌, ℕ, zero, suc, ◌+◌, Bool, true, false, List, [], ◌∷◌, ◌++◌, length, Option, Some, None, refl, ap, ◌∙◌, arith, length-append, append_assoc}
 use Rattle.block_forms.specs.declared.forms.Block.{Block}
-use Rattle.block_forms.specs.declared.places.Place.{Place}
+use Rattle.block_forms.specs.declared.places.Position.{Position}
 use Rattle.block_forms.specs.declared.forms.Term.{Term}
 use Rattle.block_forms.specs.declared.places.Numbers.{Numbers}
 use Rattle.block_forms.specs.Laid.{after}
@@ -10,11 +10,11 @@ use Rattle.goto_lower.specs.declared.draft.Draft.{Draft}
 use Rattle.goto_lower.specs.Building.{first_from, bound_blocks, step_blocks, step_many}
 use Rattle.goto_lower.specs.Drafts.{extended, pushed, begun}
 
-pub begun_blocks : (size : Place) (first : ℕ) (d : Draft) → (begun size first d).blocks ≡ d.blocks
+pub begun_blocks : (size : Position) (first : ℕ) (d : Draft) → (begun size first d).blocks ≡ d.blocks
 unfolding begun
 begun_blocks size first d = refl
 
-pub begun_place : (size : Place) (first : ℕ) (d : Draft) → (begun size first d).place ≡ after d.place size
+pub begun_place : (size : Position) (first : ℕ) (d : Draft) → (begun size first d).place ≡ after d.place size
 unfolding begun
 begun_place size first d = refl
 

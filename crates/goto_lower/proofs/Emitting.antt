@@ -5,7 +5,7 @@ use Rattle.away_trees.specs.declared.queries.Expr.{Expr}
 use Rattle.away_trees.specs.declared.statements.Decl.{Decl}
 use Rattle.plsql_meaning.specs.Outcomes.{Label}
 use Rattle.block_forms.specs.declared.forms.Block.{Block}
-use Rattle.block_forms.specs.declared.places.Place.{Place}
+use Rattle.block_forms.specs.declared.places.Position.{Position}
 use Rattle.block_forms.specs.declared.places.Numbers.{Numbers}
 use Rattle.block_forms.specs.Around.{Around}
 use Rattle.block_forms.specs.Laid.{after, nothing, a_node, with_expr, decl_size, decls_size}
@@ -18,13 +18,13 @@ use Rattle.goto_lower.proofs.BuiltSizes.{Counted, AllCounted, ArmsCounted, row_f
 use Rattle.goto_lower.proofs.SizeEquations.{same_place, after_assoc, after_nothing, nothing_after}
 
 -- first blocks, blocks and a size are added
-abbrev add : List ℕ → List Block → Place → Draft → Draft
+abbrev add : List ℕ → List Block → Position → Draft → Draft
 add ns bs p d = record { nodes = d.nodes ++ ns; blocks = d.blocks ++ bs; place = after d.place p }
 
-add_add : (ns ms : List ℕ) (bs cs : List Block) (p q : Place) (d : Draft) → add ms cs q (add ns bs p d) ≡ add (ns ++ ms) (bs ++ cs) (after p q) d
+add_add : (ns ms : List ℕ) (bs cs : List Block) (p q : Position) (d : Draft) → add ms cs q (add ns bs p d) ≡ add (ns ++ ms) (bs ++ cs) (after p q) d
 add_add ns ms bs cs p q d = λ i. record { nodes = append_assoc d.nodes ns ms i; blocks = append_assoc d.blocks bs cs i; place = after_assoc d.place p q i }
 
-begun_is : (size : Place) (first : ℕ) (d : Draft) → begun size first d ≡ add (first ∷ []) [] size d
+begun_is : (size : Position) (first : ℕ) (d : Draft) → begun size first d ≡ add (first ∷ []) [] size d
 unfolding begun
 begun_is size first d = λ i. record { nodes = d.nodes ++ first ∷ []; blocks = sym (append-nil d.blocks) i; place = after d.place size }
 
@@ -36,7 +36,7 @@ abbrev Many : Draft → ℕ
 Many d = length d.blocks
 
 -- a node with its first blocks
-node_is : (size : Place) (first : ℕ) (bs : List Block) (d : Draft) → extended bs (begun size first d) ≡ add (first ∷ []) bs size d
+node_is : (size : Position) (first : ℕ) (bs : List Block) (d : Draft) → extended bs (begun size first d) ≡ add (first ∷ []) bs size d
 unfolding extended begun
 node_is size first bs d = refl
 
@@ -190,7 +190,7 @@ block_is n label ds xs c around next d =
 
 -- ---- loops
 
-pub loop_is : (label : Label) (size : Place) (head : Place → ℕ → ℕ → Block) (xs : List Built) → AllCounted xs → (around : Around) (next : ℕ) (d : Draft) →
+pub loop_is : (label : Label) (size : Position) (head : Position → ℕ → ℕ → Block) (xs : List Built) → AllCounted xs → (around : Around) (next : ℕ) (d : Draft) →
     emitted_row xs (record { label = label; exit = next; again = Some (Many d) } ∷ around) (Many d) (pushed (head d.place (first_from (row_many xs) (Many d + 1) (Many d)) next) (begun size (Many d) d))
     ≡ emitted (looped label size head xs) around next d
 loop_is label size head xs c around next d =

@@ -89,9 +89,9 @@ pub named_slots : (d : ℕ) (t : List ℕ) → slots_at d (expr.Named t) ≡ []
 unfolding slots_at
 named_slots d t = refl
 
-pub dotted_slots : (d : ℕ) (a t : List ℕ) → slots_at d (expr.Dotted a t) ≡ []
+pub qualified_slots : (d : ℕ) (a t : List ℕ) → slots_at d (expr.Dotted a t) ≡ []
 unfolding slots_at
-dotted_slots d a t = refl
+qualified_slots d a t = refl
 
 pub param_slots : (d : ℕ) (i : ℕ) (t : Ty) → slots_at d (expr.Param i t) ≡ []
 unfolding slots_at
@@ -236,7 +236,7 @@ select_slots d s =
     ∙ (let further : suc d ≡ d + 1 = omega arith in
     ap (λ k. flat_map (item_slots_at k) o.list ++ (flat_map (from_slots_at k) o.from ++ (maybe_slots_at k o.filter ++ (flat_map (key_slots_at k) o.order ++ maybe_slots_at k o.limit)))) further)
 
-pub ruleset read_rules = (maybe_none, maybe_some, int_slots, str_slots, bool_slots, null_slots, named_slots, dotted_slots, param_slots, count_rows_slots, slot_slots, column_slots, neg_slots, neg_small_slots, not_slots, is_slots, cast_slots, compare_slots, between_slots, chain_slots, one_of_slots, cases_slots, call_slots, scalar_slots, exists_slots, table_slots, sub_slots, query_slots, select_slots, flat_map_more, append_assoc, append-nil)
+pub ruleset read_rules = (maybe_none, maybe_some, int_slots, str_slots, bool_slots, null_slots, named_slots, qualified_slots, param_slots, count_rows_slots, slot_slots, column_slots, neg_slots, neg_small_slots, not_slots, is_slots, cast_slots, compare_slots, between_slots, chain_slots, one_of_slots, cases_slots, call_slots, scalar_slots, exists_slots, table_slots, sub_slots, query_slots, select_slots, flat_map_more, append_assoc, append-nil)
 
 -- of a whole expression
 pub slots_are : (x : Expr) → slots_of x ≡ first_occurrences (slots_at 0 x)

@@ -9,12 +9,12 @@ use Rattle.away_trees.specs.declared.statements.Raised.{Raised}
 use Rattle.away_trees.specs.declared.statements.Stmt.{Stmt}
 use Rattle.away_trees.specs.declared.statements.Stmt.TheVariants as stmt
 use Rattle.away_trees.proofs.StatementEquations.{of_block, of_loop, of_if, of_cases}
-use Rattle.block_forms.specs.declared.places.Place.{Place}
+use Rattle.block_forms.specs.declared.places.Position.{Position}
 use Rattle.plsql_meaning.specs.Outcomes.{Label}
 use Rattle.block_forms.specs.Laid.{Laid, laying, laid, laid_arm, laid_row, laid_arms, place, after, nothing, a_node, with_expr, one_if, decls_size, row_size, arms_size, kind_size}
 
 -- of an ELSE, with its node
-unfoldable pub size_of_else : Option (List Stmt) → Place
+unfoldable pub size_of_else : Option (List Stmt) → Position
 size_of_else None = nothing
 size_of_else (Some body) = after a_node (row_size (laid_row body))
 
@@ -80,13 +80,13 @@ size_arm x = refl
 pub same_place : (a b c d a' b' c' d' : ℕ) → a ≡ a' → b ≡ b' → c ≡ c' → d ≡ d' → place a b c d ≡ place a' b' c' d'
 same_place a b c d a' b' c' d' p q r t = λ i. place (p i) (q i) (r i) (t i)
 
-pub after_assoc : (p q r : Place) → after (after p q) r ≡ after p (after q r)
+pub after_assoc : (p q r : Position) → after (after p q) r ≡ after p (after q r)
 after_assoc p q r = same_place _ _ _ _ _ _ _ _ (omega arith) (omega arith) (omega arith) (omega arith)
 
-pub after_nothing : (p : Place) → after p nothing ≡ p
+pub after_nothing : (p : Position) → after p nothing ≡ p
 after_nothing p = same_place _ _ _ _ _ _ _ _ (omega arith) (omega arith) (omega arith) (omega arith)
 
-pub nothing_after : (p : Place) → after nothing p ≡ p
+pub nothing_after : (p : Position) → after nothing p ≡ p
 nothing_after p = same_place _ _ _ _ _ _ _ _ (omega arith) (omega arith) (omega arith) (omega arith)
 
 pub ruleset size_rules =

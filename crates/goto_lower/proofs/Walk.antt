@@ -8,7 +8,7 @@ use Rattle.away_trees.specs.declared.statements.Stmt.{Stmt}
 use Rattle.away_trees.specs.StatementAlgebra.{stmt_of, branch_of}
 use Rattle.away_types.specs.declared.slots.Slot.{Slot}
 use Rattle.block_forms.specs.declared.places.Numbers.{Numbers}
-use Rattle.block_forms.specs.declared.places.Place.{Place}
+use Rattle.block_forms.specs.declared.places.Position.{Position}
 use Rattle.block_forms.specs.declared.forms.Block.{Block}
 use Rattle.block_forms.specs.Around.{Around}
 use Rattle.block_forms.specs.Laid.{with_expr, a_node, nothing}
@@ -35,7 +35,7 @@ same_item (x ∷ xs) (suc i) z lt = same_item xs i z (omega arith)
 
 -- ---- single statements
 
-pub simple_is : (size : Place) (make : Place → Around → ℕ → Block) (around : Around) (next : ℕ) (d : Draft) →
+pub simple_is : (size : Position) (make : Position → Around → ℕ → Block) (around : Around) (next : ℕ) (d : Draft) →
     pushed (make d.place around next) (begun size (length d.blocks) d) ≡ emitted (simple size make) around next d
 unfolding extended begun emitted
 simple_is size make around next d = refl

@@ -7,7 +7,7 @@ use Rattle.plsql_meaning.specs.Outcomes.{no_return}
 use Rattle.block_forms.specs.declared.forms.Block.{Block}
 use Rattle.block_forms.specs.declared.forms.Goto.{Goto}
 use Rattle.block_forms.specs.declared.places.Numbers.{Numbers}
-use Rattle.block_forms.specs.declared.places.Place.{Place}
+use Rattle.block_forms.specs.declared.places.Position.{Position}
 use Rattle.block_forms.specs.Laid.{place, after, nothing}
 use Rattle.block_forms.specs.Lowered.{numbers_of, body_place}
 use Rattle.block_forms.specs.Patterns.{is_null, null_of, branches, jumps, returns, fails}
@@ -34,7 +34,7 @@ params_long S strict result k [] start body = refl
 params_long S false result k (p ∷ ps) start body = params_long S false result (k + 1) ps start body
 params_long S true result k (p ∷ ps) start body = omega (arith, params_long S true result (k + 1) ps (start + 2) body)
 
-one_more : (p : Place) (m : ℕ) → after (after p (place 1 0 1 0)) (place m 0 m 0) ≡ after p (place (suc m) 0 (suc m) 0)
+one_more : (p : Position) (m : ℕ) → after (after p (place 1 0 1 0)) (place m 0 m 0) ≡ after p (place (suc m) 0 (suc m) 0)
 one_more p m = same_place _ _ _ _ _ _ _ _ (omega arith) (omega arith) (omega arith) (omega arith)
 
 -- ---- parameters

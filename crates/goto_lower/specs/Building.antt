@@ -15,7 +15,7 @@ use Rattle.away_trees.specs.StatementAlgebra.{StatementAlgebra, stmt_of, branch_
 use Rattle.away_types.specs.declared.slots.Slot.{Slot}
 use Rattle.plsql_meaning.specs.Outcomes.{Label, invalid_parameter, null_not_allowed, case_not_found}
 use Rattle.plsql_meaning.specs.Statements.{class_of}
-use Rattle.block_forms.specs.declared.places.Place.{Place}
+use Rattle.block_forms.specs.declared.places.Position.{Position}
 use Rattle.block_forms.specs.declared.places.Numbers.{Numbers}
 use Rattle.block_forms.specs.Around.{Around, exit_to, again_to}
 use Rattle.block_forms.specs.declared.forms.Term.{Term}
@@ -27,10 +27,10 @@ use Rattle.block_forms.specs.Slots.{slot, slot_of}
 -- How much there is; so many blocks; the first block, from the number at which they begin and the block that follows; the blocks, from their
 -- place, what stands around them and these two; the first block of each node; the variables.
 pub record Built : Type 0 where
-  pub size : Place
+  pub size : Position
   pub many : ℕ
   pub first : ℕ → ℕ → ℕ
-  pub blocks : Place → Around → ℕ → ℕ → List Block
+  pub blocks : Position → Around → ℕ → ℕ → List Block
   pub firsts : ℕ → ℕ → List ℕ
   pub vars : List Slot
 
@@ -40,7 +40,7 @@ pub record BuiltArm : Type 0 where
 
 -- ---- rows
 
-abbrev pub row_size : List Built → Place
+abbrev pub row_size : List Built → Position
 row_size [] = nothing
 row_size (x ∷ xs) = after x.size (row_size xs)
 
@@ -52,7 +52,7 @@ abbrev pub row_first : List Built → ℕ → ℕ → ℕ
 row_first [] start next = next
 row_first (x ∷ xs) start next = x.first start (row_first xs (start + x.many) next)
 
-abbrev pub row_blocks : List Built → Place → Around → ℕ → ℕ → List Block
+abbrev pub row_blocks : List Built → Position → Around → ℕ → ℕ → List Block
 row_blocks [] p around next start = []
 row_blocks (x ∷ xs) p around next start =
     x.blocks p around (row_first xs (start + x.many) next) start ++ row_blocks xs (after p x.size) around next (start + x.many)
@@ -72,7 +72,7 @@ first_from (suc _) start next = start
 
 -- ---- what has one block and no variable
 
-abbrev pub simple : Place → (Place → Around → ℕ → Block) → Built
+abbrev pub simple : Position → (Position → Around → ℕ → Block) → Built
 simple size make = record {
   size = size;
   many = 1;
@@ -146,10 +146,10 @@ module _ (n : Numbers) where
   default_of None t k = null_of n.fixed t
   default_of (Some e) t k = source_term k e
 
-  abbrev pub decl_blocks : Decl → Place → ℕ → ℕ → List Block
+  abbrev pub decl_blocks : Decl → Position → ℕ → ℕ → List Block
   decl_blocks d p next start = set_blocks n d.not_null d.ty p.slot (default_of d.default d.ty p.expr) next start
 
-  abbrev pub decls_blocks : List Decl → Place → ℕ → ℕ → List Block
+  abbrev pub decls_blocks : List Decl → Position → ℕ → ℕ → List Block
   decls_blocks [] p next start = []
   decls_blocks (d ∷ ds) p next start =
       decl_blocks d p (decls_first ds (start + set_many d.not_null) next) start
@@ -171,10 +171,10 @@ module _ (n : Numbers) where
 
 -- ---- arms: each begins with its branch
 
-abbrev pub arm_size : BuiltArm → Place
+abbrev pub arm_size : BuiltArm → Position
 arm_size a = after with_expr (row_size a.body)
 
-abbrev pub arms_size : List BuiltArm → Place
+abbrev pub arms_size : List BuiltArm → Position
 arms_size [] = nothing
 arms_size (a ∷ rest) = after (arm_size a) (arms_size rest)
 
@@ -190,7 +190,7 @@ abbrev pub arms_first : List BuiltArm → ℕ → ℕ → ℕ
 arms_first [] start lack = lack
 arms_first (a ∷ rest) start lack = start
 
-abbrev pub arms_blocks : List BuiltArm → Place → Around → ℕ → ℕ → ℕ → List Block
+abbrev pub arms_blocks : List BuiltArm → Position → Around → ℕ → ℕ → ℕ → List Block
 arms_blocks [] p around next lack start = []
 arms_blocks (a ∷ rest) p around next lack start =
     branches false (source_term p.expr a.test) (row_first a.body (start + 1) next) (arms_first rest (start + (1 + row_many a.body)) lack)
@@ -238,7 +238,7 @@ branched arms (Some other) without = record {
 
 -- ---- LOOP and WHILE
 
-abbrev pub looped : Label → Place → (Place → ℕ → ℕ → Block) → List Built → Built
+abbrev pub looped : Label → Position → (Position → ℕ → ℕ → Block) → List Built → Built
 looped label size head body = record {
   size = after size (row_size body);
   many = 1 + row_many body;
@@ -259,7 +259,7 @@ step_many (Some e) = 5
 abbrev pub head_at : Option Expr → ℕ → ℕ
 head_at by start = start + 3 + 3 + step_many by
 
-abbrev pub count_size : Option Expr → Place
+abbrev pub count_size : Option Expr → Position
 count_size by = place 1 (2 + one_if by) 1 1
 
 module _ (n : Numbers) where
@@ -273,11 +273,11 @@ module _ (n : Numbers) where
       bound_blocks slot (source_term k e) start
       ++ (branches false (not_positive n.fixed slot) (start + 3 + 1) head ∷ fails invalid_parameter ∷ [])
 
-  abbrev pub cur_at : Place → ℕ
+  abbrev pub cur_at : Position → ℕ
   cur_at p = n.counters + 3 * p.fors
 
   -- the head, the start of a turn, the test after a turn and the next counter
-  abbrev pub turn_blocks : Bool → Place → ℕ → ℕ → ℕ → List Block
+  abbrev pub turn_blocks : Bool → Position → ℕ → ℕ → ℕ → List Block
   turn_blocks reverse p body next head =
       branches true (in_range n.fixed reverse (cur_at p) (cur_at p + 1)) (head + 1) next
       ∷ sets p.slot (copy n.fixed (cur_at p)) body
@@ -285,7 +285,7 @@ module _ (n : Numbers) where
       ∷ sets (cur_at p) (moved n.fixed reverse (cur_at p) (cur_at p + 2)) head
       ∷ []
 
-  abbrev pub for_blocks : Bool → Expr → Expr → Option Expr → Place → ℕ → ℕ → ℕ → List Block
+  abbrev pub for_blocks : Bool → Expr → Expr → Option Expr → Position → ℕ → ℕ → ℕ → List Block
   for_blocks reverse e1 e2 by p body next start =
       bound_blocks (cur_at p) (source_term p.expr e1) start
       ++ (bound_blocks (cur_at p + 1) (source_term (p.expr + 1) e2) (start + 3)

@@ -7,7 +7,7 @@ use Rattle.away_trees.specs.declared.statements.Decl.{Decl}
 use Rattle.away_trees.specs.declared.statements.Stmt.{Stmt}
 use Rattle.away_types.specs.declared.slots.Slot.{Slot}
 use Rattle.plsql_meaning.specs.Outcomes.{Label}
-use Rattle.block_forms.specs.declared.places.Place.{Place}
+use Rattle.block_forms.specs.declared.places.Position.{Position}
 use Rattle.block_forms.specs.declared.places.Numbers.{Numbers}
 use Rattle.block_forms.specs.Around.{Around}
 use Rattle.block_forms.specs.declared.forms.Block.{Block}
@@ -38,7 +38,7 @@ abbrev pub pushed : Block → Draft → Draft
 pushed x d = extended (x ∷ []) d
 
 -- a node begins
-unfoldable pub begun : Place → ℕ → Draft → Draft
+unfoldable pub begun : Position → ℕ → Draft → Draft
 begun size first d = record { nodes = d.nodes ++ first ∷ []; blocks = d.blocks; place = after d.place size }
 
 -- a statement, statements and arms, by what stands around them and by the block that follows

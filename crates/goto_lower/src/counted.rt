@@ -5,7 +5,6 @@ ghost use Rattle.goto_lower.specs.Building as spec;
 ghost use Rattle.goto_lower.specs.Drafts.{extended, count_begun};
 
 use crate::assignments::{Target, push_set};
-use crate::classes::INVALID_PARAMETER;
 use crate::counts::step_many;
 use crate::draft::Draft;
 use crate::shapes::{branches, fails, sets};
@@ -13,8 +12,8 @@ use crate::sizes::count_size;
 use crate::sums::sum;
 use crate::terms::{copy, in_range, leaves_range, moved, not_positive, one, source_term};
 use away_trees::Expr;
-use away_values::{NoMemory, Ty};
-use block_forms::{Numbers, Place, Term};
+use away_values::{NoMemory, Ty, sqlstate};
+use block_forms::{Numbers, Position, Term};
 use std::alloc::Global;
 
 /// The expressions of a FOR.
@@ -25,7 +24,7 @@ pub(crate) struct Bounds<'a> {
     pub(crate) step: &'a Option<Expr>,
 }
 
-fn cur_at(numbers: Numbers, p: Place) -> Result<u32, NoMemory>
+fn cur_at(numbers: Numbers, p: Position) -> Result<u32, NoMemory>
     ensures { IfOk result (λ k. k ≡ spec.cur_at numbers p) }
 {
     let two = sum(p.fors, p.fors)?;
@@ -79,7 +78,7 @@ fn push_step(
             push_bound(alloc, numbers, draft, slot, source_term(alloc, k, e)?)?;
             let wrong = not_positive(alloc, numbers.fixed, slot)?;
             draft.push(branches(false, wrong, fault, head))?;
-            draft.push(fails(INVALID_PARAMETER))
+            draft.push(fails(sqlstate::INVALID_PARAMETER_VALUE))
         }
     }
 }
@@ -91,7 +90,7 @@ fn push_turns(
     numbers: Numbers,
     draft: &mut Draft,
     reverse: bool,
-    at: Place,
+    at: Position,
     body: u32,
     next: u32,
 ) -> Result<(), NoMemory>

@@ -6,7 +6,7 @@ ghost use Rattle.goto_lower.specs.Drafts as spec;
 
 use crate::sums::after;
 use away_values::NoMemory;
-use block_forms::{Block, Place};
+use block_forms::{Block, Position};
 use sqlite_items::Items;
 use std::alloc::Global;
 
@@ -15,7 +15,7 @@ use std::alloc::Global;
 pub(crate) struct Draft {
     pub(crate) nodes: Items<u32>,
     pub(crate) blocks: Items<Block>,
-    pub(crate) place: Place,
+    pub(crate) place: Position,
 }
 
 impl Draft {
@@ -31,7 +31,7 @@ impl Draft {
 
     /// Begins a node with so much in it, by its first block.
     #[tactic(auto, unfolding(crate::specs::Drafts::begun, crate::specs::Drafts::extended))]
-    pub(crate) fn begin(&mut self, size: Place, first: u32) -> Result<(), NoMemory>
+    pub(crate) fn begin(&mut self, size: Position, first: u32) -> Result<(), NoMemory>
         ensures { OnOk result (self.new ≡ spec.begun size first self.old) }
     {
         self.place = after(self.place, size)?;

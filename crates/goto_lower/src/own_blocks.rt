@@ -20,7 +20,7 @@ use crate::sums::{place, sum};
 use crate::terms::source_term;
 use away_trees::{Decl, Expr, Raised};
 use away_values::NoMemory;
-use block_forms::Place;
+use block_forms::Position;
 use std::alloc::Global;
 
 /// Where a part of so many begins: at its first block, or where it is empty at what follows.
@@ -60,7 +60,7 @@ pub(crate) fn push_leave(
 }
 
 #[tactic(auto, using(crate::proofs::DraftRules::draft_rules))]
-pub(crate) fn push_jump(draft: &mut Draft, size: Place, next: u32) -> Result<(), NoMemory>
+pub(crate) fn push_jump(draft: &mut Draft, size: Position, next: u32) -> Result<(), NoMemory>
     ensures { OnOk result (draft.new ≡ pushed (patterns.jumps false next) (begun size (length draft.old.blocks) draft.old)) }
 {
     let start = draft.here()?;

@@ -6,9 +6,9 @@ ghost use Rattle.block_forms.specs.Laid as spec;
 use crate::sums::{after, place, sum};
 use away_trees::{Arm, Decl, Expr, LoopKind, Stmt};
 use away_values::NoMemory;
-use block_forms::Place;
+use block_forms::Position;
 
-pub(crate) fn optional_size(when: &Option<Expr>) -> Place
+pub(crate) fn optional_size(when: &Option<Expr>) -> Position
     ensures { result ≡ spec.place 1 (spec.one_if when.now) 0 0 }
 {
     match when {
@@ -17,7 +17,7 @@ pub(crate) fn optional_size(when: &Option<Expr>) -> Place
     }
 }
 
-pub(crate) fn decl_size(d: &Decl) -> Place
+pub(crate) fn decl_size(d: &Decl) -> Position
     ensures { result ≡ spec.decl_size d.now }
 {
     match &d.default {
@@ -26,7 +26,7 @@ pub(crate) fn decl_size(d: &Decl) -> Place
     }
 }
 
-pub(crate) fn decls_size(decls: &[Decl]) -> Result<Place, NoMemory>
+pub(crate) fn decls_size(decls: &[Decl]) -> Result<Position, NoMemory>
     ensures { IfOk result (λ p. p ≡ spec.decls_size decls.now) }
 {
     let mut total = place(0, 0, 0, 0);
@@ -36,7 +36,7 @@ pub(crate) fn decls_size(decls: &[Decl]) -> Result<Place, NoMemory>
     Ok(total)
 }
 
-pub(crate) fn count_size(step: &Option<Expr>) -> Place
+pub(crate) fn count_size(step: &Option<Expr>) -> Position
     ensures { result ≡ spec.place 1 (2 + spec.one_if step.now) 1 1 }
 {
     match step {
@@ -45,7 +45,7 @@ pub(crate) fn count_size(step: &Option<Expr>) -> Place
     }
 }
 
-fn kind_size(kind: &LoopKind) -> Place
+fn kind_size(kind: &LoopKind) -> Position
     ensures { result ≡ spec.kind_size kind.now }
 {
     match kind {
@@ -57,7 +57,7 @@ fn kind_size(kind: &LoopKind) -> Place
 
 #[cycle(size)]
 #[tactic(auto, using(crate::proofs::SizeEquations::size_rules))]
-pub(crate) fn size_of(s: &Stmt) -> Result<Place, NoMemory>
+pub(crate) fn size_of(s: &Stmt) -> Result<Position, NoMemory>
     ensures { IfOk result (λ p. p ≡ (spec.laid s.now).size) }
 {
     match s {
@@ -85,7 +85,7 @@ pub(crate) fn size_of(s: &Stmt) -> Result<Place, NoMemory>
 
 #[cycle(size)]
 #[tactic(auto, using(crate::proofs::SizeEquations::size_rules))]
-fn size_of_row(list: &[Stmt]) -> Result<Place, NoMemory>
+fn size_of_row(list: &[Stmt]) -> Result<Position, NoMemory>
     ensures { IfOk result (λ p. p ≡ spec.row_size (spec.laid_row list.now)) }
 {
     let mut total = place(0, 0, 0, 0);
@@ -97,7 +97,7 @@ fn size_of_row(list: &[Stmt]) -> Result<Place, NoMemory>
 
 #[cycle(size)]
 #[tactic(auto, using(crate::proofs::SizeEquations::size_rules))]
-fn size_of_arm(arm: &Arm) -> Result<Place, NoMemory>
+fn size_of_arm(arm: &Arm) -> Result<Position, NoMemory>
     ensures { IfOk result (λ p. p ≡ (spec.laid_arm arm.now).size) }
 {
     after(place(1, 1, 0, 0), size_of_row(arm.body.as_slice())?)
@@ -105,7 +105,7 @@ fn size_of_arm(arm: &Arm) -> Result<Place, NoMemory>
 
 #[cycle(size)]
 #[tactic(auto, using(crate::proofs::SizeEquations::size_rules))]
-fn size_of_arms(list: &[Arm]) -> Result<Place, NoMemory>
+fn size_of_arms(list: &[Arm]) -> Result<Position, NoMemory>
     ensures { IfOk result (λ p. p ≡ spec.arms_size (spec.laid_arms list.now)) }
 {
     let mut total = place(0, 0, 0, 0);
@@ -115,7 +115,7 @@ fn size_of_arms(list: &[Arm]) -> Result<Place, NoMemory>
     Ok(total)
 }
 
-fn targets_size(targets: usize) -> Result<Place, NoMemory>
+fn targets_size(targets: usize) -> Result<Position, NoMemory>
     ensures { IfOk result (λ p. p ≡ spec.place (1 + targets) 0 0 0) }
 {
     match u32::try_from(targets) {

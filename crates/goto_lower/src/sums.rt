@@ -4,7 +4,7 @@ ghost use Rattle.std.specs.Prelude.{◌≡◌, ◌+◌, IfOk};
 ghost use Rattle.block_forms.specs.Laid as spec;
 
 use away_values::NoMemory;
-use block_forms::Place;
+use block_forms::Position;
 
 /// The sum, where it fits: no form that memory holds has more.
 pub(crate) fn sum(a: u32, b: u32) -> Result<u32, NoMemory>
@@ -16,10 +16,10 @@ pub(crate) fn sum(a: u32, b: u32) -> Result<u32, NoMemory>
     }
 }
 
-pub(crate) fn place(node: u32, expr: u32, slot: u32, fors: u32) -> Place
+pub(crate) fn place(node: u32, expr: u32, slot: u32, fors: u32) -> Position
     ensures { result ≡ spec.place node expr slot fors }
 {
-    Place {
+    Position {
         node,
         expr,
         slot,
@@ -28,10 +28,10 @@ pub(crate) fn place(node: u32, expr: u32, slot: u32, fors: u32) -> Place
 }
 
 /// What stands before, and what stands in it, together.
-pub(crate) fn after(p: Place, q: Place) -> Result<Place, NoMemory>
+pub(crate) fn after(p: Position, q: Position) -> Result<Position, NoMemory>
     ensures { IfOk result (λ r. r ≡ spec.after p q) }
 {
-    Ok(Place {
+    Ok(Position {
         node: sum(p.node, q.node)?,
         expr: sum(p.expr, q.expr)?,
         slot: sum(p.slot, q.slot)?,

@@ -1,2 +1,2 @@
 pub mod RowParts
-pub mod Folds
+pub mod Aggregates

@@ -3,7 +3,7 @@
 /// An aggregate: the number of rows, or, of the values that aren't NULL, their number, the least, the greatest, whether all are true, whether one
 /// is, or their sum.
 #[derive(Clone, Copy)]
-pub enum Fold {
+pub enum Aggregate {
     CountRows,
     Count,
     Min,

@@ -2,9 +2,9 @@
 #![tactic(auto)]
 
 mod aggregates;
+mod aggregation;
 mod cutting;
 mod extremes;
-mod folds;
 mod keeping;
 mod laws;
 mod ordering;
@@ -14,10 +14,10 @@ mod truth;
 mod value_order;
 mod widening;
 
-pub use aggregates::Fold;
+pub use aggregates::{Aggregate, Aggregate as Fold};
+pub use aggregation::{aggregate, aggregate as fold};
 pub use cutting::{cut, cut_off};
 pub use extremes::most_extreme;
-pub use folds::fold;
 pub use keeping::keep;
 pub use laws::{columns_keep_their_places, conditions_keep_rows, the_product_extends_rows};
 pub use ordering::{order, ordered_rows};

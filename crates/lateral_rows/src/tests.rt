@@ -1,6 +1,6 @@
 //! Each part of a select once, on rows of integers.
 
-use crate::{Fold, Rows, cut, extend, fold, keep, order};
+use crate::{Aggregate, Rows, aggregate, cut, extend, keep, order};
 use away_values::Value;
 use sqlite_items::Items;
 use std::process::Abort;
@@ -57,18 +57,18 @@ fn parts_of_a_select(rt: HostRuntime) {
 fn aggregates(rt: HostRuntime) {
     let column = [Value::Int(4), Value::Null, Value::Int(-6)];
     for (kind, want) in [
-        (Fold::CountRows, 3),
-        (Fold::Count, 2),
-        (Fold::Min, -6),
-        (Fold::Max, 4),
-        (Fold::Sum, -2),
+        (Aggregate::CountRows, 3),
+        (Aggregate::Count, 2),
+        (Aggregate::Min, -6),
+        (Aggregate::Max, 4),
+        (Aggregate::Sum, -2),
     ] {
-        let v = fold(rt.alloc(), kind, &column).expect(&rt, "memory");
+        let v = aggregate(rt.alloc(), kind, &column).expect(&rt, "memory");
         assert!(rt; matches!(v, Value::Int(n) if n == want));
     }
     let truths = [Value::Bool(true), Value::Null];
-    for kind in [Fold::BoolAnd, Fold::BoolOr] {
-        let v = fold(rt.alloc(), kind, &truths).expect(&rt, "memory");
+    for kind in [Aggregate::BoolAnd, Aggregate::BoolOr] {
+        let v = aggregate(rt.alloc(), kind, &truths).expect(&rt, "memory");
         assert!(rt; matches!(v, Value::Bool(true)));
     }
 }

@@ -2,7 +2,7 @@
 use Rattle.std.proofs.Common.{◌≡◌, ℕ, ◌<◌, Bool, true, false, List, ◌∷◌, Option, Some, None, refl, sym, ap, subst, lit<}
 use Rattle.away_grammar.specs.declared.grammar.Mark.{Mark}
 use Rattle.away_grammar.specs.declared.grammar.Mark.TheVariants as m
-use Rattle.away_grammar.specs.Signs.{Sign, mark, name}
+use Rattle.away_grammar.specs.Terminals.{Terminal, mark, name}
 use Rattle.away_grammar.specs.Grammar.{mark_binds, StopsAt, perhaps}
 use Rattle.away_grammar.specs.FunctionGrammar as g
 use Rattle.away_grammar.specs.FunctionGrammar.{Part, PartTree, ReadsPart, decl, default, statement, elsifs, whens, otherwise, condition, block, repeated, kind, step, parameters, signature, attribute_of, gives_default}
@@ -14,28 +14,28 @@ use Rattle.plsql_parse.specs.Stops.{closes_arms}
 
 -- ---- the first mark
 
-pub other_begins : {ts : List Sign} (first other : Mark) → ¬ (first ≡ other) → Begins ts first → ¬ (Begins ts other)
+pub other_begins : {ts : List Terminal} (first other : Mark) → ¬ (first ≡ other) → Begins ts first → ¬ (Begins ts other)
 other_begins first other h b c = h (let same : mark first ∷ b.0 ≡ mark other ∷ c.0 = cc (b.1, c.1) in cc same)
 
 -- a mark of which the test says otherwise doesn't stand next
-pub not_next : {ts : List Sign} (test : Mark → Bool) (other : Mark) → next test ts ≡ true → test other ≡ false → ¬ (Begins ts other)
+pub not_next : {ts : List Terminal} (test : Mark → Bool) (other : Mark) → next test ts ≡ true → test other ≡ false → ¬ (Begins ts other)
 not_next test other h e b = let k : next test _ ≡ test other = ap (next test) b.1 in cc (h, e, k)
 
-pub begins_next : {ts : List Sign} (test : Mark → Bool) (sign : Mark) {b : Bool} → test sign ≡ b → Begins ts sign → next test ts ≡ b
-begins_next test sign e b = let k : next test _ ≡ test sign = ap (next test) b.1 in cc (e, k)
+pub begins_next : {ts : List Terminal} (test : Mark → Bool) (terminal : Mark) {b : Bool} → test terminal ≡ b → Begins ts terminal → next test ts ≡ b
+begins_next test terminal e b = let k : next test _ ≡ test terminal = ap (next test) b.1 in cc (e, k)
 
-pub stops_at : {ts : List Sign} (sign : Mark) → mark_binds sign < 21 → Begins ts sign → StopsAt 21 ts
-stops_at sign h b = subst (λ ts. StopsAt 21 ts) (sym b.1) h
+pub stops_at : {ts : List Terminal} (terminal : Mark) → mark_binds terminal < 21 → Begins ts terminal → StopsAt 21 ts
+stops_at terminal h b = subst (λ ts. StopsAt 21 ts) (sym b.1) h
 
-closes_too : (ts : List Sign) → next closes_arms ts ≡ true → next closes ts ≡ true
+closes_too : (ts : List Terminal) → next closes_arms ts ≡ true → next closes ts ≡ true
 closes_too (mark m.End ∷ ts) e = refl
 closes_too (mark m.Else ∷ ts) e = refl
 closes_too _ e = absurd (cc e)
 
 -- ---- the parts
 
--- What the signs of the part begin with, by what stands behind it.
-abbrev pub Beginning : Part → List Sign → List Sign → Type 0
+-- What the terminals of the part begin with, by what stands behind it.
+abbrev pub Beginning : Part → List Terminal → List Terminal → Type 0
 Beginning decl ts rest = is_name ts ≡ true
 Beginning default ts rest = Begins rest m.Semicolon → ¬ (Begins ts m.Not)
 Beginning statement ts rest = next closes ts ≡ false
@@ -53,7 +53,7 @@ Beginning signature ts rest = ¬ (Begins ts m.Dot)
 Beginning attribute_of ts rest = is_over ts ≡ false
 Beginning _ ts rest = Unit {0}
 
-opens_more : (ts : List Sign) → next opens ts ≡ true → next closes ts ≡ false
+opens_more : (ts : List Terminal) → next opens ts ≡ true → next closes ts ≡ false
 opens_more (mark m.Declare ∷ ts) e = refl
 opens_more (mark m.Begin ∷ ts) e = refl
 opens_more (mark m.Loop ∷ ts) e = refl
@@ -61,22 +61,22 @@ opens_more (mark m.While ∷ ts) e = refl
 opens_more (mark m.For ∷ ts) e = refl
 opens_more _ e = absurd (cc e)
 
-labelled_begins : (ts : List Sign) (label : Option (List ℕ)) → next opens ts ≡ true → next closes (g.labelled label ts) ≡ false
+labelled_begins : (ts : List Terminal) (label : Option (List ℕ)) → next opens ts ≡ true → next closes (g.labelled label ts) ≡ false
 labelled_begins ts None e = opens_more ts e
 labelled_begins ts (Some n) e = refl
 
-no_close : (n t : List ℕ) (rest : List Sign) (w : Bool) → ¬ (Begins (perhaps w (mark m.In) (name n ∷ name t ∷ rest)) m.Close)
+no_close : (n t : List ℕ) (rest : List Terminal) (w : Bool) → ¬ (Begins (perhaps w (mark m.In) (name n ∷ name t ∷ rest)) m.Close)
 no_close n t rest true b = cc (b.1)
 no_close n t rest false b = cc (b.1)
 
-pub beginning : {p : Part} {ts : List Sign} {x : PartTree p} {rest : List Sign} → ReadsPart p ts x rest → Beginning p ts rest
+pub beginning : {p : Part} {ts : List Terminal} {x : PartTree p} {rest : List Terminal} → ReadsPart p ts x rest → Beginning p ts rest
 beginning g.no_default = λ b. other_begins m.Semicolon m.Not (λ same. absurd (cc same)) b
-beginning (g.default_of sign e d) = λ b c. (let same : sign ≡ m.Not = cc (c.1) in let k : gives_default sign ≡ false = ap gives_default same in cc (e, k))
+beginning (g.default_of terminal e d) = λ b c. (let same : terminal ≡ m.Not = cc (c.1) in let k : gives_default terminal ≡ false = ap gives_default same in cc (e, k))
 beginning (g.decl_of t e d) = refl
 beginning (g.plain_block closing d) = (refl, refl)
 beginning (g.declaring_block closing d e) = (refl, refl)
 beginning (g.block_statement label d) = let h = beginning d in labelled_begins _ label h.0
-beginning (g.assignment sign e d) = refl
+beginning (g.assignment terminal e d) = refl
 beginning g.nothing = refl
 beginning (g.return_of d) = refl
 beginning (g.no_elsif {ts = ts}) = λ h. closes_too ts h

@@ -1,6 +1,6 @@
 -- What the grammar reads and what ends it, the plan gives.
 use Rattle.std.proofs.Common.{List}
-use Rattle.away_grammar.specs.Signs.{Sign}
+use Rattle.away_grammar.specs.Terminals.{Terminal}
 use Rattle.away_grammar.specs.FunctionGrammar as g
 use Rattle.away_grammar.specs.FunctionGrammar.{Part, PartTree, ReadsPart}
 use Rattle.plsql_parse.proofs.Beginnings.{beginning}
@@ -8,16 +8,16 @@ use Rattle.plsql_parse.proofs.RunSteps.{GivenPart}
 use Rattle.plsql_parse.proofs.CompleteBodies as bodies
 use Rattle.plsql_parse.proofs.CompleteHeaders as headers
 
-pub complete : {p : Part} {ts : List Sign} {x : PartTree p} {rest : List Sign} → ReadsPart p ts x rest → GivenPart p ts x rest
+pub complete : {p : Part} {ts : List Terminal} {x : PartTree p} {rest : List Terminal} → ReadsPart p ts x rest → GivenPart p ts x rest
 complete g.no_default = bodies.given_no_default
-complete (g.default_of sign e d) = bodies.given_default_of sign e d
+complete (g.default_of terminal e d) = bodies.given_default_of terminal e d
 complete (g.decl_of {constant = constant} {v = v} t e d) = bodies.given_decl_of constant v t e (beginning d) (complete d)
 complete g.no_decl = bodies.given_no_decl
 complete (g.another_decl d e) = bodies.given_another_decl (beginning d) (complete d) (complete e)
 complete (g.plain_block closing d) = bodies.given_plain_block closing (complete d)
 complete (g.declaring_block closing d e) = bodies.given_declaring_block closing (complete d) (complete e)
 complete (g.block_statement label d) = bodies.given_block_statement label (beginning d) (complete d)
-complete (g.assignment sign e d) = bodies.given_assignment sign e d
+complete (g.assignment terminal e d) = bodies.given_assignment terminal e d
 complete g.nothing = bodies.given_nothing
 complete (g.return_of d) = bodies.given_return_of d
 complete (g.branch_of d e) = bodies.given_branch_of d (complete e)

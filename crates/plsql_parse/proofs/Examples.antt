@@ -1,7 +1,7 @@
 -- Worked examples, by computation.
 use Rattle.std.proofs.Common.{◌≡◌, ℕ, List, [], Some, None, refl}
 use Rattle.away_trees.specs.declared.statements.Stmt.{Stmt}
-use Rattle.away_grammar.specs.Signs.{Sign, word_mark, symbol_mark}
+use Rattle.away_grammar.specs.Terminals.{Terminal, word_mark, symbol_mark}
 use Rattle.away_grammar.specs.Spellings.{number}
 use Rattle.away_grammar.specs.Grammar.{type_named}
 use Rattle.away_grammar.specs.FunctionGrammar.{Part, PartTree, ReadsPart, body, function}
@@ -11,15 +11,15 @@ use Rattle.plsql_parse.specs.Plans.{any_plan, part_plan}
 use Rattle.plsql_parse.specs.Stops.{StopsPart}
 use Rattle.away_grammar.specs.OutsideWords.{is_outside}
 use Rattle.plsql_parse.specs.WorkedTokens.{OutsideWordsFound}
-use Rattle.plsql_parse.specs.WorkedSigns.{collatz_outer, collatz_body, walk_outer, walk_body, many_signs, many_statements, unpaired_signs}
+use Rattle.plsql_parse.specs.WorkedTerminals.{collatz_outer, collatz_body, walk_outer, walk_body, many_terminals, many_statements, unpaired_terminals}
 use Rattle.plsql_parse.proofs.Sound.{sound}
 use Rattle.plsql_parse.proofs.OneTree.{nothing_read}
 use Rattle.plsql_parse.proofs.Trying.{tried, tried_runs}
 
-tried_reads : {p : Part} {ts : List Sign} {x : PartTree p} {rest : List Sign} (k : ℕ) → tried any_plan k (part p) (part_plan p) ts ≡ Some (Some (x, rest)) → ReadsPart p ts x rest
+tried_reads : {p : Part} {ts : List Terminal} {x : PartTree p} {rest : List Terminal} (k : ℕ) → tried any_plan k (part p) (part_plan p) ts ≡ Some (Some (x, rest)) → ReadsPart p ts x rest
 tried_reads {p = p} {ts = ts} {x = x} {rest = rest} k e = sound (tried_runs k (part p) (part_plan p) ts (Some (x, rest)) e)
 
-tried_fails : {p : Part} {ts : List Sign} {x : PartTree p} {rest : List Sign} (k : ℕ) → tried any_plan k (part p) (part_plan p) ts ≡ Some None → ReadsPart p ts x rest → StopsPart p rest → ⊥
+tried_fails : {p : Part} {ts : List Terminal} {x : PartTree p} {rest : List Terminal} (k : ℕ) → tried any_plan k (part p) (part_plan p) ts ≡ Some None → ReadsPart p ts x rest → StopsPart p rest → ⊥
 tried_fails {p = p} {ts = ts} k e d stops = nothing_read (tried_runs k (part p) (part_plan p) ts None e) d stops
 
 pub collatz_body_read : ReadsPart body collatz_body collatz.body []
@@ -38,11 +38,11 @@ pub walk_read : ReadsPart (function walk.body) walk_outer walk []
 unfolding word_mark symbol_mark number type_named
 walk_read = tried_reads 200 refl
 
-pub many_read : ReadsPart body many_signs many_statements []
+pub many_read : ReadsPart body many_terminals many_statements []
 unfolding word_mark symbol_mark number type_named
 many_read = tried_reads 200 refl
 
-pub unpaired_unread : (x : Stmt) → ¬ (ReadsPart body unpaired_signs x [])
+pub unpaired_unread : (x : Stmt) → ¬ (ReadsPart body unpaired_terminals x [])
 unfolding word_mark symbol_mark number type_named
 unpaired_unread x d = tried_fails 200 refl d refl
 

@@ -3,17 +3,17 @@ use Rattle.std.proofs.Common.{◌≡◌, ℕ, Bool, true, false, List, [], ◌�
 use Rattle.std.specs.Prelude.{bytes_eq, codes}
 use Rattle.std.proofs.lemmas.Slice.Eq.{bytes_eq-Decides}
 use Rattle.away_grammar.specs.declared.grammar.Mark.TheVariants as m
-use Rattle.away_grammar.specs.Signs.{Sign, mark, name, integer, string, quote}
-use Rattle.away_grammar.specs.Grammar.{qualified}
+use Rattle.away_grammar.specs.Terminals.{Terminal, mark, name, integer, string, quote}
+use Rattle.away_grammar.specs.Grammar.{schema_qualified}
 use Rattle.away_grammar.specs.FunctionGrammar.{Part, perhaps_name}
 use Rattle.sql_text.specs.Plans.{Plan, done, fail, take, eat, look, read, with}
 use Rattle.sql_text.proofs.Holds.{Holds, name_taken, if_holds}
-use Rattle.plsql_parse.specs.Sorts.{part, PartPlan, ReadsAny, begins_word, eat_word, maybe_name, qualified_name, a_name, string_in, quote_in, integer_in}
+use Rattle.plsql_parse.specs.Sorts.{part, PartPlan, ReadsAny, begins_word, eat_word, maybe_name, schema_qualified_name, a_name, string_in, quote_in, integer_in}
 
 -- What holds where something is known holds where more is known.
-pub known_more : {S : Type 0} {T : S → Type 0} (D : (n : S) → List Sign → T n → List Sign → Type 0) {n : S} (p : Plan T n)
-    (Known More : List Sign → Type 0) (begun : (ts : List Sign) → Known ts → List Sign) (start : (ts : List Sign) → More ts → List Sign)
-    (less : (ts : List Sign) → More ts → Known ts) → ((ts : List Sign) (k : More ts) → start ts k ≡ begun ts (less ts k)) → Holds D n p Known begun → Holds D n p More start
+pub known_more : {S : Type 0} {T : S → Type 0} (D : (n : S) → List Terminal → T n → List Terminal → Type 0) {n : S} (p : Plan T n)
+    (Known More : List Terminal → Type 0) (begun : (ts : List Terminal) → Known ts → List Terminal) (start : (ts : List Terminal) → More ts → List Terminal)
+    (less : (ts : List Terminal) → More ts → Known ts) → ((ts : List Terminal) (k : More ts) → start ts k ≡ begun ts (less ts k)) → Holds D n p Known begun → Holds D n p More start
 known_more D {n = n} (done x) Known More begun start less same h = λ ts k. subst (λ b. D n b x ts) (sym (same ts k)) (h ts (less ts k))
 known_more D fail Known More begun start less same h = tt
 known_more D (take f) Known More begun start less same h = (
@@ -31,17 +31,17 @@ known_more D (look f p q) Known More begun start less same h = (
 known_more D (read s f) Known More begun start less same h = λ x. known_more D (f x) _ _ _ _ (λ rest k. (k.0, less k.0 k.1, k.2)) (λ rest k. same k.0 k.1) (h x)
 
 -- What has to hold of the plan of a part.
-abbrev pub PartHolds : (p : Part) → PartPlan p → (Known : List Sign → Type 0) → ((ts : List Sign) → Known ts → List Sign) → Type 0
+abbrev pub PartHolds : (p : Part) → PartPlan p → (Known : List Terminal → Type 0) → ((ts : List Terminal) → Known ts → List Terminal) → Type 0
 PartHolds p = Holds ReadsAny (part p)
 
--- a fact about the signs beside what is known
-pub beside : {p : Part} (Fact Known : List Sign → Type 0) (begun : (ts : List Sign) → Known ts → List Sign) (plan : PartPlan p)
+-- a fact about the terminals beside what is known
+pub beside : {p : Part} (Fact Known : List Terminal → Type 0) (begun : (ts : List Terminal) → Known ts → List Terminal) (plan : PartPlan p)
     → PartHolds p plan Known begun → PartHolds p plan (λ ts. Fact ts × Known ts) (λ ts k. begun ts k.1)
 beside Fact Known begun plan h = known_more ReadsAny plan Known _ begun _ (λ ts k. k.1) (λ ts k. refl) h
 
 -- Where nothing can be known, anything holds.
-nothing_known : {p : Part} (plan : PartPlan p) (Known : List Sign → Type 0) (begun : (ts : List Sign) → Known ts → List Sign)
-    → ((ts : List Sign) → Known ts → ⊥) → PartHolds p plan Known begun
+nothing_known : {p : Part} (plan : PartPlan p) (Known : List Terminal → Type 0) (begun : (ts : List Terminal) → Known ts → List Terminal)
+    → ((ts : List Terminal) → Known ts → ⊥) → PartHolds p plan Known begun
 nothing_known (done x) Known begun empty = λ ts k. absurd (empty ts k)
 nothing_known fail Known begun empty = tt
 nothing_known (take f) Known begun empty = (nothing_known (f None) _ _ (λ ts k. empty ts k.1), λ s. nothing_known (f (Some s)) _ _ (λ ts k. empty (s ∷ ts) k))
@@ -51,14 +51,14 @@ nothing_known (read s f) Known begun empty = λ x. nothing_known (f x) _ _ (λ r
 
 -- ---- a name that may be there
 
-pub maybe_name_holds : {p : Part} (Known : List Sign → Type 0) (begun : (ts : List Sign) → Known ts → List Sign) (f : Option (List ℕ) → PartPlan p)
+pub maybe_name_holds : {p : Part} (Known : List Terminal → Type 0) (begun : (ts : List Terminal) → Known ts → List Terminal) (f : Option (List ℕ) → PartPlan p)
     → ((n : Option (List ℕ)) → PartHolds p (f n) (λ ts. Known (perhaps_name n ts)) (λ ts k. begun (perhaps_name n ts) k)) → PartHolds p (maybe_name f) Known begun
 maybe_name_holds Known begun f found =
     ((tt, name_taken ReadsAny _ _ _ (λ n. beside _ _ _ (f (Some n)) (found (Some n)))), found None)
 
 -- ---- words
 
-word_named : {p : Part} (Known : List Sign → Type 0) (begun : (ts : List Sign) → Known ts → List Sign) (w z : List ℕ) (plan : PartPlan p) (b : Bool) → bytes_eq z w ≡ b
+word_named : {p : Part} (Known : List Terminal → Type 0) (begun : (ts : List Terminal) → Known ts → List Terminal) (w z : List ℕ) (plan : PartPlan p) (b : Bool) → bytes_eq z w ≡ b
     → PartHolds p plan (λ ts. Known (name w ∷ ts)) (λ ts k. begun (name w ∷ ts) k)
     → PartHolds p plan (λ ts. (bytes_eq z w ≡ true) × Known (name z ∷ ts)) (λ ts k. begun (name z ∷ ts) k.1)
 word_named {p = p} Known begun w z plan true e h =
@@ -66,41 +66,41 @@ word_named {p = p} Known begun w z plan true e h =
     beside _ _ _ plan (subst (λ y. PartHolds p plan (λ ts. Known (name y ∷ ts)) (λ ts k. begun (name y ∷ ts) k)) (sym same) h)
 word_named Known begun w z plan false e h = nothing_known plan _ _ (λ ts k. cc (e, k.0))
 
-word_taken : {p : Part} (Known : List Sign → Type 0) (begun : (ts : List Sign) → Known ts → List Sign) (w : List ℕ) (plan : PartPlan p)
+word_taken : {p : Part} (Known : List Terminal → Type 0) (begun : (ts : List Terminal) → Known ts → List Terminal) (w : List ℕ) (plan : PartPlan p)
     → PartHolds p plan (λ ts. Known (name w ∷ ts)) (λ ts k. begun (name w ∷ ts) k)
-    → (s : Sign) → PartHolds p plan (λ ts. (begins_word w (s ∷ ts) ≡ true) × Known (s ∷ ts)) (λ ts k. begun (s ∷ ts) k.1)
+    → (s : Terminal) → PartHolds p plan (λ ts. (begins_word w (s ∷ ts) ≡ true) × Known (s ∷ ts)) (λ ts k. begun (s ∷ ts) k.1)
 word_taken Known begun w plan h (name z) = word_named Known begun w z plan (bytes_eq z w) refl h
 word_taken Known begun w plan h _ = nothing_known plan _ _ (λ ts k. cc (k.0))
 
-no_word : (w : List ℕ) (ts : List Sign) → ts ≡ [] → begins_word w ts ≡ true → ⊥
+no_word : (w : List ℕ) (ts : List Terminal) → ts ≡ [] → begins_word w ts ≡ true → ⊥
 no_word w [] e h = cc h
 no_word w (s ∷ ts) e h = cc e
 
-pub eat_word_holds : {p : Part} (Known : List Sign → Type 0) (begun : (ts : List Sign) → Known ts → List Sign) (w : List ℕ) (plan other : PartPlan p)
+pub eat_word_holds : {p : Part} (Known : List Terminal → Type 0) (begun : (ts : List Terminal) → Known ts → List Terminal) (w : List ℕ) (plan other : PartPlan p)
     → PartHolds p plan (λ ts. Known (name w ∷ ts)) (λ ts k. begun (name w ∷ ts) k) → PartHolds p other Known begun → PartHolds p (eat_word w plan other) Known begun
 eat_word_holds Known begun w plan other h i = ((nothing_known plan _ _ (λ ts k. no_word w ts k.0 k.1.0), word_taken Known begun w plan h), i)
 
 -- ---- what is taken
 
--- What holds once a sign of a kind was taken holds once any sign was taken, since the plan fails at the others.
-module _ {p : Part} (Known : Sign → List Sign → Type 0) (begun : (s : Sign) (ts : List Sign) → Known s ts → List Sign) where
-  pub string_taken : (f : List ℕ → PartPlan p) → ((z : List ℕ) → PartHolds p (f z) (Known (string z)) (begun (string z))) → (s : Sign) → PartHolds p (with f (string_in (Some s))) (Known s) (begun s)
+-- What holds once a terminal of a kind was taken holds once any terminal was taken, since the plan fails at the others.
+module _ {p : Part} (Known : Terminal → List Terminal → Type 0) (begun : (s : Terminal) (ts : List Terminal) → Known s ts → List Terminal) where
+  pub string_taken : (f : List ℕ → PartPlan p) → ((z : List ℕ) → PartHolds p (f z) (Known (string z)) (begun (string z))) → (s : Terminal) → PartHolds p (with f (string_in (Some s))) (Known s) (begun s)
   string_taken f found (string z) = found z
   string_taken f found _ = tt
 
-  pub quote_taken : (f : List ℕ → PartPlan p) → ((z : List ℕ) → PartHolds p (f z) (Known (quote z)) (begun (quote z))) → (s : Sign) → PartHolds p (with f (quote_in (Some s))) (Known s) (begun s)
+  pub quote_taken : (f : List ℕ → PartPlan p) → ((z : List ℕ) → PartHolds p (f z) (Known (quote z)) (begun (quote z))) → (s : Terminal) → PartHolds p (with f (quote_in (Some s))) (Known s) (begun s)
   quote_taken f found (quote z) = found z
   quote_taken f found _ = tt
 
-  pub integer_taken : (f : ℕ → PartPlan p) → ((n : ℕ) → PartHolds p (f n) (Known (integer n)) (begun (integer n))) → (s : Sign) → PartHolds p (with f (integer_in (Some s))) (Known s) (begun s)
+  pub integer_taken : (f : ℕ → PartPlan p) → ((n : ℕ) → PartHolds p (f n) (Known (integer n)) (begun (integer n))) → (s : Terminal) → PartHolds p (with f (integer_in (Some s))) (Known s) (begun s)
   integer_taken f found (integer n) = found n
   integer_taken f found _ = tt
 
 -- ---- names, perhaps behind `public.`
 
-pub qualified_holds : {p : Part} (Known : List Sign → Type 0) (begun : (ts : List Sign) → Known ts → List Sign) (f : List ℕ → PartPlan p)
-    → ((q : Bool) (z : List ℕ) → PartHolds p (f z) (λ ts. Known (qualified q (name z ∷ ts))) (λ ts k. begun (qualified q (name z ∷ ts)) k))
-    → PartHolds p (qualified_name f) Known begun
+pub qualified_holds : {p : Part} (Known : List Terminal → Type 0) (begun : (ts : List Terminal) → Known ts → List Terminal) (f : List ℕ → PartPlan p)
+    → ((q : Bool) (z : List ℕ) → PartHolds p (f z) (λ ts. Known (schema_qualified q (name z ∷ ts))) (λ ts k. begun (schema_qualified q (name z ∷ ts)) k))
+    → PartHolds p (schema_qualified_name f) Known begun
 qualified_holds {p = p} Known begun f found = (
   tt,
   name_taken ReadsAny (λ s ts. Known (s ∷ ts)) (λ s ts k. begun (s ∷ ts) k) _ (λ z.

@@ -5,7 +5,7 @@ use Rattle.std.specs.List.{list_all}
 use Rattle.away_trees.specs.declared.statements.Function.{Function}
 use Rattle.away_grammar.specs.Spellings.{goes_on, IsTag, mark_of}
 use Rattle.away_grammar.specs.Tokens.{Lexeme}
-use Rattle.away_grammar.specs.Signs.{all_say}
+use Rattle.away_grammar.specs.Terminals.{token_terminals}
 use Rattle.away_grammar.specs.FunctionFile.{IsInside, LexesPart, LexesBody, LexesFile, first_dollar, up_to_dollar}
 use Rattle.away_grammar.specs.FunctionGrammar.{ReadsPart, ReadsFunction, body, function}
 use Rattle.away_lex.proofs.Runs.{and_left, and_right}
@@ -74,11 +74,11 @@ pub one_function : {z : List ℕ} {f g : Function} → ReadsFunction z f → Rea
 one_function {g = g} p q =
     let outer : q.outer ≡ p.outer = same_outer q.lexes p.lexes in
     let inner : q.inner ≡ p.inner = same_inner q.lexes p.lexes in
-    let inside_read : ReadsPart body (all_say p.inner) q.inside [] = subst (λ ts. ReadsPart body (all_say ts) q.inside []) inner q.reads_body in
+    let inside_read : ReadsPart body (token_terminals p.inner) q.inside [] = subst (λ ts. ReadsPart body (token_terminals ts) q.inside []) inner q.reads_body in
     let bodies = one_tree inside_read refl p.reads_body refl in
     let inside : q.inside ≡ p.inside = bodies.0 in
-    let placed : ReadsPart (function p.inside) (all_say q.outer) g [] = subst (λ inside. ReadsPart (function inside) (all_say q.outer) g []) inside q.reads_function in
-    let moved : ReadsPart (function p.inside) (all_say p.outer) g [] = subst (λ ts. ReadsPart (function p.inside) (all_say ts) g []) outer placed in
+    let placed : ReadsPart (function p.inside) (token_terminals q.outer) g [] = subst (λ inside. ReadsPart (function inside) (token_terminals q.outer) g []) inside q.reads_function in
+    let moved : ReadsPart (function p.inside) (token_terminals p.outer) g [] = subst (λ ts. ReadsPart (function p.inside) (token_terminals ts) g []) outer placed in
     let functions = one_tree p.reads_function refl moved refl in
     functions.0
 
@@ -88,8 +88,8 @@ pub file_given : {z : List ℕ} {outer inner : List Lexeme} {f : Function} → L
 file_given {outer = outer} {inner = inner} {f = f} l p =
     let outer_same : p.outer ≡ outer = same_outer p.lexes l in
     let inner_same : p.inner ≡ inner = same_inner p.lexes l in
-    let inside_read : ReadsPart body (all_say inner) p.inside [] = subst (λ ts. ReadsPart body (all_say ts) p.inside []) inner_same p.reads_body in
-    let all_read : ReadsPart (function p.inside) (all_say outer) f [] = subst (λ ts. ReadsPart (function p.inside) (all_say ts) f []) outer_same p.reads_function in
+    let inside_read : ReadsPart body (token_terminals inner) p.inside [] = subst (λ ts. ReadsPart body (token_terminals ts) p.inside []) inner_same p.reads_body in
+    let all_read : ReadsPart (function p.inside) (token_terminals outer) f [] = subst (λ ts. ReadsPart (function p.inside) (token_terminals ts) f []) outer_same p.reads_function in
     (p.inside, complete inside_read refl, complete all_read refl)
 
 pub file_read : {z : List ℕ} {outer inner : List Lexeme} {f : Function} → LexesFile z outer inner None → FileGives outer inner f → ReadsFunction z f

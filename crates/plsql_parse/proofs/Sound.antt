@@ -1,6 +1,6 @@
 -- What the plan of a part gives, the grammar reads.
 use Rattle.std.proofs.Common.{List, Some, refl}
-use Rattle.away_grammar.specs.Signs.{Sign}
+use Rattle.away_grammar.specs.Terminals.{Terminal}
 use Rattle.away_grammar.specs.FunctionGrammar.{Part, PartTree, ReadsPart, decl, decls, default, statement, statements, branch, elsifs, whens, otherwise, condition, block, repeated, kind, step, body, parameter, parameters, signature, attribute_of, attributes, function}
 use Rattle.sql_text.specs.Plans.{Runs}
 use Rattle.sql_text.specs.Descent.{plan}
@@ -40,5 +40,5 @@ any_holds : (n : AnySort) → Holds ReadsAny n (any_plan n) Nothing here
 any_holds (sql n) = lifted_holds (plan n) Nothing here (all_hold n)
 any_holds (part p) = part_holds p
 
-pub sound : {p : Part} {ts : List Sign} {x : PartTree p} {rest : List Sign} → Runs AnyTree any_plan (part p) (part_plan p) ts (Some (x, rest)) → ReadsPart p ts x rest
+pub sound : {p : Part} {ts : List Terminal} {x : PartTree p} {rest : List Terminal} → Runs AnyTree any_plan (part p) (part_plan p) ts (Some (x, rest)) → ReadsPart p ts x rest
 sound {p = p} {x = x} {rest = rest} d = plan_gives ReadsAny any_holds (part p) x rest d refl Nothing here (part_holds p) tt

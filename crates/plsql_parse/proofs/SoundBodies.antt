@@ -5,7 +5,7 @@ use Rattle.away_grammar.specs.declared.grammar.Mark.{Mark}
 use Rattle.away_grammar.specs.declared.grammar.Mark.TheVariants as m
 use Rattle.away_trees.specs.declared.statements.Raised.TheVariants as r
 use Rattle.away_trees.specs.declared.statements.Stmt.TheVariants as s
-use Rattle.away_grammar.specs.Signs.{Sign, mark, name}
+use Rattle.away_grammar.specs.Terminals.{Terminal, mark, name}
 use Rattle.away_grammar.specs.Grammar.{perhaps}
 use Rattle.away_grammar.specs.FunctionGrammar as g
 use Rattle.away_grammar.specs.FunctionGrammar.{Part, decl, decls, default, statement, statements, branch, elsifs, whens, otherwise, condition, block, repeated, kind, step, body, labelled}
@@ -81,7 +81,7 @@ raised_holds w =
     (tt, string_taken _ _ _ (λ z. (λ ts k. g.raise_state w, tt)))
     (tt, string_taken _ _ _ (λ z. (λ ts k. g.raise_message w, tt)))
 
-mark_holds : (sign : Mark) → PartHolds statement (marked_plan sign) Nothing (λ ts k. mark sign ∷ ts)
+mark_holds : (terminal : Mark) → PartHolds statement (marked_plan terminal) Nothing (λ ts k. mark terminal ∷ ts)
 mark_holds m.Null = (λ ts k. g.nothing, tt)
 mark_holds m.Return = λ x. (λ ts k. g.return_of k.2, tt)
 mark_holds m.If = λ a more other. (((λ ts k. g.if_of k.1.1.2 k.1.2 k.2, tt), tt), tt)
@@ -91,9 +91,9 @@ mark_holds m.Continue = maybe_name_holds Nothing (λ ts k. mark m.Continue ∷ t
 mark_holds m.Raise = eat_word_holds Nothing (λ ts k. mark m.Raise ∷ ts) (codes "exception") raised_plan raised_plan (raised_holds true) (raised_holds false)
 mark_holds _ = tt
 
-statement_taken : (s : Sign) → PartHolds statement (statement_by (Some s)) Nothing (λ ts k. s ∷ ts)
+statement_taken : (s : Terminal) → PartHolds statement (statement_by (Some s)) Nothing (λ ts k. s ∷ ts)
 statement_taken (name n) = (λ x. (λ ts k. g.assignment m.Assign refl k.2, tt), (λ x. (λ ts k. g.assignment m.Equal refl k.2, tt), tt))
-statement_taken (mark sign) = mark_holds sign
+statement_taken (mark terminal) = mark_holds terminal
 statement_taken _ = tt
 
 labelled_holds : (label : Option (List ℕ)) → PartHolds statement (labelled_plan label) Nothing (λ ts k. labelled label ts)

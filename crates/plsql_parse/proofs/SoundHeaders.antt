@@ -7,13 +7,13 @@ use Rattle.away_grammar.specs.declared.grammar.Mark.TheVariants as m
 use Rattle.away_grammar.specs.declared.grammar.Attribute.{Attribute}
 use Rattle.away_grammar.specs.declared.grammar.Attribute.TheVariants as attribute
 use Rattle.away_trees.specs.declared.statements.Stmt.{Stmt}
-use Rattle.away_grammar.specs.Signs.{Sign, mark, name, string}
-use Rattle.away_grammar.specs.Grammar.{perhaps, qualified}
+use Rattle.away_grammar.specs.Terminals.{Terminal, mark, name, string}
+use Rattle.away_grammar.specs.Grammar.{perhaps, schema_qualified}
 use Rattle.away_grammar.specs.FunctionGrammar as g
 use Rattle.away_grammar.specs.FunctionGrammar.{Part, ReadsPart, parameters, signature, attribute_of, attributes, function, or_replace, one_word, may_run, may_stand}
 use Rattle.sql_text.specs.Plans.{done, fail, expect}
 use Rattle.sql_text.proofs.Holds.{Nothing, here, name_taken, type_taken, if_holds}
-use Rattle.plsql_parse.specs.Sorts.{PartPlan, ReadsAny, qualified_name}
+use Rattle.plsql_parse.specs.Sorts.{PartPlan, ReadsAny, schema_qualified_name}
 use Rattle.plsql_parse.specs.Headers.{typed_name_plan, parameter_plan, parameters_plan, signature_plan, language_string_plan, language_plan, null_input_plan, parallel_plan, cost_plan, word_plan, word_with, attribute_mark_plan, attribute_by, attribute_plan, attributes_plan, returned_plan, named_plan, created_plan, function_plan}
 use Rattle.plsql_parse.proofs.HoldsMore.{PartHolds, eat_word_holds, string_taken, quote_taken, integer_taken, qualified_holds}
 
@@ -37,7 +37,7 @@ signature_holds = ((λ ts k. g.no_parameter, λ xs. (λ ts k. g.signature_of k.2
 spelled : (w z : List ℕ) (plan : PartPlan attribute_of) → bytes_eq z w ≡ true → PartHolds attribute_of plan Nothing (λ ts k. name w ∷ ts) → PartHolds attribute_of plan Nothing (λ ts k. name z ∷ ts)
 spelled w z plan h d = let same : z ≡ w = (bytes_eq-Decides z w).0 h in subst (λ y. PartHolds attribute_of plan Nothing (λ ts k. name y ∷ ts)) (sym same) d
 
-language_string_read : (z : List ℕ) (ts : List Sign) → bytes_eq z (codes "plpgsql") ≡ true → ReadsPart attribute_of (name (codes "language") ∷ string z ∷ ts) attribute.Language ts
+language_string_read : (z : List ℕ) (ts : List Terminal) → bytes_eq z (codes "plpgsql") ≡ true → ReadsPart attribute_of (name (codes "language") ∷ string z ∷ ts) attribute.Language ts
 language_string_read z ts h =
     let same : z ≡ codes "plpgsql" = (bytes_eq-Decides z (codes "plpgsql")).0 h in
     subst (λ y. ReadsPart attribute_of (name (codes "language") ∷ string y ∷ ts) attribute.Language ts) (sym same) g.language_string
@@ -72,15 +72,15 @@ word_with_holds : (z : List ℕ) (found : Option Attribute) → one_word z ≡ f
 word_with_holds z (Some a) is = λ ts k. g.word_attribute is
 word_with_holds z None is = word_holds z
 
-attribute_mark_holds : (sign : Mark) → PartHolds attribute_of (attribute_mark_plan sign) Nothing (λ ts k. mark sign ∷ ts)
+attribute_mark_holds : (terminal : Mark) → PartHolds attribute_of (attribute_mark_plan terminal) Nothing (λ ts k. mark terminal ∷ ts)
 attribute_mark_holds m.As = (tt, quote_taken _ _ _ (λ z ts k. g.as_quote))
 attribute_mark_holds m.Strict = λ ts k. g.strict
 attribute_mark_holds m.Not = eat_word_holds Nothing (λ ts k. mark m.Not ∷ ts) (codes "leakproof") (done attribute.Leakproof) fail (λ ts k. g.not_leakproof) tt
 attribute_mark_holds _ = tt
 
-attribute_taken : (s : Sign) → PartHolds attribute_of (attribute_by (Some s)) Nothing (λ ts k. s ∷ ts)
+attribute_taken : (s : Terminal) → PartHolds attribute_of (attribute_by (Some s)) Nothing (λ ts k. s ∷ ts)
 attribute_taken (name z) = word_with_holds z (one_word z) refl
-attribute_taken (mark sign) = attribute_mark_holds sign
+attribute_taken (mark terminal) = attribute_mark_holds terminal
 attribute_taken _ = tt
 
 pub attribute_holds : PartHolds attribute_of attribute_plan Nothing here
@@ -92,10 +92,10 @@ attributes_hold = (λ ts k. g.no_attribute, λ a found ts k. g.another_attribute
 -- ---- a whole file
 
 named_holds : (inside : Stmt) (o q : Bool) (n : List ℕ)
-    → PartHolds (function inside) (named_plan inside n) Nothing (λ ts k. mark m.Create ∷ or_replace o (name (codes "function") ∷ qualified q (name n ∷ ts)))
+    → PartHolds (function inside) (named_plan inside n) Nothing (λ ts k. mark m.Create ∷ or_replace o (name (codes "function") ∷ schema_qualified q (name n ∷ ts)))
 named_holds inside o q n xs =
-    eat_word_holds (λ rest. (ts : List Sign) × Nothing ts × ReadsPart signature ts xs rest)
-    (λ rest k. mark m.Create ∷ or_replace o (name (codes "function") ∷ qualified q (name n ∷ k.0)))
+    eat_word_holds (λ rest. (ts : List Terminal) × Nothing ts × ReadsPart signature ts xs rest)
+    (λ rest k. mark m.Create ∷ or_replace o (name (codes "function") ∷ schema_qualified q (name n ∷ k.0)))
     (codes "returns") (returned_plan inside n xs) fail (
       tt,
       type_taken ReadsAny _ _ _ (λ t ty is found.
@@ -105,7 +105,7 @@ named_holds inside o q n xs =
 
 created_holds : (inside : Stmt) (o : Bool) → PartHolds (function inside) (created_plan inside) Nothing (λ ts k. mark m.Create ∷ or_replace o ts)
 created_holds inside o =
-    eat_word_holds Nothing (λ ts k. mark m.Create ∷ or_replace o ts) (codes "function") (qualified_name (named_plan inside)) fail
+    eat_word_holds Nothing (λ ts k. mark m.Create ∷ or_replace o ts) (codes "function") (schema_qualified_name (named_plan inside)) fail
     (qualified_holds Nothing (λ ts k. mark m.Create ∷ or_replace o (name (codes "function") ∷ ts)) (named_plan inside) (named_holds inside o))
     tt
 

@@ -4,7 +4,7 @@ use Rattle.away_trees.specs.declared.statements.Function.{Function}
 use Rattle.away_trees.specs.declared.statements.Stmt.{Stmt}
 use Rattle.away_grammar.specs.FunctionFile.{LexesFile, LexesBody, first_dollar, is_dollar, up_to_dollar}
 use Rattle.away_grammar.specs.FunctionGrammar.{Part, PartTree, ReadsFunction, body, function}
-use Rattle.away_grammar.specs.Signs.{Sign, all_say}
+use Rattle.away_grammar.specs.Terminals.{Terminal, token_terminals}
 use Rattle.away_grammar.specs.Spellings.{Spells}
 use Rattle.away_grammar.specs.Tokens.{Lexeme, AreSpelled}
 use Rattle.away_lex.proofs.Reading.{are_spelled}
@@ -29,31 +29,31 @@ use Rattle.plsql_parse.proofs.OneFile.{file_given}
 
 -- ---- whole lists
 
-pub all_given : (p : Part) {ts new : List Sign} {x : PartTree p} → Gives AnyTree any_plan (part p) (part_plan p) ts (Ok x) new → 0 ≡ length new → GivesAll p ts x
+pub all_given : (p : Part) {ts new : List Terminal} {x : PartTree p} → Gives AnyTree any_plan (part p) (part_plan p) ts (Ok x) new → 0 ≡ length new → GivesAll p ts x
 all_given p {new = []} d e = run_of d
 all_given p {new = s ∷ new} d e = absurd (omega arith)
 
-pub not_all_given : (p : Part) {ts new : List Sign} {x : PartTree p} → Gives AnyTree any_plan (part p) (part_plan p) ts (Ok x) new → ¬ (0 ≡ length new) → (y : PartTree p) → ¬ (GivesAll p ts y)
+pub not_all_given : (p : Part) {ts new : List Terminal} {x : PartTree p} → Gives AnyTree any_plan (part p) (part_plan p) ts (Ok x) new → ¬ (0 ≡ length new) → (y : PartTree p) → ¬ (GivesAll p ts y)
 not_all_given p d h y r = h (ap (λ o. length o.1) (same_Some _ _ (one (run_of d) r)))
 
-pub not_given : (p : Part) (ts : List Sign) {new : List Sign} (e : Refusal) → Gives AnyTree any_plan (part p) (part_plan p) ts (Err e) new → PartRead p ts (Err e)
+pub not_given : (p : Part) (ts : List Terminal) {new : List Terminal} (e : Refusal) → Gives AnyTree any_plan (part p) (part_plan p) ts (Err e) new → PartRead p ts (Err e)
 not_given p ts NoTree (no_tree d) = λ y r. absurd (let same = one d r in cc same)
 not_given p ts NoMemory d = tt
 
 -- ---- files
 
 -- no function around the body that is there
-no_file : (outer inner : List Lexeme) (inside : Stmt) → GivesAll body (all_say inner) inside → ((f : Function) → ¬ (GivesAll (function inside) (all_say outer) f)) → (f : Function) → ¬ (FileGives outer inner f)
+no_file : (outer inner : List Lexeme) (inside : Stmt) → GivesAll body (token_terminals inner) inside → ((f : Function) → ¬ (GivesAll (function inside) (token_terminals outer) f)) → (f : Function) → ¬ (FileGives outer inner f)
 no_file outer inner inside b none f r =
     let same : r.0 ≡ inside = ap (λ o. o.0) (same_Some _ _ (one b r.1)) in
-    none f (subst (λ inside. GivesAll (function inside) (all_say outer) f) same r.2)
+    none f (subst (λ inside. GivesAll (function inside) (token_terminals outer) f) same r.2)
 
-pub file_of : (outer inner : List Lexeme) (inside : Stmt) (r : Result Function Refusal) → GivesAll body (all_say inner) inside → PartRead (function inside) (all_say outer) r → FileRead outer inner r
+pub file_of : (outer inner : List Lexeme) (inside : Stmt) (r : Result Function Refusal) → GivesAll body (token_terminals inner) inside → PartRead (function inside) (token_terminals outer) r → FileRead outer inner r
 file_of outer inner inside (Ok f) b d = (inside, b, d)
 file_of outer inner inside (Err NoTree) b d = no_file outer inner inside b d
 file_of outer inner inside (Err NoMemory) b d = tt
 
-pub no_body : (outer inner : List Lexeme) (e : Refusal) → PartRead body (all_say inner) (Err e) → FileRead outer inner (Err e)
+pub no_body : (outer inner : List Lexeme) (e : Refusal) → PartRead body (token_terminals inner) (Err e) → FileRead outer inner (Err e)
 no_body outer inner NoTree none = λ f r. none r.0 r.1
 no_body outer inner NoMemory none = tt
 

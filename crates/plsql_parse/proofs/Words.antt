@@ -12,7 +12,7 @@ use Rattle.away_grammar.specs.declared.grammar.Attribute.{Attribute}
 use Rattle.away_grammar.specs.declared.grammar.Mark.TheVariants as m
 use Rattle.away_grammar.specs.declared.grammar.Mark.{Mark}
 use Rattle.away_grammar.specs.FunctionGrammar.{Part, PartTree, attribute_of, times}
-use Rattle.away_grammar.specs.Signs.{Sign}
+use Rattle.away_grammar.specs.Terminals.{Terminal}
 use Rattle.away_lex.proofs.Runs.{and_left, and_right}
 use Rattle.sql_text.specs.declared.refusal.Refusal.{Refusal}
 use Rattle.sql_text.specs.declared.refusal.Refusal.TheVariants.{NoTree}
@@ -23,34 +23,34 @@ use Rattle.plsql_parse.specs.Plans.{any_plan}
 use Rattle.plsql_parse.specs.Sorts.{AnyTree, PartPlan, part, begins_word, eat_word, expect_word}
 
 -- the word stood next and was taken
-pub word_eaten : {p : Part} {a b : PartPlan p} {ts rest new : List Sign} {r : Result (PartTree p) Refusal} (w : List ℕ) → (begins_word w ts ≡ true) × (rest ≡ tail ts) → Gives AnyTree any_plan (part p) a rest r new
+pub word_eaten : {p : Part} {a b : PartPlan p} {ts rest new : List Terminal} {r : Result (PartTree p) Refusal} (w : List ℕ) → (begins_word w ts ≡ true) × (rest ≡ tail ts) → Gives AnyTree any_plan (part p) a rest r new
     → Gives AnyTree any_plan (part p) (eat_word w a b) ts r new
 word_eaten w h d = looked h.0 (taken refl h.1 d)
 
 -- the word doesn't stand next
-pub word_left : {p : Part} {a b : PartPlan p} {ts same new : List Sign} {r : Result (PartTree p) Refusal} (w : List ℕ) → (begins_word w ts ≡ false) × (same ≡ ts) → Gives AnyTree any_plan (part p) b same r new
+pub word_left : {p : Part} {a b : PartPlan p} {ts same new : List Terminal} {r : Result (PartTree p) Refusal} (w : List ℕ) → (begins_word w ts ≡ false) × (same ≡ ts) → Gives AnyTree any_plan (part p) b same r new
     → Gives AnyTree any_plan (part p) (eat_word w a b) ts r new
 word_left w h d = overlooked h.0 (moved h.1 d)
 
 -- the word had to stand next and doesn't
-pub word_refused : {p : Part} {a : PartPlan p} {ts new : List Sign} {e : Refusal} (w : List ℕ) → (e ≡ NoTree) × (begins_word w ts ≡ false) → Gives AnyTree any_plan (part p) (expect_word w a) ts (Err e) new
+pub word_refused : {p : Part} {a : PartPlan p} {ts new : List Terminal} {e : Refusal} (w : List ℕ) → (e ≡ NoTree) × (begins_word w ts ≡ false) → Gives AnyTree any_plan (part p) (expect_word w a) ts (Err e) new
 word_refused {p = p} {a = a} {ts = ts} {new = new} w h = subst (λ e. Gives AnyTree any_plan (part p) (expect_word w a) ts (Err e) new) (sym h.0) (overlooked h.1 failed)
 
 -- ---- by a test
 
-pub then_on : {p : Part} {a : PartPlan p} (b : PartPlan p) {ts new : List Sign} {r : Result (PartTree p) Refusal} {test : Bool} → test ≡ true → Gives AnyTree any_plan (part p) a ts r new → Gives AnyTree any_plan (part p) (if test then a else b) ts r new
+pub then_on : {p : Part} {a : PartPlan p} (b : PartPlan p) {ts new : List Terminal} {r : Result (PartTree p) Refusal} {test : Bool} → test ≡ true → Gives AnyTree any_plan (part p) a ts r new → Gives AnyTree any_plan (part p) (if test then a else b) ts r new
 then_on {p = p} {a = a} b {ts = ts} {new = new} {r = r} h d = subst (λ test. Gives AnyTree any_plan (part p) (if test then a else b) ts r new) (sym h) d
 
-pub else_on : {p : Part} (a : PartPlan p) {b : PartPlan p} {ts new : List Sign} {r : Result (PartTree p) Refusal} {test : Bool} → test ≡ false → Gives AnyTree any_plan (part p) b ts r new → Gives AnyTree any_plan (part p) (if test then a else b) ts r new
+pub else_on : {p : Part} (a : PartPlan p) {b : PartPlan p} {ts new : List Terminal} {r : Result (PartTree p) Refusal} {test : Bool} → test ≡ false → Gives AnyTree any_plan (part p) b ts r new → Gives AnyTree any_plan (part p) (if test then a else b) ts r new
 else_on {p = p} a {b = b} {ts = ts} {new = new} {r = r} h d = subst (λ test. Gives AnyTree any_plan (part p) (if test then a else b) ts r new) (sym h) d
 
 -- what stood next is of the kind
-pub kind_taken : {p : Part} {A : Type 0} (kind : Option Sign → Option A) (o : Option A) (a : PartPlan p) {ts rest new : List Sign} {r : Result (PartTree p) Refusal} → kind (first ts) ≡ o → true ≡ is_some o → rest ≡ tail ts
+pub kind_taken : {p : Part} {A : Type 0} (kind : Option Terminal → Option A) (o : Option A) (a : PartPlan p) {ts rest new : List Terminal} {r : Result (PartTree p) Refusal} → kind (first ts) ≡ o → true ≡ is_some o → rest ≡ tail ts
     → Gives AnyTree any_plan (part p) a rest r new → Gives AnyTree any_plan (part p) (want kind (λ x. a)) ts r new
 kind_taken kind None a e h q d = absurd (cc h)
 kind_taken kind (Some x) a e h q d = wanted kind (λ x. a) e q d
 
-pub kind_missed : {p : Part} {A : Type 0} (kind : Option Sign → Option A) (o : Option A) (a : PartPlan p) {ts new : List Sign} → kind (first ts) ≡ o → false ≡ is_some o
+pub kind_missed : {p : Part} {A : Type 0} (kind : Option Terminal → Option A) (o : Option A) (a : PartPlan p) {ts new : List Terminal} → kind (first ts) ≡ o → false ≡ is_some o
     → Gives AnyTree any_plan (part p) (want kind (λ x. a)) ts (Err NoTree) new
 kind_missed kind None a e h = unwanted kind (λ x. a) e
 kind_missed kind (Some x) a e h = absurd (cc h)
@@ -58,7 +58,7 @@ kind_missed kind (Some x) a e h = absurd (cc h)
 -- ---- attributes
 
 -- marks that begin no attribute
-pub no_attribute : (sign : Mark) {ts new : List Sign} → ¬ (sign ≡ m.As) → ¬ (sign ≡ m.Strict) → ¬ (sign ≡ m.Not) → Gives AnyTree any_plan (part attribute_of) (attribute_mark_plan sign) ts (Err NoTree) new
+pub no_attribute : (terminal : Mark) {ts new : List Terminal} → ¬ (terminal ≡ m.As) → ¬ (terminal ≡ m.Strict) → ¬ (terminal ≡ m.Not) → Gives AnyTree any_plan (part attribute_of) (attribute_mark_plan terminal) ts (Err NoTree) new
 no_attribute m.As a b c = absurd (a refl)
 no_attribute m.Strict a b c = absurd (b refl)
 no_attribute m.Not a b c = absurd (c refl)

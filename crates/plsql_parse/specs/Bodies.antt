@@ -11,7 +11,7 @@ use Rattle.away_trees.specs.declared.statements.Raised.{Raised}
 use Rattle.away_trees.specs.declared.statements.Raised.TheVariants as r
 use Rattle.away_trees.specs.declared.statements.Stmt.{Stmt}
 use Rattle.away_trees.specs.declared.statements.Stmt.TheVariants as s
-use Rattle.away_grammar.specs.Signs.{Sign, mark, name}
+use Rattle.away_grammar.specs.Terminals.{Terminal, mark, name}
 use Rattle.away_grammar.specs.FunctionGrammar.{decl, decls, default, statement, statements, branch, elsifs, whens, otherwise}
 use Rattle.away_grammar.specs.FunctionGrammar.{condition, block, repeated, kind, step, body, opens_loop}
 use Rattle.sql_text.specs.Plans.{done, fail, take, eat, look, read, want, expect}
@@ -20,8 +20,8 @@ use Rattle.plsql_parse.specs.Sorts.{part, PartPlan, expression, a_name, a_type, 
 -- ---- what stands next
 
 -- by the mark that stands next
-abbrev pub next : (Mark → Bool) → List Sign → Bool
-next test (mark sign ∷ ts) = test sign
+abbrev pub next : (Mark → Bool) → List Terminal → Bool
+next test (mark terminal ∷ ts) = test terminal
 next test _ = false
 
 -- the marks that end a list of statements
@@ -178,9 +178,9 @@ marked_plan m.Continue = leaving_plan s.Continue
 marked_plan m.Raise = raise_plan
 marked_plan _ = fail
 
-abbrev pub statement_by : Option Sign → PartPlan statement
+abbrev pub statement_by : Option Terminal → PartPlan statement
 statement_by (Some (name n)) = assigned_plan n
-statement_by (Some (mark sign)) = marked_plan sign
+statement_by (Some (mark terminal)) = marked_plan terminal
 statement_by _ = fail
 
 -- a block or a loop behind its label

@@ -5,7 +5,7 @@ use Rattle.away_trees.specs.declared.statements.Stmt.{Stmt}
 use Rattle.away_grammar.specs.FunctionGrammar.{Part, PartTree, function}
 use Rattle.away_grammar.specs.FunctionFile.{LexesFile}
 use Rattle.away_grammar.specs.OutsideWords.{outside_word}
-use Rattle.away_grammar.specs.Signs.{Sign}
+use Rattle.away_grammar.specs.Terminals.{Terminal}
 use Rattle.away_grammar.specs.Texts.{IsText}
 use Rattle.away_grammar.specs.Tokens.{Lexeme}
 use Rattle.away_lex.specs.declared.refusals.LimitKind.TheVariants as limit
@@ -21,17 +21,17 @@ use Rattle.plsql_parse.specs.Refusals.{HasLists, IsOutside, CountExceeds, most_n
 use Rattle.plsql_parse.specs.Sorts.{AnyTree, part}
 
 -- the part's plan gives this, and nothing is left
-abbrev pub GivesAll : (p : Part) → List Sign → PartTree p → Type 0
+abbrev pub GivesAll : (p : Part) → List Terminal → PartTree p → Type 0
 GivesAll p ts x = Runs AnyTree any_plan (part p) (part_plan p) ts (Some (x, []))
 
 -- the tree of the part that a whole list is, or it is none
-abbrev pub PartRead : (p : Part) → List Sign → Result (PartTree p) Refusal → Type 0
+abbrev pub PartRead : (p : Part) → List Terminal → Result (PartTree p) Refusal → Type 0
 PartRead p ts (Ok x) = GivesAll p ts x
 PartRead p ts (Err NoTree) = (x : PartTree p) → ¬ (GivesAll p ts x)
 PartRead p ts (Err NoMemory) = Unit {0}
 
 -- The header that a whole list is, around whichever body, or it is none.
-abbrev pub HeaderIs : List Sign → Result Header Refusal → Type 0
+abbrev pub HeaderIs : List Terminal → Result Header Refusal → Type 0
 HeaderIs ts result = (inside : Stmt) → PartRead (function inside) ts (answered inside result)
 
 -- the function that a file's two lists are, or they are none

@@ -4,7 +4,7 @@ use Rattle.away_grammar.specs.declared.grammar.Attribute.{Attribute}
 use Rattle.away_trees.specs.declared.statements.Function.{Function}
 use Rattle.away_trees.specs.declared.statements.Stmt.{Stmt}
 use Rattle.away_grammar.specs.FunctionGrammar.{function, is_language, is_body, is_volatility, is_null_input, is_leakproof, is_parallel, is_cost}
-use Rattle.away_grammar.specs.Signs.{Sign}
+use Rattle.away_grammar.specs.Terminals.{Terminal}
 use Rattle.sql_text.specs.Plans.{Gives, tail}
 use Rattle.sql_text.specs.declared.refusal.Refusal.{Refusal}
 use Rattle.sql_text.specs.declared.refusal.Refusal.TheVariants.{NoTree}
@@ -17,7 +17,7 @@ use Rattle.plsql_parse.specs.Sorts.{AnyTree, PartPlan, part, begins_word}
 -- ---- words
 
 -- the word stood next and was taken, or it doesn't stand there
-abbrev pub WordExpected : List ℕ → List Sign → Result (Unit {0}) Refusal → List Sign → Type 0
+abbrev pub WordExpected : List ℕ → List Terminal → Result (Unit {0}) Refusal → List Terminal → Type 0
 WordExpected w old (Ok x) new = (begins_word w old ≡ true) × (new ≡ tail old)
 WordExpected w old (Err e) new = (e ≡ NoTree) × (begins_word w old ≡ false)
 
@@ -44,5 +44,5 @@ answered inside (Ok h) = Ok (around h inside)
 answered inside (Err e) = Err e
 
 -- The plan gives the function of the header, around whichever body it is for.
-abbrev pub HeaderRead : ((inside : Stmt) → PartPlan (function inside)) → List Sign → Result Header Refusal → List Sign → Type 0
+abbrev pub HeaderRead : ((inside : Stmt) → PartPlan (function inside)) → List Terminal → Result Header Refusal → List Terminal → Type 0
 HeaderRead plan old result new = (inside : Stmt) → Gives AnyTree any_plan (part (function inside)) (plan inside) old (answered inside result) new

@@ -8,10 +8,10 @@ use Rattle.away_grammar.specs.declared.grammar.Attribute.TheVariants as attribut
 use Rattle.away_values.specs.declared.types.Ty.{Ty}
 use Rattle.away_trees.specs.declared.statements.Stmt.{Stmt}
 use Rattle.away_trees.specs.declared.statements.Function.{Function}
-use Rattle.away_grammar.specs.Signs.{Sign, mark, name}
+use Rattle.away_grammar.specs.Terminals.{Terminal, mark, name}
 use Rattle.away_grammar.specs.FunctionGrammar.{parameter, parameters, signature, attribute_of, attributes, function, may_stand, makes_strict, one_word, may_run}
 use Rattle.sql_text.specs.Plans.{done, fail, take, eat, look, read, want, expect}
-use Rattle.plsql_parse.specs.Sorts.{part, PartPlan, a_name, a_type, eat_word, expect_word, qualified_name, string_in, quote_in, integer_in}
+use Rattle.plsql_parse.specs.Sorts.{part, PartPlan, a_name, a_type, eat_word, expect_word, schema_qualified_name, string_in, quote_in, integer_in}
 
 -- ---- parameters
 
@@ -64,16 +64,16 @@ attribute_mark_plan m.Strict = done (attribute.NullInput true)
 attribute_mark_plan m.Not = expect_word (codes "leakproof") (done attribute.Leakproof)
 attribute_mark_plan _ = fail
 
-abbrev pub attribute_by : Option Sign → PartPlan attribute_of
+abbrev pub attribute_by : Option Terminal → PartPlan attribute_of
 attribute_by (Some (name z)) = word_with z (one_word z)
-attribute_by (Some (mark sign)) = attribute_mark_plan sign
+attribute_by (Some (mark terminal)) = attribute_mark_plan terminal
 attribute_by _ = fail
 
 abbrev pub attribute_plan : PartPlan attribute_of
 attribute_plan = take attribute_by
 
 -- no attribute stands next
-abbrev pub is_over : List Sign → Bool
+abbrev pub is_over : List Terminal → Bool
 is_over [] = true
 is_over (mark m.Semicolon ∷ ts) = true
 is_over _ = false
@@ -101,7 +101,7 @@ named_plan inside n = read (part signature) (λ xs. expect_word (codes "returns"
 
 -- behind CREATE, and OR REPLACE where it is written
 abbrev pub created_plan : (inside : Stmt) → PartPlan (function inside)
-created_plan inside = expect_word (codes "function") (qualified_name (named_plan inside))
+created_plan inside = expect_word (codes "function") (schema_qualified_name (named_plan inside))
 
 abbrev pub function_plan : (inside : Stmt) → PartPlan (function inside)
 function_plan inside = expect m.Create (eat m.Or (expect_word (codes "replace") (created_plan inside)) (created_plan inside))

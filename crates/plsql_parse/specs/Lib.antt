@@ -7,5 +7,5 @@ pub mod Stops
 pub mod Refusals
 pub mod FileRead
 pub mod HeaderRead
-pub mod WorkedSigns
+pub mod WorkedTerminals
 pub mod WorkedTokens

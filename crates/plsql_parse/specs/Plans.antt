@@ -5,7 +5,7 @@ use Rattle.away_grammar.specs.FunctionGrammar.{otherwise, condition, block, repe
 use Rattle.away_grammar.specs.FunctionGrammar.{signature, attribute_of, attributes, function}
 use Rattle.away_trees.specs.declared.statements.Stmt.{Stmt}
 use Rattle.away_trees.specs.declared.statements.Function.{Function}
-use Rattle.away_grammar.specs.Signs.{all_say}
+use Rattle.away_grammar.specs.Terminals.{token_terminals}
 use Rattle.away_grammar.specs.Tokens.{Lexeme}
 use Rattle.sql_text.specs.Plans.{Plan, Runs}
 use Rattle.sql_text.specs.Descent as descent
@@ -45,5 +45,5 @@ any_plan (part p) = part_plan p
 -- what the plans give of a file's two lists, where nothing is left of either
 abbrev pub FileGives : List Lexeme → List Lexeme → Function → Type 0
 FileGives outer inner f =
-    (inside : Stmt) × Runs AnyTree any_plan (part body) body_plan (all_say inner) (Some (inside, []))
-    × Runs AnyTree any_plan (part (function inside)) (function_plan inside) (all_say outer) (Some (f, []))
+    (inside : Stmt) × Runs AnyTree any_plan (part body) body_plan (token_terminals inner) (Some (inside, []))
+    × Runs AnyTree any_plan (part (function inside)) (function_plan inside) (token_terminals outer) (Some (f, []))

@@ -2,7 +2,7 @@
 use Rattle.std.specs.Prelude.{◌≡◌, Bool, true, false, List, []}
 use Rattle.away_grammar.specs.declared.grammar.Mark.{Mark}
 use Rattle.away_grammar.specs.declared.grammar.Mark.TheVariants as m
-use Rattle.away_grammar.specs.Signs.{Sign}
+use Rattle.away_grammar.specs.Terminals.{Terminal}
 use Rattle.away_grammar.specs.FunctionGrammar.{Part, decls, default, statements, branch, elsifs, whens, otherwise, condition}
 use Rattle.away_grammar.specs.FunctionGrammar.{block, repeated, kind, step, body, parameters, attributes, function}
 use Rattle.sql_text.specs.Plans.{Begins}
@@ -17,7 +17,7 @@ closes_arms m.Else = true
 closes_arms _ = false
 
 -- What stands next ends the part. A part that has an end of its own needs nothing.
-abbrev pub StopsPart : Part → List Sign → Type 0
+abbrev pub StopsPart : Part → List Terminal → Type 0
 StopsPart decls ts = Begins ts m.Begin
 StopsPart default ts = Begins ts m.Semicolon
 StopsPart statements ts = next closes ts ≡ true

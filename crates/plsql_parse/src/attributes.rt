@@ -17,7 +17,7 @@ use crate::headers::expect_word;
 use crate::words_and_strings::{eat_word, string};
 use away_grammar::{Attribute, Mark};
 use away_values::Name;
-use sql_text::{Cursor, Refusal, Sign};
+use sql_text::{Cursor, Refusal, Terminal};
 use sqlite_items::Items;
 use std::alloc::Global;
 
@@ -46,12 +46,12 @@ fn attribute_of(alloc: Global, tokens: &mut Cursor<'_>) -> Result<Attribute, Ref
     ensures shrinks { length tokens.new ≤ length tokens.old }
 {
     match tokens.take() {
-        Some(Sign::Name(word)) => named_attribute(alloc, tokens, word),
-        Some(Sign::Mark(mark)) => marked_attribute(tokens, mark),
-        Some(Sign::Integer(_)) => Err(Refusal::NoTree),
-        Some(Sign::Text(_)) => Err(Refusal::NoTree),
-        Some(Sign::Parameter(_)) => Err(Refusal::NoTree),
-        Some(Sign::Quote(_)) => Err(Refusal::NoTree),
+        Some(Terminal::Name(word)) => named_attribute(alloc, tokens, word),
+        Some(Terminal::Mark(mark)) => marked_attribute(tokens, mark),
+        Some(Terminal::Integer(_)) => Err(Refusal::NoTree),
+        Some(Terminal::Text(_)) => Err(Refusal::NoTree),
+        Some(Terminal::Parameter(_)) => Err(Refusal::NoTree),
+        Some(Terminal::Quote(_)) => Err(Refusal::NoTree),
         None => Err(Refusal::NoTree),
     }
 }
@@ -177,7 +177,7 @@ fn takes_integer(tokens: &mut Cursor<'_>) -> bool
     ensures rest { tokens.new ≡ tail tokens.old }
     ensures shrinks { length tokens.new ≤ length tokens.old }
 {
-    matches!(tokens.take(), Some(Sign::Integer(_)))
+    matches!(tokens.take(), Some(Terminal::Integer(_)))
 }
 
 /// The attribute that this mark begins, from what stands behind it.
@@ -214,7 +214,7 @@ fn takes_quote(tokens: &mut Cursor<'_>) -> bool
     ensures rest { tokens.new ≡ tail tokens.old }
     ensures shrinks { length tokens.new ≤ length tokens.old }
 {
-    matches!(tokens.take(), Some(Sign::Quote(_)))
+    matches!(tokens.take(), Some(Terminal::Quote(_)))
 }
 
 /// The groups of attributes.

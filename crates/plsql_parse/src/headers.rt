@@ -8,7 +8,7 @@ ghost use Rattle.plsql_parse.specs.HeaderRead as spec;
 ghost use Rattle.plsql_parse.specs.HeaderRead.{HeaderRead, WordExpected};
 ghost use Rattle.plsql_parse.specs.Headers.{created_plan, function_plan, named_plan, parameter_plan, parameters_plan, signature_plan};
 ghost use Rattle.plsql_parse.specs.Plans.{any_plan};
-ghost use Rattle.plsql_parse.specs.Sorts.{AnyTree, part, qualified_name};
+ghost use Rattle.plsql_parse.specs.Sorts.{AnyTree, part, schema_qualified_name};
 
 use crate::attributes::{attributes_of, makes_strict, may_stand};
 use crate::words_and_strings::eat_word;
@@ -62,12 +62,12 @@ fn behind_create(alloc: Global, tokens: &mut Cursor<'_>) -> Result<Header, Refus
     ensures shrinks { length tokens.new ≤ length tokens.old }
 {
     expect_word(tokens, "function")?;
-    qualified(alloc, tokens)
+    schema_qualified(alloc, tokens)
 }
 
 /// The name, perhaps behind `public.`, and what stands behind it.
-fn qualified(alloc: Global, tokens: &mut Cursor<'_>) -> Result<Header, Refusal>
-    ensures found { HeaderRead (λ inside. qualified_name (named_plan inside)) tokens.old result tokens.new }
+fn schema_qualified(alloc: Global, tokens: &mut Cursor<'_>) -> Result<Header, Refusal>
+    ensures found { HeaderRead (λ inside. schema_qualified_name (named_plan inside)) tokens.old result tokens.new }
     ensures shrinks { length tokens.new ≤ length tokens.old }
 {
     let first = tokens.name(alloc)?;

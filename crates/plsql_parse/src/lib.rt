@@ -19,7 +19,7 @@ mod worked_functions;
 
 pub use laws::{
     a_condition_ends_with_no_end, a_file_is_one_function, a_file_reads_as_the_plans_give,
-    a_range_ends_with_no_end, plans_of_sql_give_the_same, signs_have_one_tree,
+    a_range_ends_with_no_end, plans_of_sql_give_the_same, terminals_have_one_tree,
     what_a_plan_gives_is_read, what_is_not_given_is_not_read, what_is_read_is_given,
 };
 pub use read::read_function;

@@ -2,20 +2,20 @@
 
 ghost use Rattle.std.specs.Prelude.{◌≡◌};
 ghost use Rattle.away_grammar.specs.FunctionGrammar.{opens_loop};
-ghost use Rattle.sql_text.specs.CodeSigns.{meaning_of};
+ghost use Rattle.sql_text.specs.CodeTerminals.{meaning_of};
 ghost use Rattle.plsql_parse.specs.Sorts.{is_name};
 ghost use Rattle.plsql_parse.specs.Bodies as plan;
 ghost use Rattle.plsql_parse.specs.Taken as taken;
 
 use away_grammar::Mark;
-use sql_text::{Cursor, Sign};
+use sql_text::{Cursor, Terminal};
 
 /// Whether a block or a loop stands next.
 pub(crate) fn sees_opening(tokens: &Cursor<'_>) -> bool
     ensures { result ≡ plan.next plan.opens tokens.now }
 {
     match tokens.peek() {
-        Some(Sign::Mark(mark)) => opens(mark),
+        Some(Terminal::Mark(mark)) => opens(mark),
         _ => false,
     }
 }
@@ -34,7 +34,7 @@ pub(crate) fn sees_block(tokens: &Cursor<'_>) -> bool
     ensures { result ≡ plan.next plan.opens_block tokens.now }
 {
     match tokens.peek() {
-        Some(Sign::Mark(mark)) => opens_block(mark),
+        Some(Terminal::Mark(mark)) => opens_block(mark),
         _ => false,
     }
 }
@@ -53,7 +53,7 @@ pub(crate) fn sees_closing(tokens: &Cursor<'_>) -> bool
     ensures { result ≡ plan.next plan.closes tokens.now }
 {
     match tokens.peek() {
-        Some(Sign::Mark(mark)) => closes(mark),
+        Some(Terminal::Mark(mark)) => closes(mark),
         _ => false,
     }
 }
@@ -72,7 +72,7 @@ pub(crate) fn sees_name(tokens: &Cursor<'_>) -> bool
     ensures { result ≡ is_name tokens.now }
 {
     match tokens.peek() {
-        Some(Sign::Name(_)) => true,
+        Some(Terminal::Name(_)) => true,
         _ => false,
     }
 }
@@ -84,29 +84,29 @@ pub(crate) fn sees_loop(tokens: &Cursor<'_>) -> bool
 {
     let mut ahead = tokens.ahead();
     let mut behind_end = false;
-    while let Some(sign) = ahead.take() {
-        if is_loop(sign) {
+    while let Some(terminal) = ahead.take() {
+        if is_loop(terminal) {
             return !behind_end;
         }
-        behind_end = is_end(sign);
+        behind_end = is_end(terminal);
     }
     false
 }
 
-fn is_loop(sign: Sign<'_>) -> bool
-    ensures { result ≡ taken.is_loop (meaning_of sign.entry) }
+fn is_loop(terminal: Terminal<'_>) -> bool
+    ensures { result ≡ taken.is_loop (meaning_of terminal.entry) }
 {
-    match sign {
-        Sign::Mark(Mark::Loop) => true,
+    match terminal {
+        Terminal::Mark(Mark::Loop) => true,
         _ => false,
     }
 }
 
-fn is_end(sign: Sign<'_>) -> bool
-    ensures { result ≡ taken.is_end (meaning_of sign.entry) }
+fn is_end(terminal: Terminal<'_>) -> bool
+    ensures { result ≡ taken.is_end (meaning_of terminal.entry) }
 {
-    match sign {
-        Sign::Mark(Mark::End) => true,
+    match terminal {
+        Terminal::Mark(Mark::End) => true,
         _ => false,
     }
 }

@@ -104,20 +104,20 @@ fn stands_outside(token: &Token<'_>, rest: &[Token<'_>]) -> bool
     if is_word(token) && is_outside(token.text) {
         return true;
     }
-    says_word(token, "exception") && begins_with_when(rest)
+    spells_word(token, "exception") && begins_with_when(rest)
 }
 
 fn begins_with_when(list: &[Token<'_>]) -> bool
     ensures { result ≡ spec.begins_with_word (codes "when") (map seen list.now) }
 {
     match list {
-        [token, ..] => says_word(token, "when"),
+        [token, ..] => spells_word(token, "when"),
         [] => false,
     }
 }
 
-fn says_word(token: &Token<'_>, word: &str) -> bool
-    ensures { result ≡ spec.says_word word.now (seen token.now) }
+fn spells_word(token: &Token<'_>, word: &str) -> bool
+    ensures { result ≡ spec.spells_word word.now (seen token.now) }
 {
     is_word(token) && token.text.eq_ignore_ascii_case(word)
 }

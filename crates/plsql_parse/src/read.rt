@@ -2,7 +2,7 @@
 
 ghost use Rattle.std.specs.Prelude.{◌≡◌, map, IfOk, IfErr};
 ghost use Rattle.away_grammar.specs.FunctionGrammar.{ReadsFunction, body, function};
-ghost use Rattle.away_grammar.specs.Signs.{all_say};
+ghost use Rattle.away_grammar.specs.Terminals.{token_terminals};
 ghost use Rattle.away_grammar.specs.Tokens.{AreSpelled};
 ghost use Rattle.away_lex.specs.Lexed.{seen};
 ghost use Rattle.away_lex.specs.declared.refusals.ReadRefusal.TheVariants.{Limit};
@@ -16,7 +16,7 @@ use crate::headers::{Header, header_of};
 use crate::outside::outside_word;
 use away_lex::{FunctionTokens, LimitKind, ReadRefusal, Token, folded, function_tokens, nesting};
 use away_trees::{Function, Stmt, node_count};
-use sql_text::{Cursor, Refusal, as_text, signs_of};
+use sql_text::{Cursor, Refusal, as_text, terminals_of};
 use sqlite_items::Boxed;
 use std::alloc::Global;
 
@@ -79,10 +79,10 @@ fn whole_function(
 /// The body that the list is, with nothing left of it.
 fn whole_body(alloc: Global, inner: &[Token<'_>]) -> Result<Boxed<Stmt>, Refusal>
     requires { AreSpelled (map seen inner.now) }
-    ensures { PartRead body (all_say (map seen inner.now)) result }
+    ensures { PartRead body (token_terminals (map seen inner.now)) result }
 {
-    let signs = signs_of(alloc, inner)?;
-    let mut left = Cursor::new(signs.as_slice(), 0);
+    let terminals = terminals_of(alloc, inner)?;
+    let mut left = Cursor::new(terminals.as_slice(), 0);
     match body_of(alloc, &mut left) {
         Ok(inside) => {
             if left.left() == 0 {
@@ -98,10 +98,10 @@ fn whole_body(alloc: Global, inner: &[Token<'_>]) -> Result<Boxed<Stmt>, Refusal
 /// The header that the list is, with nothing left of it.
 fn whole_header(alloc: Global, outer: &[Token<'_>]) -> Result<Header, Refusal>
     requires { AreSpelled (map seen outer.now) }
-    ensures { HeaderIs (all_say (map seen outer.now)) result }
+    ensures { HeaderIs (token_terminals (map seen outer.now)) result }
 {
-    let signs = signs_of(alloc, outer)?;
-    let mut left = Cursor::new(signs.as_slice(), 0);
+    let terminals = terminals_of(alloc, outer)?;
+    let mut left = Cursor::new(terminals.as_slice(), 0);
     match header_of(alloc, &mut left) {
         Ok(header) => {
             if left.left() == 0 {
@@ -121,7 +121,7 @@ fn function_around(
     inside: Boxed<Stmt>,
 ) -> Result<Function, Refusal>
     requires { AreSpelled (map seen outer.now) }
-    ensures { PartRead (function inside) (all_say (map seen outer.now)) result }
+    ensures { PartRead (function inside) (token_terminals (map seen outer.now)) result }
 {
     match whole_header(alloc, outer) {
         Ok(header) => Ok(header.around(inside)),

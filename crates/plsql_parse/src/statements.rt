@@ -4,7 +4,7 @@ ghost use Rattle.std.specs.Prelude.{◌≡◌, ◌≤◌, ◌<◌, ◌∷◌, �
 ghost use Rattle.std.specs.Bool.{OnTrue, OnFalse};
 ghost use Rattle.away_grammar.specs.declared.grammar.Mark.TheVariants.{Elsif, Elseif};
 ghost use Rattle.away_trees.specs.declared.statements.Stmt.TheVariants as made;
-ghost use Rattle.away_grammar.specs.Signs.{mark};
+ghost use Rattle.away_grammar.specs.Terminals.{mark};
 ghost use Rattle.away_grammar.specs.FunctionGrammar as grammar;
 ghost use Rattle.away_grammar.specs.FunctionGrammar.{branch, elsifs, whens, statement, statements};
 ghost use Rattle.sql_text.specs.Plans.{Begins, Gives};
@@ -27,7 +27,7 @@ use away_grammar::Mark;
 use away_lex::folded;
 use away_trees::{Arm, Decl, Expr, LoopKind, Stmt};
 use away_values::Name;
-use sql_text::{Cursor, Refusal, Sign};
+use sql_text::{Cursor, Refusal, Terminal};
 use sqlite_items::{Boxed, Items};
 use std::alloc::Global;
 
@@ -59,15 +59,15 @@ fn statement_of(alloc: Global, tokens: &mut Cursor<'_>) -> Result<Stmt, Refusal>
         return labelled(alloc, tokens, None);
     }
     match tokens.take() {
-        Some(Sign::Name(text)) => {
+        Some(Terminal::Name(text)) => {
             let name = folded(alloc, text)?;
             assignment_statement(alloc, tokens, name)
         }
-        Some(Sign::Mark(mark)) => marked(alloc, tokens, mark),
-        Some(Sign::Integer(_)) => Err(Refusal::NoTree),
-        Some(Sign::Text(_)) => Err(Refusal::NoTree),
-        Some(Sign::Parameter(_)) => Err(Refusal::NoTree),
-        Some(Sign::Quote(_)) => Err(Refusal::NoTree),
+        Some(Terminal::Mark(mark)) => marked(alloc, tokens, mark),
+        Some(Terminal::Integer(_)) => Err(Refusal::NoTree),
+        Some(Terminal::Text(_)) => Err(Refusal::NoTree),
+        Some(Terminal::Parameter(_)) => Err(Refusal::NoTree),
+        Some(Terminal::Quote(_)) => Err(Refusal::NoTree),
         None => Err(Refusal::NoTree),
     }
 }

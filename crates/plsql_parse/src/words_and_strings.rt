@@ -4,11 +4,11 @@ ghost use Rattle.std.specs.Prelude.{◌≡◌, ◌≤◌, ◌<◌, true, false, 
 ghost use Rattle.std.specs.Bool.{OnTrue, OnFalse};
 ghost use Rattle.away_grammar.specs.Reserved.{folded};
 ghost use Rattle.sql_text.specs.Plans.{first, tail};
-ghost use Rattle.sql_text.specs.CodeSigns.{Found};
+ghost use Rattle.sql_text.specs.CodeTerminals.{Found};
 ghost use Rattle.plsql_parse.specs.Sorts.{begins_word, string_in};
 
 use away_values::Word;
-use sql_text::{Cursor, Refusal, Sign, text_of};
+use sql_text::{Cursor, Refusal, Terminal, text_of};
 use std::alloc::Global;
 
 /// Takes the name that is this word, in any case, if it stands next.
@@ -19,7 +19,7 @@ pub(crate) fn eat_word(tokens: &mut Cursor<'_>, word: &str) -> bool
     ensures shorter { OnTrue result (length tokens.new < length tokens.old) }
 {
     let found = match tokens.peek() {
-        Some(Sign::Name(text)) => text.eq_ignore_ascii_case(word),
+        Some(Terminal::Name(text)) => text.eq_ignore_ascii_case(word),
         _ => false,
     };
     if found {
@@ -36,7 +36,7 @@ pub(crate) fn string(alloc: Global, tokens: &mut Cursor<'_>) -> Result<Word, Ref
     ensures shorter { IfOk result (λ _. length tokens.new < length tokens.old) }
 {
     match tokens.take() {
-        Some(Sign::Text(text)) => Ok(text_of(alloc, text)?),
+        Some(Terminal::Text(text)) => Ok(text_of(alloc, text)?),
         _ => Err(Refusal::NoTree),
     }
 }

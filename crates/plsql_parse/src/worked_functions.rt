@@ -5,9 +5,9 @@ ghost use Rattle.away_trees.specs.declared.statements.Stmt.{Stmt};
 ghost use Rattle.away_grammar.specs.FunctionGrammar.{ReadsPart, body, function};
 ghost use Rattle.away_trees.specs.WorkedFunctions.{collatz, walk};
 ghost use Rattle.plsql_parse.specs.WorkedTokens.{OutsideWordsFound};
-ghost use Rattle.plsql_parse.specs.WorkedSigns.{collatz_body, collatz_outer, many_signs, many_statements, unpaired_signs, walk_body, walk_outer};
+ghost use Rattle.plsql_parse.specs.WorkedTerminals.{collatz_body, collatz_outer, many_terminals, many_statements, unpaired_terminals, walk_body, walk_outer};
 
-/// The two lists of signs of a function with a WHILE loop and an IF read as its tree.
+/// The two lists of terminals of a function with a WHILE loop and an IF read as its tree.
 pub fn a_function_with_while_reads()
     ensures { ReadsPart body collatz_body collatz.body [] × ReadsPart (function collatz.body) collatz_outer collatz [] }
 {}
@@ -19,12 +19,12 @@ pub fn a_function_with_for_reads()
 
 /// A body with statements of every other kind reads as its tree.
 pub fn every_kind_of_statement_reads()
-    ensures { ReadsPart body many_signs many_statements [] }
+    ensures { ReadsPart body many_terminals many_statements [] }
 {}
 
 /// A CASE isn't ended by the END of END LOOP.
 pub fn end_loop_ends_no_case()
-    ensures { (x : Stmt) → ¬ (ReadsPart body unpaired_signs x []) }
+    ensures { (x : Stmt) → ¬ (ReadsPart body unpaired_terminals x []) }
 {}
 
 /// The words outside the profile are found in any case, those of the outer list first, and EXCEPTION only before WHEN.

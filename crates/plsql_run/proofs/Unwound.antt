@@ -8,7 +8,7 @@ use Rattle.plsql_meaning.specs.Outcomes.{Env, Label, Outcome, normal, exits, con
 use Rattle.plsql_meaning.specs.Loops.{Turning, taken, started, finished, turning, while, going, reaches}
 use Rattle.plsql_meaning.specs.Statements.{Setting}
 use Rattle.plsql_meaning.proofs.Spends.{list_spends, a_turn}
-use Rattle.plsql_run.specs.Places.{Place}
+use Rattle.plsql_run.specs.Places.{ListPosition}
 use Rattle.plsql_run.specs.declared.frames.Counting.{Counting}
 use Rattle.plsql_run.specs.declared.frames.Frame.{Frame}
 use Rattle.plsql_run.specs.declared.frames.Frame.TheVariants as frame
@@ -68,16 +68,16 @@ module _ (set : Setting) where
   resumed_passes f o final d e = subst (λ x. (resumed set f (done x d.env d.left)).outcome ≡ o) (sym e) (ap (λ x. x.outcome) (resumed_at f o final d.env d.left))
 
   -- A loop's frame with the loop's body on it, as a turn begins.
-  turn_of : (f : Frame) (p : Place) (env : Env) (n : ℕ) → resumed set f (and_then (taken env n (done normal)) (body_of set p)) ≡ taken env n (λ e m. resumed set f (body_of set p e m))
+  turn_of : (f : Frame) (p : ListPosition) (env : Env) (n : ℕ) → resumed set f (and_then (taken env n (done normal)) (body_of set p)) ≡ taken env n (λ e m. resumed set f (body_of set p e m))
   turn_of f p env zero = resumed_at f more tt env 0
   turn_of f p env (suc n) = refl
 
-  pub turn_begins : (fs gs hs : List Frame) (f : Frame) (p : Place) → gs ≡ fs ++ f ∷ [] → hs ≡ gs ++ frame.Rest p ∷ [] → (env : Env) (n : ℕ) →
+  pub turn_begins : (fs gs hs : List Frame) (f : Frame) (p : ListPosition) → gs ≡ fs ++ f ∷ [] → hs ≡ gs ++ frame.Rest p ∷ [] → (env : Env) (n : ℕ) →
       unwound set hs (taken env n (done normal)) ≡ unwound set fs (taken env n (λ e m. resumed set f (body_of set p e m)))
   turn_begins fs gs hs f p e e' env n = unwound_on gs hs (frame.Rest p) e' (taken env n (done normal)) ∙ unwound_on fs gs f e _ ∙ ap (unwound set fs) (turn_of f p env n)
 
   -- the equation of loops, whose body is a place
-  pub loop_turn : {S : Type 0} (t : Turning S) (own : Label) (p : Place) (z : S) (env : Env) (n : ℕ) →
+  pub loop_turn : {S : Type 0} (t : Turning S) (own : Label) (p : ListPosition) (z : S) (env : Env) (n : ℕ) →
       turning t own (body_of set p) z env n ≡ started (t.begin z env) env n (λ begun m. finished own (t.next z) (turning t own (body_of set p)) (body_of set p begun m))
   loop_turn t own p z env n = a_turn t own (body_of set p) (list_spends set p.list p.at) z env n
 
@@ -106,10 +106,10 @@ module _ (set : Setting) where
 
   -- ---- turns of WHILE and FOR
 
-  pub while_fails : (fs : List Frame) (l : Label) (test : Env → Or Value) (p : Place) (env : Env) (c : Class) → test env ≡ Err c → (n : ℕ) → (unwound set fs (turning (while test) l (body_of set p) tt env n)).outcome ≡ faults c
+  pub while_fails : (fs : List Frame) (l : Label) (test : Env → Or Value) (p : ListPosition) (env : Env) (c : Class) → test env ≡ Err c → (n : ℕ) → (unwound set fs (turning (while test) l (body_of set p) tt env n)).outcome ≡ faults c
   while_fails fs l test p env c e n = passes fs (faults c) tt _ (ap (λ d. d.outcome) (loop_turn (while test) l p tt env n) ∙ ap (λ r. (started (mapped (λ v. going (is_true v) env) r) env n (λ begun m. finished l (Ok (Some tt)) (turning (while test) l (body_of set p)) (body_of set p begun m))).outcome) e)
 
-  pub while_turn : (l : Label) (test : Env → Or Value) (p : Place) (env : Env) (v : Value) → test env ≡ Ok v → is_true v ≡ true → (n : ℕ) →
+  pub while_turn : (l : Label) (test : Env → Or Value) (p : ListPosition) (env : Env) (v : Value) → test env ≡ Ok v → is_true v ≡ true → (n : ℕ) →
       taken env n (λ e m. finished l (Ok (Some tt)) (turning (while test) l (body_of set p)) (body_of set p e m)) ≡ turning (while test) l (body_of set p) tt env n
   while_turn l test p env v e holds n = sym (loop_turn (while test) l p tt env n
       ∙ ap (λ r. started (mapped (λ v. going (is_true v) env) r) env n (λ begun m. finished l (Ok (Some tt)) (turning (while test) l (body_of set p)) (body_of set p begun m))) e

@@ -13,7 +13,7 @@ use Rattle.plsql_meaning.specs.Outcomes.{Env, Outcome, normal, exits, continues,
 use Rattle.plsql_meaning.specs.Loops.{Turning, taken, Verdict, again, leave, finished, turning, always, while, counts}
 use Rattle.plsql_meaning.specs.Statements.{Setting, in_arms, in_else, in_row, meanings, running}
 use Rattle.plsql_meaning.specs.Functions.{answer_of}
-use Rattle.plsql_run.specs.Places.{Place}
+use Rattle.plsql_run.specs.Places.{ListPosition}
 use Rattle.plsql_run.specs.declared.frames.Counting.{Counting}
 use Rattle.plsql_run.specs.declared.frames.Frame.{Frame}
 use Rattle.plsql_run.specs.declared.frames.Frame.TheVariants as frame
@@ -43,7 +43,7 @@ lacking (Some c) = faults c
 
 module _ (set : Setting) where
   -- the statements of a place
-  abbrev pub body_of : Place → Step
+  abbrev pub body_of : ListPosition → Step
   body_of p = in_row (meanings set p.list) p.at
 
   -- a FOR from a counter on

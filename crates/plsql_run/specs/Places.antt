@@ -6,7 +6,7 @@ use Rattle.plsql_run.specs.declared.layout.Layout.{Layout}
 use Rattle.plsql_run.specs.Layouts.{layouts_of}
 
 -- statements, and the first slot that the text before them doesn't take
-pub record Place : Type 0 where
+pub record ListPosition : Type 0 where
   pub list : List Stmt
   pub at : ℕ
 

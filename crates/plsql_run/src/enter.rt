@@ -20,13 +20,10 @@ use crate::loops::{begin_plain, begin_while};
 use crate::setting::Setting;
 use crate::single_statements::{assign, give, jump, raise};
 use away_trees::{Arm, Decl, LoopKind, Stmt};
-use away_values::{Class, Name, OpError, Value};
+use away_values::{Class, Name, OpError, Value, sqlstate};
 use lateral_rows::is_true;
 use sqlite_items::Items;
 use std::alloc::Global;
-
-/// case_not_found
-const CASE_NOT_FOUND: Class = Class { code: *b"20000" };
 
 /// A block begins with its declarations, from the slot `at` on.
 fn enter_block<'a>(
@@ -235,7 +232,7 @@ pub(crate) fn enter<'a>(
             arms.as_slice(),
             other,
             layout,
-            Some(CASE_NOT_FOUND),
+            Some(sqlstate::CASE_NOT_FOUND),
             at,
         ),
         Stmt::Loop {

@@ -16,11 +16,11 @@ pub struct Stretch<'a> {
 }
 
 impl<'a> Model for Stretch<'a> {
-    ghost use Rattle.plsql_run.specs.Places.{Place, IsPlace};
+    ghost use Rattle.plsql_run.specs.Places.{ListPosition, IsPlace};
     ghost use Rattle.away_trees.specs.contracts.statements.Stmt as e;
     ghost use Rattle.std.specs.Coded.{codes};
 
-    ghost Value = { Place };
+    ghost Value = { ListPosition };
 
     ghost coded = { Prim.hlevel (codes, e.the_row.coded) };
 

@@ -8,3 +8,8 @@ mod cases;
 mod copies;
 #[cfg(test)]
 mod queries;
+mod worked_rules;
+
+pub use worked_rules::{
+    functions_break_their_rules, queries_break_their_rules, schemas_break_their_rules,
+};

@@ -6,7 +6,7 @@ ghost use Rattle.away_trees.specs.declared.queries.Expr.TheVariants as expr;
 ghost use Rattle.away_values.specs.declared.values.Value.TheVariants as val;
 ghost use Rattle.std.specs.Prelude.{false};
 
-use crate::functions::{Function, aggregate, function_of, is_aggregate, scalar};
+use crate::functions::{Function, aggregate_of, function_of, is_aggregate, scalar};
 use crate::operators::{
     cast, decides, exists, held, is_false, negated, negated_small, negation, negation_if, only,
     pair, passes, within,
@@ -246,7 +246,7 @@ fn eval_call<'f>(
         _ => {
             if is_aggregate(kind) {
                 let column = eval_group(alloc, list, scope)?;
-                aggregate(alloc, kind, column.as_slice())
+                aggregate_of(alloc, kind, column.as_slice())
             } else {
                 let values = eval_all(alloc, list, scope)?;
                 scalar(alloc, kind, values.as_slice())

@@ -8,7 +8,7 @@ ghost use Rattle.sql_meaning.specs.Gives.{Gives};
 
 use crate::operators::held;
 use away_values::{Name, OpError, TextOp, Value, text_op};
-use lateral_rows::{Fold, fold, most_extreme};
+use lateral_rows::{Aggregate, aggregate, most_extreme};
 use std::alloc::Global;
 
 #[derive(Clone, Copy)]
@@ -107,17 +107,21 @@ pub(crate) fn scalar(alloc: Global, function: Function, list: &[Value]) -> Resul
 }
 
 /// An aggregate over the values of a group, of which it skips NULL.
-#[tactic(auto, using(sql_meaning::proofs::GivesRules::gives_rules), unfolding(lateral_rows::specs::Folds::folded),)]
-pub(crate) fn aggregate(alloc: Global, function: Function, list: &[Value]) -> Result<Value, OpError>
+#[tactic(auto, using(sql_meaning::proofs::GivesRules::gives_rules), unfolding(lateral_rows::specs::Aggregates::aggregated),)]
+pub(crate) fn aggregate_of(
+    alloc: Global,
+    function: Function,
+    list: &[Value],
+) -> Result<Value, OpError>
     ensures { Gives (meant.aggregate (meant_by function) (known list.now)) result }
 {
     match function {
-        Function::Count => fold(alloc, Fold::Count, list),
-        Function::Min => fold(alloc, Fold::Min, list),
-        Function::Max => fold(alloc, Fold::Max, list),
-        Function::Sum => fold(alloc, Fold::Sum, list),
-        Function::BoolAnd => fold(alloc, Fold::BoolAnd, list),
-        Function::BoolOr => fold(alloc, Fold::BoolOr, list),
+        Function::Count => aggregate(alloc, Aggregate::Count, list),
+        Function::Min => aggregate(alloc, Aggregate::Min, list),
+        Function::Max => aggregate(alloc, Aggregate::Max, list),
+        Function::Sum => aggregate(alloc, Aggregate::Sum, list),
+        Function::BoolAnd => aggregate(alloc, Aggregate::BoolAnd, list),
+        Function::BoolOr => aggregate(alloc, Aggregate::BoolOr, list),
         _ => Ok(Value::Null),
     }
 }

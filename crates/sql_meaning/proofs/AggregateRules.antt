@@ -37,9 +37,9 @@ pub in_named : (t : List ℕ) → aggregated (expr.Named t) ≡ false
 unfolding aggregated
 in_named t = refl
 
-pub in_dotted : (t u : List ℕ) → aggregated (expr.Dotted t u) ≡ false
+pub in_qualified : (t u : List ℕ) → aggregated (expr.Dotted t u) ≡ false
 unfolding aggregated
-in_dotted t u = refl
+in_qualified t u = refl
 
 pub in_slot : (i : ℕ) → aggregated (expr.Slot i) ≡ false
 unfolding aggregated
@@ -153,6 +153,6 @@ pub other_some : (e : Expr) → other_aggregated (Some e) ≡ aggregated e
 unfolding other_aggregated aggregated
 other_some e = refl
 
-pub ruleset aggregate_rules = (in_int, in_str, in_bool, in_null, in_named, in_dotted, in_slot, in_column, in_param, in_neg, in_neg_small, in_not, in_is, in_chain, in_compare, in_between, in_one_of, in_cast, in_cases, in_cases_alone, in_call, in_count_rows, in_scalar, in_exists)
+pub ruleset aggregate_rules = (in_int, in_str, in_bool, in_null, in_named, in_qualified, in_slot, in_column, in_param, in_neg, in_neg_small, in_not, in_is, in_chain, in_compare, in_between, in_one_of, in_cast, in_cases, in_cases_alone, in_call, in_count_rows, in_scalar, in_exists)
 
 pub ruleset any_rules = (next_item, none_left, any_expr_none, any_expr_more, any_link_none, any_link_more, any_arm_none, any_arm_more, any_item_none, any_item_more, other_none, other_some)

@@ -42,9 +42,9 @@ pub of_named : (cx : Context) (t : List ℕ) → value_of cx (expr.Named t) ≡ 
 unfolding value_of
 of_named cx t = refl
 
-pub of_dotted : (cx : Context) (t u : List ℕ) → value_of cx (expr.Dotted t u) ≡ Ok val.Null
+pub of_qualified : (cx : Context) (t u : List ℕ) → value_of cx (expr.Dotted t u) ≡ Ok val.Null
 unfolding value_of
-of_dotted cx t u = refl
+of_qualified cx t u = refl
 
 pub of_slot : (cx : Context) (i : ℕ) → value_of cx (expr.Slot i) ≡ Ok (at cx.env i)
 unfolding value_of
@@ -138,7 +138,7 @@ pub of_exists : (cx : Context) (q : Query) → value_of cx (expr.Exists q) ≡ m
 unfolding value_of query_rows
 of_exists cx q = ap (λ m. m.value cx) (eq.of_exists meaning q)
 
-pub ruleset node_rules = (of_int, of_str, of_bool, of_null, of_named, of_dotted, of_slot, of_column, of_param, of_neg, of_neg_small, of_not, of_is, of_chain, of_compare, of_between, of_one_of, of_cast, of_cases, of_coalesce, of_aggregate, of_other, of_count_rows, of_scalar, of_exists)
+pub ruleset node_rules = (of_int, of_str, of_bool, of_null, of_named, of_qualified, of_slot, of_column, of_param, of_neg, of_neg_small, of_not, of_is, of_chain, of_compare, of_between, of_one_of, of_cast, of_cases, of_coalesce, of_aggregate, of_other, of_count_rows, of_scalar, of_exists)
 
 pub other_none : (cx : Context) → other_of cx None ≡ Ok val.Null
 unfolding other_of

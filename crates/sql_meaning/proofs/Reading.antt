@@ -103,7 +103,7 @@ module _ (one two : same.Surroundings) (slots : ℕ → Bool) (params places : �
           bool = λ v d h. (refl, λ l g r. refl);
           null = λ d h. (refl, λ l g r. refl);
           named = λ t d h. (refl, λ l g r. refl);
-          dotted = λ t s d h. (refl, λ l g r. refl);
+          qualified = λ t s d h. (refl, λ l g r. refl);
           slot = λ i d h. (refl, λ l g r. ap Ok (agree i (and_first (slots i) true h)));
           column = λ c d h. same.column_same one two d c (own_column ok (nat_lt c.level d) c refl h);
           param = λ i t d h. (refl, λ l g r. ap Ok (given i (and_first (nat_lt i params) true h)));

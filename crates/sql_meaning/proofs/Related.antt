@@ -52,7 +52,7 @@ pub record IsKept (f g h : Algebra) (r : Relation f g h) : Type 0 where
   pub bool : (v : Bool) → r.Exprs (f.expr (ex.Bool v)) (g.expr (ex.Bool v)) (h.expr (ex.Bool v))
   pub null : r.Exprs (f.expr ex.Null) (g.expr ex.Null) (h.expr ex.Null)
   pub named : (t : List ℕ) → r.Exprs (f.expr (ex.Named t)) (g.expr (ex.Named t)) (h.expr (ex.Named t))
-  pub dotted : (t s : List ℕ) → r.Exprs (f.expr (ex.Dotted t s)) (g.expr (ex.Dotted t s)) (h.expr (ex.Dotted t s))
+  pub qualified : (t s : List ℕ) → r.Exprs (f.expr (ex.Dotted t s)) (g.expr (ex.Dotted t s)) (h.expr (ex.Dotted t s))
   pub slot : (i : ℕ) → r.Exprs (f.expr (ex.Slot i)) (g.expr (ex.Slot i)) (h.expr (ex.Slot i))
   pub column : (c : Col) → r.Exprs (f.expr (ex.Column c)) (g.expr (ex.Column c)) (h.expr (ex.Column c))
   pub param : (i : ℕ) (t : Ty) → r.Exprs (f.expr (ex.Param i t)) (g.expr (ex.Param i t)) (h.expr (ex.Param i t))
@@ -87,7 +87,7 @@ module _ (f g h : Algebra) (r : Relation f g h) (k : IsKept f g h r) where
     expr_related (b.Bool v) = k.bool v
     expr_related b.Null = k.null
     expr_related (b.Named name) = k.named name
-    expr_related (b.Dotted alias name) = k.dotted alias name
+    expr_related (b.Dotted alias name) = k.qualified alias name
     expr_related (b.Slot i) = k.slot i
     expr_related (b.Column c) = k.column c
     expr_related (b.Param i ty) = k.param i ty

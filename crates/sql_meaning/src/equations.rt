@@ -108,7 +108,7 @@ pub fn leaves_have_their_values()
     ensures bool { (b : Bool) (cx : Context) → value (expr.Bool b) cx ≡ Ok (val.Bool b) }
     ensures null { (cx : Context) → value expr.Null cx ≡ Ok val.Null }
     ensures named { (name : List ℕ) (cx : Context) → value (expr.Named name) cx ≡ Ok val.Null }
-    ensures dotted { (alias name : List ℕ) (cx : Context) → value (expr.Dotted alias name) cx ≡ Ok val.Null }
+    ensures qualified { (alias name : List ℕ) (cx : Context) → value (expr.Dotted alias name) cx ≡ Ok val.Null }
     ensures slot { (i : ℕ) (cx : Context) → value (expr.Slot i) cx ≡ Ok (at cx.env i) }
     ensures column { (c : Col) (cx : Context) → value (expr.Column c) cx ≡ Ok (column cx.frames c) }
     ensures param { (i : ℕ) (t : Ty) (cx : Context) → value (expr.Param i t) cx ≡ Ok (argument cx.args i) }
@@ -157,7 +157,7 @@ pub fn aggregates_stand_outside_subqueries()
     ensures bool { (b : Bool) → has_aggregate (expr.Bool b) ≡ false }
     ensures null { has_aggregate expr.Null ≡ false }
     ensures named { (name : List ℕ) → has_aggregate (expr.Named name) ≡ false }
-    ensures dotted { (alias name : List ℕ) → has_aggregate (expr.Dotted alias name) ≡ false }
+    ensures qualified { (alias name : List ℕ) → has_aggregate (expr.Dotted alias name) ≡ false }
     ensures slot { (i : ℕ) → has_aggregate (expr.Slot i) ≡ false }
     ensures column { (c : Col) → has_aggregate (expr.Column c) ≡ false }
     ensures param { (i : ℕ) (t : Ty) → has_aggregate (expr.Param i t) ≡ false }

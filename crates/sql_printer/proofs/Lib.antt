@@ -4,10 +4,10 @@ pub mod PrintQueries
 pub mod PrintBack
 pub mod PrintClear
 pub mod PrintClearQueries
-pub mod PrintSpoken
+pub mod PrintWritable
 pub mod PrintTokens
 pub mod PrintTexts
-pub mod TextSigns
+pub mod TextTerminals
 pub mod Adding
 pub mod Doubled
 pub mod LaidOut

@@ -1,8 +1,8 @@
--- What is read prints as signs that read back.
+-- What is read prints as terminals that read back.
 use Rattle.std.proofs.Common.{List}
 use Rattle.away_trees.specs.declared.queries.Expr.TheVariants as e
-use Rattle.away_grammar.specs.Signs.{Sign}
-use Rattle.away_grammar.specs.Grammar.{Sort, at, links, list, arms, item, items, from_item, from_items, from_clause, where_clause, key, keys, order_clause, limit_clause, select, selects, query, names, recursive, file, column, columns, tables, Tree, Reads, chain, no_link, link, affirmed, negated, untested, tested, uncompared, compared, unranged, between, one_of, unsigned, signed, least, uncast, cast_once, cast_twice, number, text, literal, named, dotted, typed_parameter, short_parameter, parentheses, scalar, cast, exists, cases, cases_else, call_word, count_rows, call_empty, call, last, another, no_arm, arm, item_alone, item_as, last_item, another_item, table_alone, table_as, sub_alone, sub_columns, last_from, another_from, last_name, another_name, key_alone, ascending, descending, last_key, another_key, no_from, from, no_where, where_of, no_order, order_by, no_limit, limit_of, select_of, last_select, another_select, query_of, recursive_of, plain_file, with_file, column_of, last_column, another_column, no_table, table}
+use Rattle.away_grammar.specs.Terminals.{Terminal}
+use Rattle.away_grammar.specs.Grammar.{Sort, at, links, list, arms, item, items, from_item, from_items, from_clause, where_clause, key, keys, order_clause, limit_clause, select, selects, query, names, recursive, file, column, columns, tables, Tree, Reads, chain, no_link, link, affirmed, negated, untested, tested, uncompared, compared, unranged, between, one_of, unsigned, signed, least, uncast, cast_once, cast_twice, number, text, literal, named, qualified, typed_parameter, short_parameter, parentheses, scalar, cast, exists, cases, cases_else, call_word, count_rows, call_empty, call, last, another, no_arm, arm, item_alone, item_as, last_item, another_item, table_alone, table_as, sub_alone, sub_columns, last_from, another_from, last_name, another_name, key_alone, ascending, descending, last_key, another_key, no_from, from, no_where, where_of, no_order, order_by, no_limit, limit_of, select_of, last_select, another_select, query_of, recursive_of, plain_file, with_file, column_of, last_column, another_column, no_table, table}
 use Rattle.sql_printer.proofs.PrintLevels.{Back}
 use Rattle.sql_printer.proofs.PrintExpressions as x
 use Rattle.sql_printer.proofs.PrintQueries as q
@@ -33,18 +33,18 @@ PrintsBack column t = Unit {0}
 PrintsBack columns t = Unit {0}
 PrintsBack tables t = Unit {0}
 
-pub prints_back : {n : Sort} {ts : List Sign} {t : Tree n} {rest : List Sign} → Reads n ts t rest → PrintsBack n t
+pub prints_back : {n : Sort} {ts : List Terminal} {t : Tree n} {rest : List Terminal} → Reads n ts t rest → PrintsBack n t
 prints_back (chain p d no_link) = prints_back d
-prints_back (chain {level = level} {first = first} p d (link {o = o} {x = y} {more = more} sign h b c)) =
-    x.chain_back level sign o first y more p h (prints_back d) (x.link_back level sign o y more h (prints_back b) (prints_back c))
+prints_back (chain {level = level} {first = first} p d (link {o = o} {x = y} {more = more} terminal h b c)) =
+    x.chain_back level terminal o first y more p h (prints_back d) (x.link_back level terminal o y more h (prints_back b) (prints_back c))
 prints_back no_link = λ after. no_link
-prints_back (link {level = level} {o = o} {x = y} {more = more} sign h d c) = x.link_back level sign o y more h (prints_back d) (prints_back c)
+prints_back (link {level = level} {o = o} {x = y} {more = more} terminal h d c) = x.link_back level terminal o y more h (prints_back d) (prints_back c)
 prints_back (affirmed d) = prints_back d
 prints_back (negated {x = y} d) = x.not_back y (prints_back d)
 prints_back (untested d) = prints_back d
-prints_back (tested {x = y} {n = n} {test = test} sign h d) = x.is_back y test n (prints_back d)
+prints_back (tested {x = y} {n = n} {test = test} terminal h d) = x.is_back y test n (prints_back d)
 prints_back (uncompared d) = prints_back d
-prints_back (compared {x = y} {y = z} {o = o} sign h d c) = x.compare_back o y z (prints_back d) (prints_back c)
+prints_back (compared {x = y} {y = z} {o = o} terminal h d c) = x.compare_back o y z (prints_back d) (prints_back c)
 prints_back (unranged d) = prints_back d
 prints_back (between {x = y} {low = low} {high = high} {n = n} d b c) = x.between_back n y low high (prints_back d) (prints_back b) (prints_back c)
 prints_back (one_of {x = y} {xs = xs} {n = n} d b) = x.one_of_back n y xs (prints_back d) (prints_back b)
@@ -56,9 +56,9 @@ prints_back (cast_once {x = y} {ty = ty} t h d) = x.cast_back y t ty h (prints_b
 prints_back (cast_twice {x = y} {first = first} {second = second} t u h k d) = x.cast_back (e.Cast y first) u second k (x.cast_back y t first h (prints_back d))
 prints_back (number {n = n} h) = x.number_back n h
 prints_back (text {t = t}) = x.text_back t
-prints_back (literal {x = y} sign h) = x.literal_back sign y h
+prints_back (literal {x = y} terminal h) = x.literal_back terminal y h
 prints_back (named {n = n}) = x.named_back n
-prints_back (dotted {n = n} {c = c}) = x.dotted_back n c
+prints_back (qualified {n = n} {c = c}) = x.qualified_back n c
 prints_back (typed_parameter {i = i} {ty = ty} t h) = x.parameter_back i t ty h
 prints_back (short_parameter {i = i} {ty = ty} t h) = x.parameter_back i t ty h
 prints_back (parentheses d) = prints_back d
@@ -67,7 +67,7 @@ prints_back (cast {x = y} {ty = ty} t h d) = x.cast_back y t ty h (prints_back d
 prints_back (exists {q = s} d) = x.exists_back s (prints_back d)
 prints_back (cases {a = a} {more = more} d) = x.cases_back a more (prints_back d)
 prints_back (cases_else {a = a} {more = more} {x = y} d b) = x.cases_else_back a more y (prints_back d) (prints_back b)
-prints_back (call_word {n = n} {xs = xs} sign h d) = x.call_back n xs (prints_back d)
+prints_back (call_word {n = n} {xs = xs} terminal h d) = x.call_back n xs (prints_back d)
 prints_back count_rows = x.count_back
 prints_back (call_empty {n = n}) = x.call_empty_back n
 prints_back (call {n = n} {xs = xs} d) = x.call_back n xs (prints_back d)

@@ -12,11 +12,11 @@ use Rattle.away_trees.specs.declared.queries.Recursive.{Recursive}
 use Rattle.away_trees.specs.declared.queries.Query.{Query}
 use Rattle.away_trees.specs.declared.queries.Expr.TheViews.{roll-Item, roll-FromItem, roll-Key, roll-Select, roll-Recursive, roll-Query}
 use Rattle.away_trees.specs.Algebra.{item_of, from_of, key_of, select_of, recursive_of}
-use Rattle.away_grammar.specs.Signs.{Sign, mark, name}
+use Rattle.away_grammar.specs.Terminals.{Terminal, mark, name}
 use Rattle.away_grammar.specs.Grammar.{perhaps}
-use Rattle.away_grammar.specs.Printing.{printed, printing, print_from, with_commas, names_signs, from_signs, where_signs, order_signs, limit_signs, selects_signs, query_signs}
+use Rattle.away_grammar.specs.Printing.{printed, printing, print_from, with_commas, names_terminals, from_terminals, where_terminals, order_terminals, limit_terminals, selects_terminals, query_terminals}
 use Rattle.away_trees.proofs.Equations as eq
-use Rattle.sql_printer.specs.Spoken.{Spoken}
+use Rattle.sql_printer.specs.Writable.{Writable}
 use Rattle.sql_printer.proofs.PrintQueries.{map_last}
 use Rattle.sql_printer.proofs.PrintClear.{Clear, nothing, a_mark, a_name, both, Fine, at_place}
 
@@ -27,66 +27,66 @@ abbrev pub ClearFroms : List FromItem → Type 0
 ClearFroms xs = Clear (with_commas (map (λ x. from_of printing x) xs))
 
 abbrev pub ClearFrom : List FromItem → Type 0
-ClearFrom xs = Clear (from_signs (map (λ x. from_of printing x) xs))
+ClearFrom xs = Clear (from_terminals (map (λ x. from_of printing x) xs))
 
 abbrev pub ClearWhere : Option Expr → Type 0
-ClearWhere w = Clear (where_signs (option_map (λ x. printed x) w))
+ClearWhere w = Clear (where_terminals (option_map (λ x. printed x) w))
 
 abbrev pub ClearKeys : List Key → Type 0
 ClearKeys xs = Clear (with_commas (map (λ x. key_of printing x) xs))
 
 abbrev pub ClearOrder : List Key → Type 0
-ClearOrder xs = Clear (order_signs (map (λ x. key_of printing x) xs))
+ClearOrder xs = Clear (order_terminals (map (λ x. key_of printing x) xs))
 
 abbrev pub ClearLimit : Option Expr → Type 0
-ClearLimit n = Clear (limit_signs (option_map (λ x. printed x) n))
+ClearLimit n = Clear (limit_terminals (option_map (λ x. printed x) n))
 
 abbrev pub ClearSelects : List Select → Type 0
-ClearSelects ss = Clear (selects_signs (map (λ s. select_of printing s) ss))
+ClearSelects ss = Clear (selects_terminals (map (λ s. select_of printing s) ss))
 
 -- ---- items
 
 pub item_alone_clear : (x : Expr) → Fine x → Clear (item_of printing (roll-Item (record { expr = x; alias = None })))
 item_alone_clear x d = both (at_place l.Or x d) nothing
 
-pub item_as_clear : (x : Expr) (n : List ℕ) → Spoken (name n) → Fine x → Clear (item_of printing (roll-Item (record { expr = x; alias = Some n })))
+pub item_as_clear : (x : Expr) (n : List ℕ) → Writable (name n) → Fine x → Clear (item_of printing (roll-Item (record { expr = x; alias = Some n })))
 item_as_clear x n h d = both (at_place l.Or x d) (a_mark m.As refl (a_name n h nothing))
 
 -- lists with commas
-pub commas_clear : (x : List Sign) (xs : List (List Sign)) → Clear x → Clear (with_commas xs) → Clear (with_commas (x ∷ xs))
+pub commas_clear : (x : List Terminal) (xs : List (List Terminal)) → Clear x → Clear (with_commas xs) → Clear (with_commas (x ∷ xs))
 commas_clear x [] d r = d
 commas_clear x (y ∷ ys) d r = both d (a_mark m.Comma refl r)
 
 -- ---- FROM
 
-pub last_name_clear : (n : List ℕ) → Spoken (name n) → Clear (names_signs (n ∷ []))
+pub last_name_clear : (n : List ℕ) → Writable (name n) → Clear (names_terminals (n ∷ []))
 last_name_clear n h = a_name n h nothing
 
-pub another_name_clear : (n : List ℕ) (ns : List (List ℕ)) → Spoken (name n) → Clear (names_signs ns) → Clear (names_signs (n ∷ ns))
+pub another_name_clear : (n : List ℕ) (ns : List (List ℕ)) → Writable (name n) → Clear (names_terminals ns) → Clear (names_terminals (n ∷ ns))
 another_name_clear n [] h r = a_name n h nothing
 another_name_clear n (k ∷ ns) h r = a_name n h (a_mark m.Comma refl r)
 
-alias_by : (b : Bool) (a : List ℕ) → Spoken (name a) → Clear (if b then [] else mark m.As ∷ name a ∷ [])
+alias_by : (b : Bool) (a : List ℕ) → Writable (name a) → Clear (if b then [] else mark m.As ∷ name a ∷ [])
 alias_by true a h = nothing
 alias_by false a h = a_mark m.As refl (a_name a h nothing)
 
-pub table_clear : (n a : List ℕ) → Spoken (name n) → Spoken (name a) → Clear (from_of printing (roll-FromItem (record { source = source.Table n; alias = a; columns = [] })))
+pub table_clear : (n a : List ℕ) → Writable (name n) → Writable (name a) → Clear (from_of printing (roll-FromItem (record { source = source.Table n; alias = a; columns = [] })))
 table_clear n a h k = a_name n h (both (alias_by (bytes_eq n a) a k) nothing)
 
-lateral_clear : (v : Bool) {ts : List Sign} → Clear ts → Clear (perhaps v (mark m.Lateral) ts)
+lateral_clear : (v : Bool) {ts : List Terminal} → Clear ts → Clear (perhaps v (mark m.Lateral) ts)
 lateral_clear true d = a_mark m.Lateral refl d
 lateral_clear false d = d
 
 -- in parentheses
-closed : {ts : List Sign} → Clear ts → Clear (mark m.Open ∷ (ts ++ mark m.Close ∷ []))
+closed : {ts : List Terminal} → Clear ts → Clear (mark m.Open ∷ (ts ++ mark m.Close ∷ []))
 closed d = a_mark m.Open refl (both d (a_mark m.Close refl nothing))
 
-pub sub_clear : (q : Query) (v : Bool) (a : List ℕ) → Clear (query_signs q) → Spoken (name a) → Clear (from_of printing (roll-FromItem (record { source = source.Sub q v; alias = a; columns = [] })))
+pub sub_clear : (q : Query) (v : Bool) (a : List ℕ) → Clear (query_terminals q) → Writable (name a) → Clear (from_of printing (roll-FromItem (record { source = source.Sub q v; alias = a; columns = [] })))
 sub_clear q v a d h =
     subst (λ o. Clear (print_from (record { source = o; alias = a; columns = [] }))) (sym (eq.of_sub printing q v))
     (both (lateral_clear v (closed d)) (a_mark m.As refl (a_name a h nothing)))
 
-pub sub_columns_clear : (q : Query) (v : Bool) (a : List ℕ) (ns : List (List ℕ)) → Clear (query_signs q) → Spoken (name a) → Clear (names_signs ns)
+pub sub_columns_clear : (q : Query) (v : Bool) (a : List ℕ) (ns : List (List ℕ)) → Clear (query_terminals q) → Writable (name a) → Clear (names_terminals ns)
     → Clear (from_of printing (roll-FromItem (record { source = source.Sub q v; alias = a; columns = ns })))
 sub_columns_clear q v a [] d h r = sub_clear q v a d h
 sub_columns_clear q v a (n ∷ ns) d h r =
@@ -125,19 +125,19 @@ pub another_select_clear : (s : Select) (ss : List Select) → Clear (select_of 
 another_select_clear s [] d r = d
 another_select_clear s (t ∷ ss) d r = both d (a_mark m.Union refl (a_mark m.All refl r))
 
-pub query_clear : (ss : List Select) → ClearSelects ss → Clear (query_signs (roll-Query (record { recursive = None; selects = ss })))
+pub query_clear : (ss : List Select) → ClearSelects ss → Clear (query_terminals (roll-Query (record { recursive = None; selects = ss })))
 query_clear ss r = subst Clear (sym (eq.of_query printing ss)) r
 
-recursive_by : (n : List ℕ) (columns all : List Sign) → Spoken (name n) → Clear columns → Clear all
+recursive_by : (n : List ℕ) (columns all : List Terminal) → Writable (name n) → Clear columns → Clear all
     → Clear (mark m.With ∷ mark m.Recursive ∷ name n ∷ mark m.Open ∷ (columns ++ mark m.Close ∷ mark m.As ∷ mark m.Open ∷ (all ++ mark m.Close ∷ [])))
 recursive_by n columns all h c d =
     a_mark m.With refl (a_mark m.Recursive refl (a_name n h (a_mark m.Open refl (both c (a_mark m.Close refl (a_mark m.As refl (closed d)))))))
 
-pub recursive_clear : (n : List ℕ) (ns : List (List ℕ)) (s : Select) (ss : List Select) (second : Select) → Spoken (name n) → Clear (names_signs ns) → ClearSelects (s ∷ (ss ++ second ∷ []))
+pub recursive_clear : (n : List ℕ) (ns : List (List ℕ)) (s : Select) (ss : List Select) (second : Select) → Writable (name n) → Clear (names_terminals ns) → ClearSelects (s ∷ (ss ++ second ∷ []))
     → Clear (recursive_of printing (roll-Recursive (record { name = n; columns = ns; first = s ∷ ss; second = second })))
 recursive_clear n ns s ss second h c d =
     rw (eq.of_recursive printing n ns (s ∷ ss) second)
-    (rw (sym (map_last ss second)) (recursive_by n (names_signs ns) (selects_signs (map (λ s. select_of printing s) (s ∷ (ss ++ second ∷ [])))) h c d))
+    (rw (sym (map_last ss second)) (recursive_by n (names_terminals ns) (selects_terminals (map (λ s. select_of printing s) (s ∷ (ss ++ second ∷ [])))) h c d))
 
-pub with_clear : (r : Recursive) (ss : List Select) → Clear (recursive_of printing r) → ClearSelects ss → Clear (query_signs (roll-Query (record { recursive = Some r; selects = ss })))
+pub with_clear : (r : Recursive) (ss : List Select) → Clear (recursive_of printing r) → ClearSelects ss → Clear (query_terminals (roll-Query (record { recursive = Some r; selects = ss })))
 with_clear r ss d c = subst Clear (sym (eq.of_with printing r ss)) (both d c)

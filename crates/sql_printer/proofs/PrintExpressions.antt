@@ -1,4 +1,4 @@
--- What each production of expressions reads prints as signs that read back, where its parts do.
+-- What each production of expressions reads prints as terminals that read back, where its parts do.
 use Rattle.std.proofs.Common.{◌≡◌, ℕ, ◌<◌, ◌^◌, ◌-◌, pos, negsuc, Bool, true, false, List, [], ◌∷◌, ◌++◌, map, Some, None, refl, sym, ap, subst, append_assoc, codes, bytes_eq, if◌then◌else◌}
 use Rattle.std.proofs.lemmas.Slice.Eq.{bytes_eq-Decides}
 use Rattle.away_grammar.specs.declared.grammar.Mark.{Mark}
@@ -17,9 +17,9 @@ use Rattle.away_values.specs.declared.operators.IsTest.TheVariants as tests
 use Rattle.away_trees.specs.declared.queries.Expr.{Expr}
 use Rattle.away_trees.specs.declared.queries.Expr.TheVariants as e
 use Rattle.away_trees.specs.declared.queries.Query.{Query}
-use Rattle.away_grammar.specs.Signs.{Sign, mark, name}
-use Rattle.away_grammar.specs.Grammar.{at, links, list, arms, query, operands, operator_of, comparison_of, test_of, literal_of, type_named, perhaps, IsChain, Reads, chain, link, negated, tested, compared, between, one_of, signed, least, number, text, literal, named, dotted, typed_parameter, scalar, cast, exists, cases, cases_else, call_word, count_rows, call_empty, call, last, another, arm}
-use Rattle.away_grammar.specs.Printing.{placed, printed, printing, operator_mark, operator_level, comparison_mark, test_mark, type_name, function_sign, links_signs, list_signs, arms_signs, query_signs}
+use Rattle.away_grammar.specs.Terminals.{Terminal, mark, name}
+use Rattle.away_grammar.specs.Grammar.{at, links, list, arms, query, operands, operator_of, comparison_of, test_of, literal_of, type_named, perhaps, IsChain, Reads, chain, link, negated, tested, compared, between, one_of, signed, least, number, text, literal, named, qualified, typed_parameter, scalar, cast, exists, cases, cases_else, call_word, count_rows, call_empty, call, last, another, arm}
+use Rattle.away_grammar.specs.Printing.{placed, printed, printing, operator_mark, operator_level, comparison_mark, test_mark, type_name, function_terminal, links_terminals, list_terminals, arms_terminals, query_terminals}
 use Rattle.away_trees.proofs.Equations as eq
 use Rattle.std.proofs.lemmas.Option.{same_Some}
 use Rattle.sql_printer.proofs.PrintLevels.{Back, back_by, place}
@@ -31,77 +31,77 @@ NonEmpty [] = ⊥
 NonEmpty (x ∷ xs) = Unit {0}
 
 abbrev pub LinksBack : Level → List (ChainOp × Expr) → Type 0
-LinksBack level more = (after : List Sign) → Reads (links level) (links_signs level (map (λ x. eq.link_of printing x) more) ++ after) more after
+LinksBack level more = (after : List Terminal) → Reads (links level) (links_terminals level (map (λ x. eq.link_of printing x) more) ++ after) more after
 
 abbrev pub ListBack : List Expr → Type 0
-ListBack xs = NonEmpty xs × ((after : List Sign) → Reads list (list_signs (map (λ x. printed x) xs) ++ after) xs after)
+ListBack xs = NonEmpty xs × ((after : List Terminal) → Reads list (list_terminals (map (λ x. printed x) xs) ++ after) xs after)
 
 abbrev pub ArmsBack : List (Expr × Expr) → Type 0
-ArmsBack more = (after : List Sign) → Reads arms (arms_signs (map (λ x. eq.arm_of printing x) more) ++ after) more after
+ArmsBack more = (after : List Terminal) → Reads arms (arms_terminals (map (λ x. eq.arm_of printing x) more) ++ after) more after
 
 abbrev pub QueryBack : Query → Type 0
-QueryBack q = (after : List Sign) → Reads query (query_signs q ++ after) q after
+QueryBack q = (after : List Terminal) → Reads query (query_terminals q ++ after) q after
 
-pub perhaps_behind : (n : Bool) (s : Sign) (ts after : List Sign) → perhaps n s ts ++ after ≡ perhaps n s (ts ++ after)
+pub perhaps_behind : (n : Bool) (s : Terminal) (ts after : List Terminal) → perhaps n s ts ++ after ≡ perhaps n s (ts ++ after)
 perhaps_behind true s ts after = refl
 perhaps_behind false s ts after = refl
 
 -- ---- chains
 
 -- An operator is written as its mark, at its level.
-record IsOperator (level : Level) (sign : Mark) (o : ChainOp) : Type 0 where
-  written : operator_mark o ≡ sign
+record IsOperator (level : Level) (terminal : Mark) (o : ChainOp) : Type 0 where
+  written : operator_mark o ≡ terminal
   level_is : operator_level o ≡ level
 
-is_the : (level : Level) (sign : Mark) (o p : ChainOp) → Some o ≡ Some p → IsOperator level sign o → IsOperator level sign p
-is_the level sign o p h is = subst (IsOperator level sign) (same_Some _ _ h) is
+is_the : (level : Level) (terminal : Mark) (o p : ChainOp) → Some o ≡ Some p → IsOperator level terminal o → IsOperator level terminal p
+is_the level terminal o p h is = subst (IsOperator level terminal) (same_Some _ _ h) is
 
-or_is : (sign : Mark) (o : ChainOp) → operator_of l.Or sign ≡ Some o → IsOperator l.Or sign o
+or_is : (terminal : Mark) (o : ChainOp) → operator_of l.Or terminal ≡ Some o → IsOperator l.Or terminal o
 or_is m.Or o h = is_the l.Or m.Or op.Or o h (record { written = refl; level_is = refl })
 or_is _ o h = absurd (cc h)
 
-and_is : (sign : Mark) (o : ChainOp) → operator_of l.And sign ≡ Some o → IsOperator l.And sign o
+and_is : (terminal : Mark) (o : ChainOp) → operator_of l.And terminal ≡ Some o → IsOperator l.And terminal o
 and_is m.And o h = is_the l.And m.And op.And o h (record { written = refl; level_is = refl })
 and_is _ o h = absurd (cc h)
 
-bars_is : (sign : Mark) (o : ChainOp) → operator_of l.Concat sign ≡ Some o → IsOperator l.Concat sign o
+bars_is : (terminal : Mark) (o : ChainOp) → operator_of l.Concat terminal ≡ Some o → IsOperator l.Concat terminal o
 bars_is m.Bars o h = is_the l.Concat m.Bars op.Concat o h (record { written = refl; level_is = refl })
 bars_is _ o h = absurd (cc h)
 
-sum_is : (sign : Mark) (o : ChainOp) → operator_of l.Sum sign ≡ Some o → IsOperator l.Sum sign o
+sum_is : (terminal : Mark) (o : ChainOp) → operator_of l.Sum terminal ≡ Some o → IsOperator l.Sum terminal o
 sum_is m.Plus o h = is_the l.Sum m.Plus (op.Int int.Add) o h (record { written = refl; level_is = refl })
 sum_is m.Minus o h = is_the l.Sum m.Minus (op.Int int.Sub) o h (record { written = refl; level_is = refl })
 sum_is _ o h = absurd (cc h)
 
-product_is : (sign : Mark) (o : ChainOp) → operator_of l.Product sign ≡ Some o → IsOperator l.Product sign o
+product_is : (terminal : Mark) (o : ChainOp) → operator_of l.Product terminal ≡ Some o → IsOperator l.Product terminal o
 product_is m.Star o h = is_the l.Product m.Star (op.Int int.Mul) o h (record { written = refl; level_is = refl })
 product_is m.Slash o h = is_the l.Product m.Slash (op.Int int.Div) o h (record { written = refl; level_is = refl })
 product_is m.Percent o h = is_the l.Product m.Percent (op.Int int.Rem) o h (record { written = refl; level_is = refl })
 product_is _ o h = absurd (cc h)
 
-operator_is : (level : Level) (sign : Mark) (o : ChainOp) → operator_of level sign ≡ Some o → IsOperator level sign o
-operator_is l.Or sign o h = or_is sign o h
-operator_is l.And sign o h = and_is sign o h
-operator_is l.Concat sign o h = bars_is sign o h
-operator_is l.Sum sign o h = sum_is sign o h
-operator_is l.Product sign o h = product_is sign o h
-operator_is _ sign o h = absurd (cc h)
+operator_is : (level : Level) (terminal : Mark) (o : ChainOp) → operator_of level terminal ≡ Some o → IsOperator level terminal o
+operator_is l.Or terminal o h = or_is terminal o h
+operator_is l.And terminal o h = and_is terminal o h
+operator_is l.Concat terminal o h = bars_is terminal o h
+operator_is l.Sum terminal o h = sum_is terminal o h
+operator_is l.Product terminal o h = product_is terminal o h
+operator_is _ terminal o h = absurd (cc h)
 
-pub link_back : (level : Level) (sign : Mark) (o : ChainOp) (x : Expr) (more : List (ChainOp × Expr)) → operator_of level sign ≡ Some o → Back x → LinksBack level more → LinksBack level ((o, x) ∷ more)
-link_back level sign o x more h b r after =
-    let seen : operator_of level (operator_mark o) ≡ Some o = subst (λ k. operator_of level k ≡ Some o) (sym (operator_is level sign o h).written) h in
-    simp append_assoc (link (operator_mark o) seen (place (operands level) x (links_signs level (map (λ x. eq.link_of printing x) more) ++ after) b) (r after))
+pub link_back : (level : Level) (terminal : Mark) (o : ChainOp) (x : Expr) (more : List (ChainOp × Expr)) → operator_of level terminal ≡ Some o → Back x → LinksBack level more → LinksBack level ((o, x) ∷ more)
+link_back level terminal o x more h b r after =
+    let seen : operator_of level (operator_mark o) ≡ Some o = subst (λ k. operator_of level k ≡ Some o) (sym (operator_is level terminal o h).written) h in
+    simp append_assoc (link (operator_mark o) seen (place (operands level) x (links_terminals level (map (λ x. eq.link_of printing x) more) ++ after) b) (r after))
 
 -- a chain at the level of its operators
-pub chain_back : (level : Level) (sign : Mark) (o : ChainOp) (first x : Expr) (more : List (ChainOp × Expr)) → IsChain level → operator_of level sign ≡ Some o
+pub chain_back : (level : Level) (terminal : Mark) (o : ChainOp) (first x : Expr) (more : List (ChainOp × Expr)) → IsChain level → operator_of level terminal ≡ Some o
     → Back first → LinksBack level ((o, x) ∷ more) → Back (e.Chain first ((o, x) ∷ more))
-chain_back level sign o first x more p h f r =
-    let same : level ≡ operator_level o = sym (operator_is level sign o h).level_is in
+chain_back level terminal o first x more p h f r =
+    let same : level ≡ operator_level o = sym (operator_is level terminal o h).level_is in
     let all : LinksBack (operator_level o) ((o, x) ∷ more) = subst (λ k. LinksBack k ((o, x) ∷ more)) same r in
     let is_chain : IsChain (operator_level o) = subst IsChain same p in
     back_by (eq.of_chain printing first ((o, x) ∷ more)) (λ after.
     let k = operator_level o in
-    let tail = links_signs k (map (λ x. eq.link_of printing x) ((o, x) ∷ more)) in
+    let tail = links_terminals k (map (λ x. eq.link_of printing x) ((o, x) ∷ more)) in
     subst (λ ts. Reads (at k) ts (e.Chain first ((o, x) ∷ more)) after) (sym (append_assoc (placed (operands k) (printed first)) tail after))
     (chain is_chain (place (operands k) first (tail ++ after) f) (all after)))
 
@@ -144,7 +144,7 @@ between_back n x low high b c d =
 pub one_of_back : (n : Bool) (x : Expr) (xs : List Expr) → Back x → ListBack xs → Back (e.OneOf n x xs)
 one_of_back n x xs b r =
     back_by (eq.of_oneof printing n x xs) (λ after.
-    let choices = list_signs (map (λ x. printed x) xs) ++ mark m.Close ∷ after in
+    let choices = list_terminals (map (λ x. printed x) xs) ++ mark m.Close ∷ after in
     simp (append_assoc, perhaps_behind) (one_of (place l.Concat x (perhaps n (mark m.Not) (mark m.In ∷ mark m.Open ∷ choices)) b) (r.1 (mark m.Close ∷ after))))
 
 pub neg_back : (x : Expr) → Back x → Back (e.Neg x)
@@ -161,7 +161,7 @@ number_back n h after = number h
 pub text_back : (t : List ℕ) → Back (e.Str t)
 text_back t after = text
 
-pub literal_back : (sign : Mark) (x : Expr) → literal_of sign ≡ Some x → Back x
+pub literal_back : (terminal : Mark) (x : Expr) → literal_of terminal ≡ Some x → Back x
 literal_back m.True x h = subst Back (same_Some _ _ h) (λ after. literal m.True refl)
 literal_back m.False x h = subst Back (same_Some _ _ h) (λ after. literal m.False refl)
 literal_back m.Null x h = subst Back (same_Some _ _ h) (λ after. literal m.Null refl)
@@ -170,8 +170,8 @@ literal_back _ x h = absurd (cc h)
 pub named_back : (n : List ℕ) → Back (e.Named n)
 named_back n after = named
 
-pub dotted_back : (n c : List ℕ) → Back (e.Dotted n c)
-dotted_back n c after = dotted
+pub qualified_back : (n c : List ℕ) → Back (e.Dotted n c)
+qualified_back n c after = qualified
 
 no_integer : (a b c : Bool) → (if a then Some types.Bigint else (if b then Some types.Boolean else (if c then Some types.Text else None))) ≡ Some types.Integer → ⊥
 no_integer true b c h = cc h
@@ -211,11 +211,11 @@ last_back x b = (tt, λ after. last (place l.Or x after b))
 
 pub another_back : (x : Expr) (xs : List Expr) → Back x → ListBack xs → ListBack (x ∷ xs)
 another_back x [] b r = absurd r.0
-another_back x (y ∷ ys) b r = (tt, λ after. simp append_assoc (another (place l.Or x (mark m.Comma ∷ (list_signs (map (λ x. printed x) (y ∷ ys)) ++ after)) b) (r.1 after)))
+another_back x (y ∷ ys) b r = (tt, λ after. simp append_assoc (another (place l.Or x (mark m.Comma ∷ (list_terminals (map (λ x. printed x) (y ∷ ys)) ++ after)) b) (r.1 after)))
 
 pub arm_back : (test value : Expr) (more : List (Expr × Expr)) → Back test → Back value → ArmsBack more → ArmsBack ((test, value) ∷ more)
 arm_back test value more b c r after =
-    let others = arms_signs (map (λ x. eq.arm_of printing x) more) ++ after in
+    let others = arms_terminals (map (λ x. eq.arm_of printing x) more) ++ after in
     let second = placed l.Or (printed value) ++ others in
     simp append_assoc (arm (place l.Or test (mark m.Then ∷ second) b) (place l.Or value others c) (r after))
 
@@ -229,16 +229,16 @@ cases_else_back a more x r b =
     simp append_assoc (cases_else (simp append_assoc at (r (mark m.Else ∷ other))) (place l.Or x (mark m.End ∷ after) b)))
 
 function_by : (a b c : Bool) (n : List ℕ) → bytes_eq n (codes "coalesce") ≡ a → bytes_eq n (codes "greatest") ≡ b → bytes_eq n (codes "least") ≡ c
-    → {ts rest : List Sign} {xs : List Expr} → Reads list ts xs (mark m.Close ∷ rest)
+    → {ts rest : List Terminal} {xs : List Expr} → Reads list ts xs (mark m.Close ∷ rest)
     → Reads (at l.Primary) ((if a then mark m.Coalesce else (if b then mark m.Greatest else (if c then mark m.Least else name n))) ∷ mark m.Open ∷ ts) (e.Call n xs) rest
 function_by true b c n h k j d = call_word m.Coalesce (ap Some (sym ((bytes_eq-Decides n (codes "coalesce")).0 h))) d
 function_by false true c n h k j d = call_word m.Greatest (ap Some (sym ((bytes_eq-Decides n (codes "greatest")).0 k))) d
 function_by false false true n h k j d = call_word m.Least (ap Some (sym ((bytes_eq-Decides n (codes "least")).0 j))) d
 function_by false false false n h k j d = call d
 
--- A function's sign and its arguments read as the call.
-function_reads : (n : List ℕ) {ts rest : List Sign} {xs : List Expr} → Reads list ts xs (mark m.Close ∷ rest) → Reads (at l.Primary) (function_sign n ∷ mark m.Open ∷ ts) (e.Call n xs) rest
-unfolding function_sign
+-- A function's terminal and its arguments read as the call.
+function_reads : (n : List ℕ) {ts rest : List Terminal} {xs : List Expr} → Reads list ts xs (mark m.Close ∷ rest) → Reads (at l.Primary) (function_terminal n ∷ mark m.Open ∷ ts) (e.Call n xs) rest
+unfolding function_terminal
 function_reads n d = function_by (bytes_eq n (codes "coalesce")) (bytes_eq n (codes "greatest")) (bytes_eq n (codes "least")) n refl refl refl d
 
 pub call_back : (n : List ℕ) (xs : List Expr) → ListBack xs → Back (e.Call n xs)

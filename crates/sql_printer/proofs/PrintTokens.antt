@@ -1,4 +1,4 @@
--- Each spoken sign is spelled as a token that says it.
+-- Each writable terminal is spelled as a token that says it.
 use Rattle.std.proofs.Common.{◌≡◌, ℕ, ◌+◌, ◌*◌, ◌-◌, ◌<◌, ◌≤◌, ◌^◌, Bool, true, false, ◌&&◌, ◌||◌, List, [], ◌∷◌, ◌++◌, length, take, map, chars, Some, None, refl, ap, ◌∙◌, arith, length-append, if◌then◌else◌}
 use Rattle.std.proofs.lemmas.Bool.Decides.{nat_tests}
 use Rattle.std.proofs.lemmas.Fmt.{decimal_is_IsNumeral}
@@ -14,15 +14,15 @@ use Rattle.away_grammar.specs.declared.grammar.Mark.{Mark}
 use Rattle.away_grammar.specs.declared.grammar.Mark.TheVariants as m
 use Rattle.away_grammar.specs.Spellings.{Spells, IsInteger, number, number_from, quoted}
 use Rattle.away_grammar.specs.Reserved.{is_reserved, folded}
-use Rattle.away_grammar.specs.Signs.{Sign, mark, name, integer, string, parameter, quote, first_mark, word_mark, symbol_mark, undoubled, between_quotes, mark_or, says_by}
+use Rattle.away_grammar.specs.Terminals.{Terminal, mark, name, integer, string, parameter, quote, first_mark, word_mark, symbol_mark, undoubled, between_quotes, mark_or, terminal_by_kind}
 use Rattle.away_grammar.specs.Marks.{Entry, reserved_words}
 use Rattle.away_grammar.specs.Printing.{mark_spelled, spelled}
 use Rattle.away_lex.proofs.Alone.{undoubled_quoted}
-use Rattle.sql_printer.specs.Spoken.{Spoken}
+use Rattle.sql_printer.specs.Writable.{Writable}
 
 -- ---- marks
 
-mark_spells : (sign : Mark) → Spells (mark_spelled sign).kind (mark_spelled sign).text
+mark_spells : (terminal : Mark) → Spells (mark_spelled terminal).kind (mark_spelled terminal).text
 mark_spells m.Assign = refl
 mark_spells m.Equal = refl
 mark_spells m.Differ = refl
@@ -47,10 +47,10 @@ mark_spells m.LabelOpen = refl
 mark_spells m.LabelClose = refl
 mark_spells _ = record { starts = refl; plain = refl; short = omega arith }
 
-mark_says : (sign : Mark) → says_by (mark_spelled sign).kind (mark_spelled sign).text ≡ mark sign
+mark_spelled_is : (terminal : Mark) → terminal_by_kind (mark_spelled terminal).kind (mark_spelled terminal).text ≡ mark terminal
 unfolding word_mark symbol_mark
-mark_says m.Assign = refl
-mark_says _ = refl
+mark_spelled_is m.Assign = refl
+mark_spelled_is _ = refl
 
 -- ---- names
 
@@ -95,13 +95,13 @@ integer_spells n h =
 
 -- ---- strings
 
-string_says : (t : List ℕ) → all_scalars t ≡ true → chars (undoubled (between_quotes (quoted (encode_utf8_all t)))) ≡ t
-string_says t h = ap chars (undoubled_quoted (encode_utf8_all t)) ∙ chars-encodes t h
+string_spelled_is : (t : List ℕ) → all_scalars t ≡ true → chars (undoubled (between_quotes (quoted (encode_utf8_all t)))) ≡ t
+string_spelled_is t h = ap chars (undoubled_quoted (encode_utf8_all t)) ∙ chars-encodes t h
 
--- ---- all signs
+-- ---- all terminals
 
-pub spells : (s : Sign) → Spoken s → Spells (spelled s).kind (spelled s).text
-spells (mark sign) h = mark_spells sign
+pub spells : (s : Terminal) → Writable s → Spells (spelled s).kind (spelled s).text
+spells (mark terminal) h = mark_spells terminal
 spells (name n) h = h.0
 spells (integer n) h = integer_spells n h
 spells (string t) h = record { text = encode_utf8_all t; value = h.1; spelled = refl }
@@ -111,10 +111,10 @@ spells (parameter i) h =
     record { digits = decimal i; spelled = refl; plain = decimal_digits i small; from_one = omega (arith, value, h.0); to_limit = omega (arith, value, h.1) }
 spells (quote z) h = h
 
-pub says_it : (s : Sign) → Spoken s → says_by (spelled s).kind (spelled s).text ≡ s
-says_it (mark sign) h = mark_says sign
-says_it (name n) h = ap (λ o. mark_or o (name (folded n))) (no_word n h.2) ∙ ap name h.1
-says_it (integer n) h = ap integer (number_decimal n (omega (arith, h)))
-says_it (string t) h = ap string (string_says t h.0)
-says_it (parameter i) h = ap parameter (number_decimal i (omega (arith, h.1)))
-says_it (quote z) h = refl
+pub spelled_back : (s : Terminal) → Writable s → terminal_by_kind (spelled s).kind (spelled s).text ≡ s
+spelled_back (mark terminal) h = mark_spelled_is terminal
+spelled_back (name n) h = ap (λ o. mark_or o (name (folded n))) (no_word n h.2) ∙ ap name h.1
+spelled_back (integer n) h = ap integer (number_decimal n (omega (arith, h)))
+spelled_back (string t) h = ap string (string_spelled_is t h.0)
+spelled_back (parameter i) h = ap parameter (number_decimal i (omega (arith, h.1)))
+spelled_back (quote z) h = refl

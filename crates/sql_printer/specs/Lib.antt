@@ -1,2 +1,2 @@
-pub mod Spoken
-pub mod PrintedSigns
+pub mod Writable
+pub mod PrintedTerminals

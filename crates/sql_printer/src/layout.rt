@@ -1,31 +1,31 @@
-//! The text of signs: one space between two tokens, except behind `(` and `.`, before `)`, `,` and `.`, and between a word
+//! The text of terminals: one space between two tokens, except behind `(` and `.`, before `)`, `,` and `.`, and between a word
 //! that calls and `(`; and one LF at the end.
 
 ghost use Rattle.std.specs.Prelude.{◌≡◌, ◌++◌, ◌∷◌, [], ◌&&◌, ◌||◌, if◌then◌else◌, IfOk, OnOk, map, option_map, string_bytes};
-ghost use Rattle.away_grammar.specs.Printing.{mark_spelled, signs_text, spelled};
+ghost use Rattle.away_grammar.specs.Printing.{mark_spelled, terminals_text, spelled};
 ghost use Rattle.away_grammar.specs.Spacing.{is_glued as glued, is_one};
 ghost use Rattle.away_grammar.specs.Tokens.{is_word_kind};
 ghost use Rattle.away_grammar.specs.Reserved as reserved;
-ghost use Rattle.sql_printer.specs.PrintedSigns as spec;
-ghost use Rattle.sql_printer.specs.PrintedSigns.{sign_of};
+ghost use Rattle.sql_printer.specs.PrintedTerminals as spec;
+ghost use Rattle.sql_printer.specs.PrintedTerminals.{terminal_of};
 
-use crate::sign_list::PrintedSign;
 use crate::spelling::{mark_text, push_quoted};
+use crate::terminal_list::PrintedTerminal;
 use away_grammar::Mark;
 use away_lex::is_reserved;
 use away_values::NoMemory;
 use std::alloc::Global;
 
-/// The text of the signs.
-pub fn laid_out(alloc: Global, signs: &[PrintedSign<'_>]) -> Result<String, NoMemory>
-    ensures { IfOk result (λ text. string_bytes text ≡ signs_text (map sign_of signs.now)) }
+/// The text of the terminals.
+pub fn laid_out(alloc: Global, terminals: &[PrintedTerminal<'_>]) -> Result<String, NoMemory>
+    ensures { IfOk result (λ text. string_bytes text ≡ terminals_text (map terminal_of terminals.now)) }
 {
     let mut text = String::new(alloc);
     let mut before = None;
-    for sign in signs {
-        push_space(&mut text, is_spaced(before, *sign))?;
-        push_sign(alloc, &mut text, *sign)?;
-        before = Some(*sign);
+    for terminal in terminals {
+        push_space(&mut text, is_spaced(before, *terminal))?;
+        push_terminal(alloc, &mut text, *terminal)?;
+        before = Some(*terminal);
     }
     text.push_str("\n")?;
     Ok(text)
@@ -40,66 +40,71 @@ fn push_space(text: &mut String, spaced: bool) -> Result<(), NoMemory>
     Ok(())
 }
 
-fn push_sign(alloc: Global, text: &mut String, sign: PrintedSign<'_>) -> Result<(), NoMemory>
-    ensures { OnOk result (string_bytes text.new ≡ string_bytes text.old ++ (spelled (sign_of sign.entry)).text) }
+fn push_terminal(
+    alloc: Global,
+    text: &mut String,
+    terminal: PrintedTerminal<'_>,
+) -> Result<(), NoMemory>
+    ensures { OnOk result (string_bytes text.new ≡ string_bytes text.old ++ (spelled (terminal_of terminal.entry)).text) }
 {
-    match sign {
-        PrintedSign::Mark(mark) => text.push_str(mark_text(mark))?,
-        PrintedSign::Name(name) => text.push_str(name)?,
-        PrintedSign::Integer(number) => write!(text, "{number}")?,
-        PrintedSign::Text(word) => return push_quoted(alloc, text, word.text()),
-        PrintedSign::Parameter(number) => write!(text, "${number}")?,
+    match terminal {
+        PrintedTerminal::Mark(mark) => text.push_str(mark_text(mark))?,
+        PrintedTerminal::Name(name) => text.push_str(name)?,
+        PrintedTerminal::Integer(number) => write!(text, "{number}")?,
+        PrintedTerminal::Text(word) => return push_quoted(alloc, text, word.text()),
+        PrintedTerminal::Parameter(number) => write!(text, "${number}")?,
     }
     Ok(())
 }
 
-/// Whether a space stands between what is before, if something is, and a sign.
-fn is_spaced(before: Option<PrintedSign<'_>>, sign: PrintedSign<'_>) -> bool
-    ensures { result ≡ spec.is_spaced (option_map sign_of before.entry) (sign_of sign.entry) }
+/// Whether a space stands between what is before, if something is, and a terminal.
+fn is_spaced(before: Option<PrintedTerminal<'_>>, terminal: PrintedTerminal<'_>) -> bool
+    ensures { result ≡ spec.is_spaced (option_map terminal_of before.entry) (terminal_of terminal.entry) }
 {
     match before {
         None => false,
-        Some(before) => !is_glued(before, sign),
+        Some(before) => !is_glued(before, terminal),
     }
 }
 
-fn is_glued(before: PrintedSign<'_>, sign: PrintedSign<'_>) -> bool
-    ensures { result ≡ glued reserved.calls (spelled (sign_of before.entry)) (spelled (sign_of sign.entry)) }
+fn is_glued(before: PrintedTerminal<'_>, terminal: PrintedTerminal<'_>) -> bool
+    ensures { result ≡ glued reserved.calls (spelled (terminal_of before.entry)) (spelled (terminal_of terminal.entry)) }
 {
-    opens(before) || closes(sign) || (calls(before) && is_opening(sign))
+    opens(before) || closes(terminal) || (calls(before) && is_opening(terminal))
 }
 
 /// Whether no space stands behind it.
-fn opens(sign: PrintedSign<'_>) -> bool
-    ensures { result ≡ (is_one 40 (spelled (sign_of sign.entry)) || is_one 46 (spelled (sign_of sign.entry))) }
+fn opens(terminal: PrintedTerminal<'_>) -> bool
+    ensures { result ≡ (is_one 40 (spelled (terminal_of terminal.entry)) || is_one 46 (spelled (terminal_of terminal.entry))) }
 {
-    matches!(sign, PrintedSign::Mark(Mark::Open | Mark::Dot))
+    matches!(terminal, PrintedTerminal::Mark(Mark::Open | Mark::Dot))
 }
 
 /// Whether no space stands before it.
-fn closes(sign: PrintedSign<'_>) -> bool
-    ensures { result ≡ (is_one 41 (spelled (sign_of sign.entry)) || (is_one 44 (spelled (sign_of sign.entry)) || is_one 46 (spelled (sign_of sign.entry)))) }
+fn closes(terminal: PrintedTerminal<'_>) -> bool
+    ensures { result ≡ (is_one 41 (spelled (terminal_of terminal.entry)) || (is_one 44 (spelled (terminal_of terminal.entry)) || is_one 46 (spelled (terminal_of terminal.entry)))) }
 {
     matches!(
-        sign,
-        PrintedSign::Mark(Mark::Close | Mark::Comma | Mark::Dot)
+        terminal,
+        PrintedTerminal::Mark(Mark::Close | Mark::Comma | Mark::Dot)
     )
 }
 
-fn is_opening(sign: PrintedSign<'_>) -> bool
-    ensures { result ≡ is_one 40 (spelled (sign_of sign.entry)) }
+fn is_opening(terminal: PrintedTerminal<'_>) -> bool
+    ensures { result ≡ is_one 40 (spelled (terminal_of terminal.entry)) }
 {
-    matches!(sign, PrintedSign::Mark(Mark::Open))
+    matches!(terminal, PrintedTerminal::Mark(Mark::Open))
 }
 
 /// Whether it is a word that `(` follows without a space: one that isn't reserved, or that reads as a function's name.
-fn calls(sign: PrintedSign<'_>) -> bool
-    ensures { result ≡ (is_word_kind (spelled (sign_of sign.entry)).kind && reserved.calls (spelled (sign_of sign.entry)).text) }
+fn calls(terminal: PrintedTerminal<'_>) -> bool
+    ensures { result ≡ (is_word_kind (spelled (terminal_of terminal.entry)).kind && reserved.calls (spelled (terminal_of terminal.entry)).text) }
 {
-    match sign {
-        PrintedSign::Mark(mark) => mark_calls(mark),
-        PrintedSign::Name(name) => name_calls(name),
-        PrintedSign::Integer(_) | PrintedSign::Text(_) | PrintedSign::Parameter(_) => false,
+    match terminal {
+        PrintedTerminal::Mark(mark) => mark_calls(mark),
+        PrintedTerminal::Name(name) => name_calls(name),
+        PrintedTerminal::Integer(_) | PrintedTerminal::Text(_) | PrintedTerminal::Parameter(_) =>
+            false,
     }
 }
 

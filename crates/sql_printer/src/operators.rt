@@ -4,7 +4,7 @@
 ghost use Rattle.std.specs.Prelude.{◌≡◌, ◌∷◌, [], nat_lt};
 ghost use Rattle.away_grammar.specs.Grammar as grammar;
 ghost use Rattle.away_grammar.specs.Printing as spec;
-ghost use Rattle.away_grammar.specs.Signs as sign;
+ghost use Rattle.away_grammar.specs.Terminals as terminal;
 ghost use Rattle.away_grammar.specs.Printing.{printed};
 ghost use Rattle.away_trees.specs.declared.queries.Expr.TheVariants as expr;
 
@@ -143,7 +143,7 @@ pub fn test_mark(test: IsTest) -> Mark
 }
 
 pub fn truth_mark(value: bool) -> Mark
-    ensures { (printed (expr.Bool value)).signs ≡ sign.mark result ∷ [] }
+    ensures { (printed (expr.Bool value)).terminals ≡ terminal.mark result ∷ [] }
 {
     if value { Mark::True } else { Mark::False }
 }

@@ -4,33 +4,34 @@ ghost use Rattle.std.specs.Prelude.{◌≡◌, ℕ, List, [], ◌++◌, None, Is
 ghost use Rattle.away_grammar.specs.declared.grammar.Level.{Level};
 ghost use Rattle.away_trees.specs.declared.queries.Expr.{Expr};
 ghost use Rattle.away_trees.specs.declared.queries.Query.{Query};
-ghost use Rattle.away_grammar.specs.Signs.{Sign, all_say};
+ghost use Rattle.away_grammar.specs.Terminals.{Terminal, token_terminals};
 ghost use Rattle.away_grammar.specs.Texts.{ReadsQuery};
 ghost use Rattle.away_grammar.specs.Tokens.{Lexeme, Lexes};
 ghost use Rattle.away_grammar.specs.Grammar.{Reads, at, file};
-ghost use Rattle.away_grammar.specs.Printing.{placed, printed, query_signs, query_text};
-ghost use Rattle.sql_printer.specs.Spoken.{AllSpoken};
+ghost use Rattle.away_grammar.specs.Printing.{placed, printed, query_terminals, query_text};
+ghost use Rattle.sql_printer.specs.Writable.{AllWritable};
 
-/// An expression that signs read as prints as signs that read as it, at each place and whatever follows.
+/// An expression that terminals read as prints as terminals that read as it, at each place and whatever follows.
 pub fn printed_expressions_read_back()
-    ensures { (level place : Level) (ts rest after : List Sign) (x : Expr) → Reads (at level) ts x rest
+    ensures { (level place : Level) (ts rest after : List Terminal) (x : Expr) → Reads (at level) ts x rest
         → Reads (at place) (placed place (printed x) ++ after) x after }
 {}
 
-/// A query that signs read as prints as signs that read as it, whatever follows.
+/// A query that terminals read as prints as terminals that read as it, whatever follows.
 pub fn printed_queries_read_back()
-    ensures { (ts rest after : List Sign) (q : Query) → Reads file ts q rest → Reads file (query_signs q ++ after) q after }
+    ensures { (ts rest after : List Terminal) (q : Query) → Reads file ts q rest → Reads file (query_terminals q ++ after) q after }
 {}
 
-/// The text of a query that spoken signs read as has tokens, and what they say reads as the query.
+/// The text of a query that writable terminals read as has tokens, and what they are as terminals reads as the query.
 pub fn printing_reads_back()
-    ensures { (ts : List Sign) (q : Query) → AllSpoken ts → Reads file ts q []
-        → (tokens : List Lexeme) × Lexes 0 (query_text q) tokens None × (all_say tokens ≡ query_signs q) × Reads file (all_say tokens) q [] }
+    ensures { (ts : List Terminal) (q : Query) → AllWritable ts → Reads file ts q []
+        → (tokens : List Lexeme) × Lexes 0 (query_text q) tokens None × (token_terminals tokens ≡ query_terminals q)
+        × Reads file (token_terminals tokens) q [] }
 {}
 
-/// What the tokens of a text say is spoken.
-pub fn signs_of_texts_are_spoken()
-    ensures { (z : List ℕ) (ts : List Lexeme) → IsUtf8 z → Lexes 0 z ts None → AllSpoken (all_say ts) }
+/// The terminals of a text's tokens are writable.
+pub fn terminals_of_texts_are_writable()
+    ensures { (z : List ℕ) (ts : List Lexeme) → IsUtf8 z → Lexes 0 z ts None → AllWritable (token_terminals ts) }
 {}
 
 /// A query that some text reads as prints as a text that reads as it.

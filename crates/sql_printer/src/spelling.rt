@@ -1,4 +1,4 @@
-//! How signs are spelled.
+//! How terminals are spelled.
 
 ghost use Rattle.std.specs.Prelude.{◌≡◌, ◌++◌, OnOk, string_bytes};
 ghost use Rattle.away_grammar.specs.Printing as spec;

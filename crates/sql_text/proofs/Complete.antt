@@ -1,6 +1,6 @@
 -- What the grammar reads and stops, the plan gives.
 use Rattle.std.proofs.Common.{List, Some}
-use Rattle.away_grammar.specs.Signs.{Sign}
+use Rattle.away_grammar.specs.Terminals.{Terminal}
 use Rattle.away_grammar.specs.Grammar as g
 use Rattle.away_grammar.specs.Grammar.{Sort, Tree, Reads, Stops}
 use Rattle.sql_text.specs.Plans.{Runs}
@@ -12,16 +12,16 @@ use Rattle.sql_text.proofs.CompletePrimary as primary
 use Rattle.sql_text.proofs.CompleteFrom as from
 use Rattle.sql_text.proofs.CompleteQueries as queries
 
-pub complete : {n : Sort} {ts : List Sign} {x : Tree n} {rest : List Sign} → Reads n ts x rest → Stops n rest → Runs Tree plan n (plan n) ts (Some (x, rest))
+pub complete : {n : Sort} {ts : List Terminal} {x : Tree n} {rest : List Terminal} → Reads n ts x rest → Stops n rest → Runs Tree plan n (plan n) ts (Some (x, rest))
 complete (g.chain h d e) = levels.given_chain h (followed e) (complete d) (complete e)
 complete g.no_link = levels.given_no_link
-complete (g.link sign h d e) = levels.given_link sign h (followed e) (complete d) (complete e)
+complete (g.link terminal h d e) = levels.given_link terminal h (followed e) (complete d) (complete e)
 complete (g.affirmed d) = levels.given_affirmed (starts d) (complete d)
 complete (g.negated d) = levels.given_negated (complete d)
 complete (g.untested d) = levels.given_untested (complete d)
-complete (g.tested {n = n} sign h d) = levels.given_tested n sign h (complete d)
+complete (g.tested {n = n} terminal h d) = levels.given_tested n terminal h (complete d)
 complete (g.uncompared d) = levels.given_uncompared (complete d)
-complete (g.compared sign h d e) = levels.given_compared sign h (complete d) (complete e)
+complete (g.compared terminal h d e) = levels.given_compared terminal h (complete d) (complete e)
 complete (g.unranged d) = levels.given_unranged (complete d)
 complete (g.between d e f) = levels.given_between (complete d) (complete e) (complete f)
 complete (g.one_of d e) = levels.given_one_of (complete d) (complete e)
@@ -33,9 +33,9 @@ complete (g.cast_once t h d) = levels.given_cast_once t h (complete d)
 complete (g.cast_twice t u h i d) = levels.given_cast_twice t u h i (complete d)
 complete (g.number h) = primary.given_number h
 complete g.text = primary.given_text
-complete (g.literal sign h) = primary.given_literal sign h
+complete (g.literal terminal h) = primary.given_literal terminal h
 complete g.named = primary.given_named
-complete g.dotted = primary.given_dotted
+complete g.qualified = primary.given_qualified
 complete (g.typed_parameter t h) = primary.given_typed_parameter t h
 complete (g.short_parameter t h) = primary.given_short_parameter t h
 complete (g.parentheses d) = primary.given_parentheses (starts d) (complete d)
@@ -44,7 +44,7 @@ complete (g.cast t h d) = primary.given_cast t h (starts d) (complete d)
 complete (g.exists d) = primary.given_exists (complete d)
 complete (g.cases d) = primary.given_cases (complete d)
 complete (g.cases_else d e) = primary.given_cases_else (complete d) (complete e)
-complete (g.call_word sign h d) = primary.given_call_word sign h (complete d)
+complete (g.call_word terminal h d) = primary.given_call_word terminal h (complete d)
 complete g.count_rows = primary.given_count_rows
 complete g.call_empty = primary.given_call_empty
 complete (g.call d) = primary.given_call (starts d) (complete d)

@@ -1,18 +1,18 @@
 -- What a plan gives is one thing.
 use Rattle.std.proofs.Common.{◌≡◌, true, false, List, ◌∷◌, ◌⊎◌, inl, inr, Option, Some, None, refl, ap, subst}
 use Rattle.std.proofs.lemmas.Option.{same_Some}
-use Rattle.away_grammar.specs.Signs.{Sign, mark}
+use Rattle.away_grammar.specs.Terminals.{Terminal, mark}
 use Rattle.sql_text.specs.Plans.{Plan, done, fail, take, eat, look, read, first, tail, Begins, Runs, ends, fails, takes, eats, leaves, sees, misses, reads, breaks}
 
-abbrev pub Inside : {S : Type 0} (T : S → Type 0) (plan : (n : S) → Plan T n) (n : S) → Plan T n → List Sign → Option (T n × List Sign) → Type 0
+abbrev pub Inside : {S : Type 0} (T : S → Type 0) (plan : (n : S) → Plan T n) (n : S) → Plan T n → List Terminal → Option (T n × List Terminal) → Type 0
 Inside T plan n (done x) ts o = o ≡ Some (x, ts)
 Inside T plan n fail ts o = o ≡ None
 Inside T plan n (take f) ts o = Runs T plan n (f (first ts)) (tail ts) o
-Inside T plan n (eat m p q) ts o = ((rest : List Sign) × (ts ≡ mark m ∷ rest) × Runs T plan n p rest o) ⊎ (¬ (Begins ts m) × Runs T plan n q ts o)
+Inside T plan n (eat m p q) ts o = ((rest : List Terminal) × (ts ≡ mark m ∷ rest) × Runs T plan n p rest o) ⊎ (¬ (Begins ts m) × Runs T plan n q ts o)
 Inside T plan n (look f p q) ts o = ((f ts ≡ true) × Runs T plan n p ts o) ⊎ ((f ts ≡ false) × Runs T plan n q ts o)
-Inside T plan n (read s f) ts o = ((x : T s) × (middle : List Sign) × Runs T plan s (plan s) ts (Some (x, middle)) × Runs T plan n (f x) middle o) ⊎ (Runs T plan s (plan s) ts None × (o ≡ None))
+Inside T plan n (read s f) ts o = ((x : T s) × (middle : List Terminal) × Runs T plan s (plan s) ts (Some (x, middle)) × Runs T plan n (f x) middle o) ⊎ (Runs T plan s (plan s) ts None × (o ≡ None))
 
-pub inside : {S : Type 0} {T : S → Type 0} {plan : (n : S) → Plan T n} {n : S} {p : Plan T n} {ts : List Sign} {o : Option (T n × List Sign)} → Runs T plan n p ts o → Inside T plan n p ts o
+pub inside : {S : Type 0} {T : S → Type 0} {plan : (n : S) → Plan T n} {n : S} {p : Plan T n} {ts : List Terminal} {o : Option (T n × List Terminal)} → Runs T plan n p ts o → Inside T plan n p ts o
 inside ends = refl
 inside fails = refl
 inside (takes d) = d
@@ -23,7 +23,7 @@ inside (misses h d) = inr (h, d)
 inside (reads {middle = middle} {x = x} c d) = inl (x, middle, c, d)
 inside (breaks c) = inr (c, refl)
 
-pub one : {S : Type 0} {T : S → Type 0} {plan : (n : S) → Plan T n} {n : S} {p : Plan T n} {ts : List Sign} {a b : Option (T n × List Sign)} → Runs T plan n p ts a → Runs T plan n p ts b → b ≡ a
+pub one : {S : Type 0} {T : S → Type 0} {plan : (n : S) → Plan T n} {n : S} {p : Plan T n} {ts : List Terminal} {a b : Option (T n × List Terminal)} → Runs T plan n p ts a → Runs T plan n p ts b → b ≡ a
 one ends w = inside w
 one fails w = inside w
 one (takes d) w = one d (inside w)

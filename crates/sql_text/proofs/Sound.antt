@@ -1,6 +1,6 @@
 -- What the plan of a sort gives, the grammar reads.
 use Rattle.std.proofs.Common.{List, Some, refl}
-use Rattle.away_grammar.specs.Signs.{Sign}
+use Rattle.away_grammar.specs.Terminals.{Terminal}
 use Rattle.away_grammar.specs.declared.grammar.Level.TheVariants as l
 use Rattle.away_grammar.specs.Grammar.{Sort, at, links, list, arms, item, items, from_item, from_items, from_clause, where_clause, key, keys, order_clause, limit_clause, select, selects, query, names, recursive, file, column, columns, tables, Tree, Reads}
 use Rattle.sql_text.specs.Plans.{Runs}
@@ -45,5 +45,5 @@ all_hold column = column_holds
 all_hold columns = columns_of_table_hold
 all_hold tables = tables_hold
 
-pub sound : {n : Sort} {ts : List Sign} {x : Tree n} {rest : List Sign} → Runs Tree plan n (plan n) ts (Some (x, rest)) → Reads n ts x rest
+pub sound : {n : Sort} {ts : List Terminal} {x : Tree n} {rest : List Terminal} → Runs Tree plan n (plan n) ts (Some (x, rest)) → Reads n ts x rest
 sound {n = n} {x = x} {rest = rest} d = plan_gives Reads all_hold n x rest d refl Nothing here (all_hold n) tt

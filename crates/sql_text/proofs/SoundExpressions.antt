@@ -9,10 +9,10 @@ use Rattle.away_grammar.specs.declared.grammar.Level.{Level}
 use Rattle.away_grammar.specs.declared.grammar.Level.TheVariants as l
 use Rattle.away_trees.specs.declared.queries.Expr.{Expr}
 use Rattle.away_trees.specs.declared.queries.Expr.TheVariants as e
-use Rattle.away_grammar.specs.Signs.{Sign, mark, name, integer, string, parameter, quote}
-use Rattle.away_grammar.specs.Grammar.{at, links, list, arms, IsChain, literal_of, called, perhaps, Reads, chain, no_link, link, affirmed, negated, untested, tested, uncompared, compared, unranged, between, one_of, unsigned, signed, least, uncast, cast_once, cast_twice, number, text, literal, named, dotted, typed_parameter, short_parameter, parentheses, scalar, cast, exists, cases, cases_else, call_word, count_rows, call_empty, call, last, another, no_arm, arm}
+use Rattle.away_grammar.specs.Terminals.{Terminal, mark, name, integer, string, parameter, quote}
+use Rattle.away_grammar.specs.Grammar.{at, links, list, arms, IsChain, literal_of, called, perhaps, Reads, chain, no_link, link, affirmed, negated, untested, tested, uncompared, compared, unranged, between, one_of, unsigned, signed, least, uncast, cast_once, cast_twice, number, text, literal, named, qualified, typed_parameter, short_parameter, parentheses, scalar, cast, exists, cases, cases_else, call_word, count_rows, call_empty, call, last, another, no_arm, arm}
 use Rattle.sql_text.specs.Plans.{done, fail}
-use Rattle.sql_text.specs.SignKinds.{is_least}
+use Rattle.sql_text.specs.TerminalKinds.{is_least}
 use Rattle.sql_text.specs.Descent.{unranged_plan, chain_plan, links_plan, not_plan, is_plan, compare_plan, within_plan, range_plan, sign_plan, cast_plan, named_plan, inside_plan, cast_call_plan, exists_plan, case_plan, parameter_plan, primary_with, primary_by, primary_plan, list_plan, arms_plan}
 use Rattle.sql_text.proofs.Holds.{Holds, Nothing, here, if_holds, name_taken, parameter_taken, type_taken, operator_taken, comparison_taken, test_taken}
 
@@ -37,10 +37,10 @@ compare_holds x = ((tt, comparison_taken Reads _ _ _ (λ m o is y ts k. compared
 -- ---- BETWEEN and IN
 
 -- behind an operand, and NOT where it stands there
-abbrev Ranged : Expr → Bool → List Sign → Type 0
-Ranged x n rest = (ts : List Sign) × Unit {0} × Reads (at l.Concat) ts x (perhaps n (mark m.Not) rest)
+abbrev Ranged : Expr → Bool → List Terminal → Type 0
+Ranged x n rest = (ts : List Terminal) × Unit {0} × Reads (at l.Concat) ts x (perhaps n (mark m.Not) rest)
 
-abbrev begun_there : (x : Expr) (n : Bool) (rest : List Sign) → Ranged x n rest → List Sign
+abbrev begun_there : (x : Expr) (n : Bool) (rest : List Terminal) → Ranged x n rest → List Terminal
 begun_there x n rest k = k.0
 
 unranged_holds : (x : Expr) (n : Bool) → Holds Reads (at l.Range) (unranged_plan x n) (Ranged x n) (begun_there x n)
@@ -56,15 +56,15 @@ within_holds x n = (
 pub range_holds : Holds Reads (at l.Range) range_plan Nothing here
 range_holds x = (within_holds x true, within_holds x false)
 
--- ---- signs and casts
+-- ---- terminals and casts
 
-least_taken : (s : Sign) (ts : List Sign) → is_least (s ∷ ts) ≡ true → Reads (at l.Sign) (mark m.Minus ∷ s ∷ ts) (e.Int (negsuc (2 ^ 63 - 1))) ts
+least_taken : (s : Terminal) (ts : List Terminal) → is_least (s ∷ ts) ≡ true → Reads (at l.Sign) (mark m.Minus ∷ s ∷ ts) (e.Int (negsuc (2 ^ 63 - 1))) ts
 least_taken (integer n) ts h =
     let same : n ≡ 2 ^ 63 = eqb-true n (2 ^ 63) h in
     subst (λ i. Reads (at l.Sign) (mark m.Minus ∷ integer i ∷ ts) (e.Int (negsuc (2 ^ 63 - 1))) ts) (sym same) least
 least_taken _ ts h = absurd (cc h)
 
-none_least : (ts : List Sign) → ts ≡ [] → is_least ts ≡ true → ⊥
+none_least : (ts : List Terminal) → ts ≡ [] → is_least ts ≡ true → ⊥
 none_least ts e h = let other : is_least ts ≡ false = ap is_least e in cc (h, other)
 
 pub sign_holds : Holds Reads (at l.Sign) sign_plan Nothing here
@@ -78,18 +78,18 @@ cast_holds x = (
 
 -- ---- what stands alone
 
--- behind a sign
-abbrev behind : Sign → (ts : List Sign) → Nothing ts → List Sign
+-- behind a terminal
+abbrev behind : Terminal → (ts : List Terminal) → Nothing ts → List Terminal
 behind s ts k = s ∷ ts
 
-rows_counted : (n : List ℕ) (ts : List Sign) → bytes_eq n (codes "count") ≡ true → Reads (at l.Primary) (name n ∷ mark m.Open ∷ mark m.Star ∷ mark m.Close ∷ ts) e.CountRows ts
+rows_counted : (n : List ℕ) (ts : List Terminal) → bytes_eq n (codes "count") ≡ true → Reads (at l.Primary) (name n ∷ mark m.Open ∷ mark m.Star ∷ mark m.Close ∷ ts) e.CountRows ts
 rows_counted n ts h =
     let same : n ≡ codes "count" = (bytes_eq-Decides n (codes "count")).0 h in
     subst (λ z. Reads (at l.Primary) (name z ∷ mark m.Open ∷ mark m.Star ∷ mark m.Close ∷ ts) e.CountRows ts) (sym same) count_rows
 
 named_holds : (n : List ℕ) → Holds Reads (at l.Primary) (named_plan n) Nothing (behind (name n))
 named_holds n = (
-  (tt, name_taken Reads _ _ _ (λ c ts k. dotted)),
+  (tt, name_taken Reads _ _ _ (λ c ts k. qualified)),
   (
     (
       if_holds Reads _ _ (bytes_eq n (codes "count")) _ _ (λ h. (λ ts k. rows_counted n ts h, tt)) (λ h. tt),
@@ -124,21 +124,21 @@ parameter_holds i = ((tt, type_taken Reads _ _ _ (λ t ty is ts k. short_paramet
 number_holds : (n : ℕ) → Holds Reads (at l.Primary) (if nat_lt n (2 ^ 63) then done (e.Int (pos n)) else fail) Nothing (behind (integer n))
 number_holds n = if_holds Reads _ _ (nat_lt n (2 ^ 63)) _ _ (λ h ts k. number (let below : n < 2 ^ 63 = grind (arith, nat_tests) in below)) (λ h. tt)
 
-word_holds : (sign : Mark) (literally : Option Expr) (function : Option (List ℕ)) → literal_of sign ≡ literally → called sign ≡ function
-    → Holds Reads (at l.Primary) (primary_with literally function) Nothing (behind (mark sign))
-word_holds sign (Some x) function is calls = λ ts k. literal sign is
-word_holds sign None (Some n) is calls = (λ xs. (λ ts k. call_word sign calls k.2, tt), tt)
-word_holds sign None None is calls = tt
+word_holds : (terminal : Mark) (literally : Option Expr) (function : Option (List ℕ)) → literal_of terminal ≡ literally → called terminal ≡ function
+    → Holds Reads (at l.Primary) (primary_with literally function) Nothing (behind (mark terminal))
+word_holds terminal (Some x) function is calls = λ ts k. literal terminal is
+word_holds terminal None (Some n) is calls = (λ xs. (λ ts k. call_word terminal calls k.2, tt), tt)
+word_holds terminal None None is calls = tt
 
-mark_holds : (sign : Mark) → Holds Reads (at l.Primary) (primary_by (Some (mark sign))) Nothing (behind (mark sign))
+mark_holds : (terminal : Mark) → Holds Reads (at l.Primary) (primary_by (Some (mark terminal))) Nothing (behind (mark terminal))
 mark_holds m.Open = inside_holds
 mark_holds m.Cast = cast_call_holds
 mark_holds m.Exists = exists_holds
 mark_holds m.Case = case_holds
-mark_holds sign = word_holds sign (literal_of sign) (called sign) refl refl
+mark_holds terminal = word_holds terminal (literal_of terminal) (called terminal) refl refl
 
-primary_taken : (s : Sign) → Holds Reads (at l.Primary) (primary_by (Some s)) Nothing (behind s)
-primary_taken (mark sign) = mark_holds sign
+primary_taken : (s : Terminal) → Holds Reads (at l.Primary) (primary_by (Some s)) Nothing (behind s)
+primary_taken (mark terminal) = mark_holds terminal
 primary_taken (name n) = named_holds n
 primary_taken (integer n) = number_holds n
 primary_taken (string t) = λ ts k. text

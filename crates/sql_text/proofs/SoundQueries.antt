@@ -6,10 +6,10 @@ use Rattle.away_grammar.specs.declared.grammar.Mark.TheVariants as m
 use Rattle.away_trees.specs.declared.queries.Source.TheVariants as source
 use Rattle.away_trees.specs.declared.queries.Select.{Select}
 use Rattle.away_trees.specs.declared.queries.Query.{Query}
-use Rattle.away_grammar.specs.Signs.{Sign, mark, name}
-use Rattle.away_grammar.specs.Grammar.{Sort, item, items, from_item, from_items, from_clause, where_clause, key, keys, order_clause, limit_clause, select, selects, query, names, recursive, file, column, columns, tables, Tree, is_number, may_join, perhaps, qualified, Reads, item_alone, item_as, last_item, another_item, table_alone, table_as, sub_alone, sub_columns, last_from, another_from, last_name, another_name, key_alone, ascending, descending, last_key, another_key, no_from, from, no_where, where_of, no_order, order_by, no_limit, limit_of, select_of, last_select, another_select, query_of, recursive_of, plain_file, with_file, column_of, last_column, another_column, no_table, table}
+use Rattle.away_grammar.specs.Terminals.{Terminal, mark, name}
+use Rattle.away_grammar.specs.Grammar.{Sort, item, items, from_item, from_items, from_clause, where_clause, key, keys, order_clause, limit_clause, select, selects, query, names, recursive, file, column, columns, tables, Tree, is_number, may_join, perhaps, schema_qualified, Reads, item_alone, item_as, last_item, another_item, table_alone, table_as, sub_alone, sub_columns, last_from, another_from, last_name, another_name, key_alone, ascending, descending, last_key, another_key, no_from, from, no_where, where_of, no_order, order_by, no_limit, limit_of, select_of, last_select, another_select, query_of, recursive_of, plain_file, with_file, column_of, last_column, another_column, no_table, table}
 use Rattle.sql_text.specs.Plans.{Plan}
-use Rattle.sql_text.specs.Descent.{a_name, qualified_name, item_plan, items_plan, table_plan, columns_plan, sub_plan, from_item_plan, from_items_plan, from_clause_plan, where_plan, key_plan, keys_plan, order_plan, limit_plan, select_plan, selects_plan, query_plan, names_plan, put_first, parted, recursive_with, recursive_plan, file_plan, column_plan, table_columns_plan, tables_plan}
+use Rattle.sql_text.specs.Descent.{a_name, schema_qualified_name, item_plan, items_plan, table_plan, columns_plan, sub_plan, from_item_plan, from_items_plan, from_clause_plan, where_plan, key_plan, keys_plan, order_plan, limit_plan, select_plan, selects_plan, query_plan, names_plan, put_first, parted, recursive_with, recursive_plan, file_plan, column_plan, table_columns_plan, tables_plan}
 use Rattle.sql_text.proofs.Holds.{Holds, Nothing, here, if_holds, with_holds, name_taken, type_taken}
 
 pub item_holds : Holds Reads item item_plan Nothing here
@@ -21,9 +21,9 @@ items_hold x = (λ xs ts k. another_item k.1.2 k.2, λ ts k. last_item k.2)
 -- ---- FROM
 
 -- The plan of a name, perhaps behind `public.`, goes on after either form.
-qualified_holds : (n : Sort) (Known : List Sign → Type 0) (begun : (ts : List Sign) → Known ts → List Sign) (f : List ℕ → Plan Tree n)
-    → ((q : Bool) (z : List ℕ) → Holds Reads n (f z) (λ ts. Known (qualified q (name z ∷ ts))) (λ ts k. begun (qualified q (name z ∷ ts)) k))
-    → Holds Reads n (qualified_name f) Known begun
+qualified_holds : (n : Sort) (Known : List Terminal → Type 0) (begun : (ts : List Terminal) → Known ts → List Terminal) (f : List ℕ → Plan Tree n)
+    → ((q : Bool) (z : List ℕ) → Holds Reads n (f z) (λ ts. Known (schema_qualified q (name z ∷ ts))) (λ ts k. begun (schema_qualified q (name z ∷ ts)) k))
+    → Holds Reads n (schema_qualified_name f) Known begun
 qualified_holds n Known begun f found = (
   tt,
   name_taken Reads (λ s ts. Known (s ∷ ts)) (λ s ts k. begun (s ∷ ts) k) _ (λ z.
@@ -36,15 +36,15 @@ qualified_holds n Known begun f found = (
 )
 
 -- behind a table's name
-table_holds : (q : Bool) (n : List ℕ) → Holds Reads from_item (table_plan n) (λ ts. Nothing (qualified q (name n ∷ ts))) (λ ts k. qualified q (name n ∷ ts))
+table_holds : (q : Bool) (n : List ℕ) → Holds Reads from_item (table_plan n) (λ ts. Nothing (schema_qualified q (name n ∷ ts))) (λ ts k. schema_qualified q (name n ∷ ts))
 table_holds q n = (
   (tt, name_taken Reads _ _ _ (λ a ts k. table_as q true)),
   ((tt, name_taken Reads _ _ _ (λ a ts k. table_as q false)), λ ts k. table_alone q),
 )
 
 -- behind a subquery and its alias
-abbrev Aliased : Bool → Query → List ℕ → List Sign → Type 0
-Aliased w q a rest = (ts : List Sign) × Unit {0} × Reads query ts q (mark m.Close ∷ perhaps w (mark m.As) (name a ∷ rest))
+abbrev Aliased : Bool → Query → List ℕ → List Terminal → Type 0
+Aliased w q a rest = (ts : List Terminal) × Unit {0} × Reads query ts q (mark m.Close ∷ perhaps w (mark m.As) (name a ∷ rest))
 
 columns_hold : (v w : Bool) (q : Query) (a : List ℕ) → Holds Reads from_item (columns_plan (source.Sub q v) a) (Aliased w q a) (λ rest k. perhaps v (mark m.Lateral) (mark m.Open ∷ k.0))
 columns_hold v w q a = (λ ns. (λ ts k. sub_columns {v = v} w k.1.2 k.2, tt), λ ts k. sub_alone {v = v} w k.2)
@@ -121,7 +121,7 @@ parted_is [] p e = absurd (cc e)
 parted_is (s ∷ []) p e = absurd (cc e)
 parted_is (s ∷ t ∷ ss) p e = put_parts s t ss (parted (t ∷ ss)) p refl (parted_is (t ∷ ss)) e
 
-recursive_read : (n : List ℕ) (ns : List (List ℕ)) (ss : List Select) (p : List Select × Select) {ts after rest : List Sign} → parted ss ≡ Some p
+recursive_read : (n : List ℕ) (ns : List (List ℕ)) (ss : List Select) (p : List Select × Select) {ts after rest : List Terminal} → parted ss ≡ Some p
     → Reads names ts ns (mark m.Close ∷ mark m.As ∷ mark m.Open ∷ after) → Reads selects after ss (mark m.Close ∷ rest)
     → Reads recursive (mark m.With ∷ mark m.Recursive ∷ name n ∷ mark m.Open ∷ ts) (recursive_with n ns p) rest
 recursive_read n ns ss p {ts = ts} {after = after} {rest = rest} is a b =

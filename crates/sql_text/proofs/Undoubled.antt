@@ -5,7 +5,7 @@ use Rattle.std.proofs.lemmas.Bool.{cases_Bool}
 use Rattle.std.proofs.lemmas.Bool.Decides.{nat_tests}
 use Rattle.std.specs.Str.Pattern.{FindsText, LacksTextAt}
 use Rattle.std.specs.Str.Replace.{ReplacesMatches}
-use Rattle.away_grammar.specs.Signs.{undoubled, between_quotes}
+use Rattle.away_grammar.specs.Terminals.{undoubled, between_quotes}
 
 abbrev pub pair : List ℕ
 pair = 39 ∷ 39 ∷ []

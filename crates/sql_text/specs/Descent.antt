@@ -16,12 +16,12 @@ use Rattle.away_trees.specs.declared.queries.Select.{Select}
 use Rattle.away_trees.specs.declared.queries.Recursive.{Recursive}
 use Rattle.away_trees.specs.declared.queries.Query.{Query}
 use Rattle.away_trees.specs.declared.queries.Expr.TheViews.{roll-Item, roll-FromItem, roll-Key, roll-Select, roll-Recursive, roll-Query}
-use Rattle.away_grammar.specs.Signs.{Sign, mark, name, integer, string, parameter}
+use Rattle.away_grammar.specs.Terminals.{Terminal, mark, name, integer, string, parameter}
 use Rattle.away_grammar.specs.Grammar.{Sort, at, links, list, arms, item, items, from_item, from_items, from_clause, where_clause}
 use Rattle.away_grammar.specs.Grammar.{key, keys, order_clause, limit_clause, select, selects, query, names, recursive, file}
 use Rattle.away_grammar.specs.Grammar.{column, columns, tables, Tree, literal_of, called, operands, chained, is_number, may_join}
 use Rattle.sql_text.specs.Plans.{Plan, done, fail, take, eat, look, read, with, want, perhaps_a, expect}
-use Rattle.sql_text.specs.SignKinds.{operator_in, comparison_in, test_in, name_in, type_in, parameter_in, is_least, is_select, is_with, is_typed_parameter}
+use Rattle.sql_text.specs.TerminalKinds.{operator_in, comparison_in, test_in, name_in, type_in, parameter_in, is_least, is_select, is_with, is_typed_parameter}
 
 -- a name, and then by it
 abbrev pub a_name : {S : Type 0} {T : S → Type 0} {n : S} → (List ℕ → Plan T n) → Plan T n
@@ -139,7 +139,7 @@ primary_with None n = with arguments_plan n
 
 -- behind a reserved word that is a literal or is called
 abbrev pub word_plan : Mark → Plan Tree (at l.Primary)
-word_plan sign = primary_with (literal_of sign) (called sign)
+word_plan terminal = primary_with (literal_of terminal) (called terminal)
 
 -- behind a mark
 abbrev pub marked_plan : Mark → Plan Tree (at l.Primary)
@@ -147,15 +147,15 @@ marked_plan m.Open = inside_plan
 marked_plan m.Cast = cast_call_plan
 marked_plan m.Exists = exists_plan
 marked_plan m.Case = case_plan
-marked_plan sign = word_plan sign
+marked_plan terminal = word_plan terminal
 
-abbrev pub primary_by : Option Sign → Plan Tree (at l.Primary)
+abbrev pub primary_by : Option Terminal → Plan Tree (at l.Primary)
 primary_by None = fail
 primary_by (Some (integer n)) = if nat_lt n (2 ^ 63) then done (e.Int (pos n)) else fail
 primary_by (Some (string t)) = done (e.Str t)
 primary_by (Some (name n)) = named_plan n
 primary_by (Some (parameter i)) = parameter_plan i
-primary_by (Some (mark sign)) = marked_plan sign
+primary_by (Some (mark terminal)) = marked_plan terminal
 primary_by _ = fail
 
 abbrev pub primary_plan : Plan Tree (at l.Primary)
@@ -200,11 +200,11 @@ abbrev pub sub_plan : Bool → Plan Tree from_item
 sub_plan lateral = read query (λ q. expect m.Close (alias_plan q lateral))
 
 -- a name, perhaps behind `public.`
-abbrev pub qualified_name : {S : Type 0} {T : S → Type 0} {n : S} → (List ℕ → Plan T n) → Plan T n
-qualified_name f = a_name (λ n. if bytes_eq n (codes "public") then eat m.Dot (a_name f) (f n) else f n)
+abbrev pub schema_qualified_name : {S : Type 0} {T : S → Type 0} {n : S} → (List ℕ → Plan T n) → Plan T n
+schema_qualified_name f = a_name (λ n. if bytes_eq n (codes "public") then eat m.Dot (a_name f) (f n) else f n)
 
 abbrev pub from_item_plan : Plan Tree from_item
-from_item_plan = eat m.Lateral (expect m.Open (sub_plan true)) (eat m.Open (sub_plan false) (qualified_name table_plan))
+from_item_plan = eat m.Lateral (expect m.Open (sub_plan true)) (eat m.Open (sub_plan false) (schema_qualified_name table_plan))
 
 abbrev pub from_items_plan : Plan Tree from_items
 from_items_plan = read from_item (λ x. eat m.Comma (read from_items (λ xs. done (x ∷ xs))) (done (x ∷ [])))
@@ -293,7 +293,7 @@ table_columns_plan = read column (λ c. eat m.Comma (read columns (λ cs. done (
 abbrev pub tables_plan : Plan Tree tables
 tables_plan =
     eat m.Create
-    (expect m.Table (qualified_name (λ n. expect m.Open (read columns (λ cs. expect m.Close (expect m.Semicolon
+    (expect m.Table (schema_qualified_name (λ n. expect m.Open (read columns (λ cs. expect m.Close (expect m.Semicolon
     (read tables (λ more. done (record { name = n; columns = cs } ∷ more)))))))))
     (done [])
 

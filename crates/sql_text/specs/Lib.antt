@@ -1,6 +1,6 @@
 pub mod Plans
-pub mod SignKinds
+pub mod TerminalKinds
 pub mod Descent
-pub mod CodeSigns
-pub mod Qualified
+pub mod CodeTerminals
+pub mod SchemaQualified
 pub mod Refusals

@@ -1,7 +1,7 @@
 -- When the public readers give a tree, and what each of their refusals says.
 use Rattle.std.specs.Prelude.{◌≡◌, ◌≤◌, ◌<◌, ℕ, List, Some, None}
 use Rattle.away_trees.specs.declared.queries.Expr.{Expr}
-use Rattle.away_grammar.specs.Signs.{Sign, all_say}
+use Rattle.away_grammar.specs.Terminals.{Terminal, token_terminals}
 use Rattle.away_grammar.specs.Tokens.{Lexeme, Lexes}
 use Rattle.away_grammar.specs.Nesting.{IsNesting}
 use Rattle.away_grammar.specs.Texts.{IsText, IsExpression}
@@ -23,11 +23,11 @@ pub record HasTokens (bytes : List ℕ) (tokens : List Lexeme) (nesting : ℕ) :
 abbrev pub HasFewTokens : List ℕ → List Lexeme → Type 0
 HasFewTokens bytes tokens = (nesting : ℕ) × HasTokens bytes tokens nesting × (nesting ≤ most_nesting)
 
--- These are what the tokens say of bytes that are a text with no bad token and nest no deeper than is read.
-pub record HasSigns (bytes : List ℕ) (signs : List Sign) : Type 0 where
+-- These are what the tokens are of bytes that are a text with no bad token and nest no deeper than is read.
+pub record HasTerminals (bytes : List ℕ) (terminals : List Terminal) : Type 0 where
   pub tokens : List Lexeme
   pub few : HasFewTokens bytes tokens
-  pub says : signs ≡ all_say tokens
+  pub of_tokens : terminals ≡ token_terminals tokens
 
 -- The bytes are a text without a bad token whose tokens nest no deeper than is read.
 abbrev pub MayBeRead : List ℕ → Type 0

@@ -1,18 +1,18 @@
-//! A place in a list of signs.
+//! A place in a list of terminals.
 
 ghost use Rattle.std.specs.Prelude.{◌≡◌, ◌≤◌, ◌<◌, ◌∷◌, true, false, length, map, drop, All, IfOk, IfSome};
 ghost use Rattle.std.specs.Bool.{OnTrue, OnFalse};
 ghost use Rattle.away_grammar.specs.declared.grammar.Level.TheVariants as level;
 ghost use Rattle.away_grammar.specs.declared.grammar.Mark.TheVariants as m;
 ghost use Rattle.away_grammar.specs.Grammar.{at as expression, Stops};
-ghost use Rattle.away_grammar.specs.Signs.{mark};
+ghost use Rattle.away_grammar.specs.Terminals.{mark};
 ghost use Rattle.sql_text.specs.Plans.{first, is_some, tail, Begins};
-ghost use Rattle.sql_text.specs.SignKinds.{operator_in, comparison_in, test_in, name_in, type_in, parameter_in, is_least};
-ghost use Rattle.sql_text.specs.SignKinds.{is_select, is_with, is_typed_parameter};
-ghost use Rattle.sql_text.specs.CodeSigns.{meaning_of, next_meaning, HasSpelling, Found, Expected, Taken};
+ghost use Rattle.sql_text.specs.TerminalKinds.{operator_in, comparison_in, test_in, name_in, type_in, parameter_in, is_least};
+ghost use Rattle.sql_text.specs.TerminalKinds.{is_select, is_with, is_typed_parameter};
+ghost use Rattle.sql_text.specs.CodeTerminals.{meaning_of, next_meaning, HasSpelling, Found, Expected, Taken};
 
 use crate::refusal::Refusal;
-use crate::signs::{Sign, comparison_of, continues, operator_of, type_named};
+use crate::terminals::{Terminal, comparison_of, continues, operator_of, type_named};
 use away_grammar::{Level, Mark};
 use away_lex::folded;
 use away_values::{ChainOp, CmpOp, IsTest, Name, NoMemory, Ty};
@@ -22,63 +22,63 @@ use std::marker::Model;
 /// The opposite of the least bigint.
 const LEAST: u64 = 1 << 63;
 
-/// A place in a list of signs. Contracts see the signs from there on.
+/// A place in a list of terminals. Contracts see the terminals from there on.
 #[derive(Drop)]
 pub struct Cursor<'a> {
-    signs: &'a [Sign<'a>],
+    terminals: &'a [Terminal<'a>],
     at: usize,
 }
 
 impl<'a> Model for Cursor<'a> {
     ghost use Rattle.std.specs.Prelude.{List, drop, length, map, All, ◌≤◌};
-    ghost use Rattle.away_grammar.specs.Signs.{Sign};
-    ghost use Rattle.sql_text.specs.CodeSigns.{meaning_of, HasSpelling};
+    ghost use Rattle.away_grammar.specs.Terminals.{Terminal};
+    ghost use Rattle.sql_text.specs.CodeTerminals.{meaning_of, HasSpelling};
 
-    ghost Value = { List Sign };
+    ghost Value = { List Terminal };
 
-    ghost view = { λ c. map meaning_of (drop c.at c.signs.now) };
+    ghost view = { λ c. map meaning_of (drop c.at c.terminals.now) };
 
-    ghost invariant = { λ c. (c.at ≤ length c.signs.now) × All HasSpelling c.signs.now };
+    ghost invariant = { λ c. (c.at ≤ length c.terminals.now) × All HasSpelling c.terminals.now };
 }
 
 impl<'a> Cursor<'a> {
     /// The place of this number in the list, from 0.
-    pub fn new(signs: &'a [Sign<'a>], at: usize) -> Cursor<'a>
-        requires within { at ≤ length signs.now }
-        requires spelled { All HasSpelling signs.now }
-        ensures { result ≡ map meaning_of (drop at signs.now) }
+    pub fn new(terminals: &'a [Terminal<'a>], at: usize) -> Cursor<'a>
+        requires within { at ≤ length terminals.now }
+        requires spelled { All HasSpelling terminals.now }
+        ensures { result ≡ map meaning_of (drop at terminals.now) }
     {
-        Cursor { signs, at }
+        Cursor { terminals, at }
     }
 
     /// The same place, to look ahead from.
     pub fn ahead(&self) -> Cursor<'a>
         ensures { result ≡ self.now }
     {
-        Cursor::new(self.signs, self.at)
+        Cursor::new(self.terminals, self.at)
     }
 
-    /// How many signs are left.
+    /// How many terminals are left.
     pub fn left(&self) -> usize
         ensures { result ≡ length self.now }
     {
-        self.signs.len() - self.at
+        self.terminals.len() - self.at
     }
 
     /// What stands next.
-    pub fn peek(&self) -> Option<Sign<'a>>
+    pub fn peek(&self) -> Option<Terminal<'a>>
         ensures value { next_meaning result ≡ first self.now }
         ensures spelled { IfSome result HasSpelling }
     {
-        if self.at < self.signs.len() {
-            Some(self.signs[self.at])
+        if self.at < self.terminals.len() {
+            Some(self.terminals[self.at])
         } else {
             None
         }
     }
 
     /// Takes what stands next.
-    pub fn take(&mut self) -> Option<Sign<'a>>
+    pub fn take(&mut self) -> Option<Terminal<'a>>
         ensures next { next_meaning result ≡ first self.old }
         ensures rest { self.new ≡ tail self.old }
         ensures spelled { IfSome result HasSpelling }
@@ -90,11 +90,11 @@ impl<'a> Cursor<'a> {
         next
     }
 
-    /// Goes on by one sign, if one is left.
+    /// Goes on by one terminal, if one is left.
     fn step(&mut self)
         ensures { self.new ≡ tail self.old }
     {
-        if self.at < self.signs.len() {
+        if self.at < self.terminals.len() {
             self.at += 1;
         }
     }
@@ -105,7 +105,7 @@ impl<'a> Cursor<'a> {
         ensures no { OnFalse result (¬ (Begins self.now sought)) }
     {
         match self.peek() {
-            Some(Sign::Mark(next)) => next == sought,
+            Some(Terminal::Mark(next)) => next == sought,
             _ => false,
         }
     }
@@ -145,7 +145,7 @@ impl<'a> Cursor<'a> {
         ensures shorter { IfSome result (λ _. length self.new < length self.old) }
     {
         let found = match self.peek() {
-            Some(Sign::Mark(next)) => operator_of(level, next),
+            Some(Terminal::Mark(next)) => operator_of(level, next),
             _ => None,
         };
         if found.is_some() {
@@ -159,7 +159,7 @@ impl<'a> Cursor<'a> {
         ensures { result ≡ is_some (operator_in level (first self.now)) }
     {
         match self.peek() {
-            Some(Sign::Mark(next)) => operator_of(level, next).is_some(),
+            Some(Terminal::Mark(next)) => operator_of(level, next).is_some(),
             _ => false,
         }
     }
@@ -172,7 +172,7 @@ impl<'a> Cursor<'a> {
         ensures shorter { IfSome result (λ _. length self.new < length self.old) }
     {
         let found = match self.peek() {
-            Some(Sign::Mark(next)) => comparison_of(next),
+            Some(Terminal::Mark(next)) => comparison_of(next),
             _ => None,
         };
         if found.is_some() {
@@ -186,7 +186,7 @@ impl<'a> Cursor<'a> {
         ensures { OnFalse result ((¬ (Begins self.now m.Not)) × (¬ (Begins self.now m.Between)) × (¬ (Begins self.now m.In))) }
     {
         match self.peek() {
-            Some(Sign::Mark(next)) => matches!(next, Mark::Not | Mark::Between | Mark::In),
+            Some(Terminal::Mark(next)) => matches!(next, Mark::Not | Mark::Between | Mark::In),
             _ => false,
         }
     }
@@ -199,9 +199,9 @@ impl<'a> Cursor<'a> {
         ensures shorter { IfOk result (λ _. length self.new < length self.old) }
     {
         match self.take() {
-            Some(Sign::Mark(Mark::Null)) => Ok(IsTest::Null),
-            Some(Sign::Mark(Mark::True)) => Ok(IsTest::True),
-            Some(Sign::Mark(Mark::False)) => Ok(IsTest::False),
+            Some(Terminal::Mark(Mark::Null)) => Ok(IsTest::Null),
+            Some(Terminal::Mark(Mark::True)) => Ok(IsTest::True),
+            Some(Terminal::Mark(Mark::False)) => Ok(IsTest::False),
             _ => Err(Refusal::NoTree),
         }
     }
@@ -214,7 +214,7 @@ impl<'a> Cursor<'a> {
         ensures shorter { IfOk result (λ _. length self.new < length self.old) }
     {
         match self.take() {
-            Some(Sign::Name(text)) => Ok(folded(alloc, text)?),
+            Some(Terminal::Name(text)) => Ok(folded(alloc, text)?),
             _ => Err(Refusal::NoTree),
         }
     }
@@ -226,7 +226,7 @@ impl<'a> Cursor<'a> {
         ensures shorter { IfOk result (λ found. IfSome found (λ _. length self.new < length self.old)) }
     {
         match self.peek() {
-            Some(Sign::Name(text)) => {
+            Some(Terminal::Name(text)) => {
                 self.step();
                 Ok(Some(folded(alloc, text)?))
             }
@@ -242,7 +242,7 @@ impl<'a> Cursor<'a> {
         ensures shorter { IfOk result (λ _. length self.new < length self.old) }
     {
         match self.take() {
-            Some(Sign::Name(text)) => type_named(text).ok_or(Refusal::NoTree),
+            Some(Terminal::Name(text)) => type_named(text).ok_or(Refusal::NoTree),
             _ => Err(Refusal::NoTree),
         }
     }
@@ -256,7 +256,7 @@ impl<'a> Cursor<'a> {
         ensures shorter { IfOk result (λ _. length self.new < length self.old) }
     {
         match self.take() {
-            Some(Sign::Parameter(number)) => Ok(number),
+            Some(Terminal::Parameter(number)) => Ok(number),
             _ => Err(Refusal::NoTree),
         }
     }
@@ -269,7 +269,7 @@ impl<'a> Cursor<'a> {
         ensures shorter { OnTrue result (length self.new < length self.old) }
     {
         let found = match self.peek() {
-            Some(Sign::Integer(number)) => number == LEAST,
+            Some(Terminal::Integer(number)) => number == LEAST,
             _ => false,
         };
         if found {
@@ -296,7 +296,7 @@ impl<'a> Cursor<'a> {
     {
         let mut ahead = self.ahead();
         match ahead.take() {
-            Some(Sign::Parameter(_)) => ahead.sees(Mark::As),
+            Some(Terminal::Parameter(_)) => ahead.sees(Mark::As),
             _ => false,
         }
     }
@@ -307,7 +307,7 @@ impl<'a> Cursor<'a> {
         ensures no { OnFalse result (Stops (expression level.Or) self.now) }
     {
         match self.peek() {
-            Some(Sign::Mark(next)) => continues(next),
+            Some(Terminal::Mark(next)) => continues(next),
             _ => false,
         }
     }

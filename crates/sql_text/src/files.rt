@@ -5,7 +5,7 @@ ghost use Rattle.away_grammar.specs.Grammar.{Tree, file, recursive};
 ghost use Rattle.sql_text.specs.Plans.{Gives};
 ghost use Rattle.sql_text.specs.Descent as descent;
 ghost use Rattle.sql_text.specs.Descent.{plan, file_plan, file_with, recursive_file_plan, recursive_plan};
-ghost use Rattle.sql_text.specs.CodeSigns.{Found};
+ghost use Rattle.sql_text.specs.CodeTerminals.{Found};
 
 use crate::cursor::Cursor;
 use crate::nodes::may_join;

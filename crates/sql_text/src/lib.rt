@@ -13,8 +13,8 @@ mod read;
 mod refusal;
 mod schemas;
 mod selects;
-mod signs;
 mod tables;
+mod terminals;
 
 pub use complete_law::what_is_read_is_given;
 pub use cursor::Cursor;
@@ -24,4 +24,4 @@ pub use nodes::unboxed;
 pub use one_tree::a_text_reads_as_one_tree;
 pub use read::{as_text, read_expr, read_query, read_schema};
 pub use refusal::Refusal;
-pub use signs::{Sign, is_public, signs_of, text_of};
+pub use terminals::{Terminal, is_public, terminals_of, text_of};

@@ -4,7 +4,7 @@ ghost use Rattle.std.specs.Prelude.{◌≡◌, IfOk, ◌^◌, ◌<◌, pos, true
 ghost use Rattle.away_grammar.specs.Grammar.{IsChain, Tree, at, chained, literal_of, called};
 ghost use Rattle.away_grammar.specs.Grammar as spec;
 ghost use Rattle.sql_text.specs.Descent as descent;
-ghost use Rattle.sql_text.specs.CodeSigns.{Found, Numbered};
+ghost use Rattle.sql_text.specs.CodeTerminals.{Found, Numbered};
 
 use crate::refusal::Refusal;
 use away_grammar::{Level, Mark};

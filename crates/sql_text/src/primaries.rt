@@ -12,7 +12,7 @@ use crate::expressions::{expression, operand};
 use crate::nodes::{called_name, literal, number};
 use crate::refusal::Refusal;
 use crate::selects::query_of;
-use crate::signs::{Sign, is_count, text_of};
+use crate::terminals::{Terminal, is_count, text_of};
 use away_grammar::{Level, Mark};
 use away_lex::folded;
 use away_trees::Expr;
@@ -27,15 +27,15 @@ pub fn primary(alloc: Global, tokens: &mut Cursor<'_>) -> Result<Expr, Refusal>
     ensures shrinks { length tokens.new ≤ length tokens.old }
 {
     match tokens.take() {
-        Some(Sign::Integer(value)) => number(value),
-        Some(Sign::Text(string)) => Ok(Expr::Str(text_of(alloc, string)?)),
-        Some(Sign::Name(text)) => {
+        Some(Terminal::Integer(value)) => number(value),
+        Some(Terminal::Text(string)) => Ok(Expr::Str(text_of(alloc, string)?)),
+        Some(Terminal::Name(text)) => {
             let name = folded(alloc, text)?;
             named(alloc, tokens, name)
         }
-        Some(Sign::Parameter(number)) => parameter(tokens, number),
-        Some(Sign::Mark(mark)) => marked(alloc, tokens, mark),
-        Some(Sign::Quote(_)) => Err(Refusal::NoTree),
+        Some(Terminal::Parameter(number)) => parameter(tokens, number),
+        Some(Terminal::Mark(mark)) => marked(alloc, tokens, mark),
+        Some(Terminal::Quote(_)) => Err(Refusal::NoTree),
         None => Err(Refusal::NoTree),
     }
 }

@@ -5,15 +5,15 @@ ghost use Rattle.away_grammar.specs.Texts.{IsText, IsExpression, ReadsQuery, Rea
 ghost use Rattle.away_grammar.specs.Tokens.{AreSpelled};
 ghost use Rattle.away_trees.specs.declared.queries.Expr.{Expr};
 ghost use Rattle.away_lex.specs.Lexed.{seen};
-ghost use Rattle.sql_text.specs.CodeSigns.{meaning_of, HasSpelling};
-ghost use Rattle.sql_text.specs.Refusals.{HasFewTokens, HasSigns, MayBeRead, NoExpression, Refuses, RefusesTokens};
+ghost use Rattle.sql_text.specs.CodeTerminals.{meaning_of, HasSpelling};
+ghost use Rattle.sql_text.specs.Refusals.{HasFewTokens, HasTerminals, MayBeRead, NoExpression, Refuses, RefusesTokens};
 
 use crate::cursor::Cursor;
 use crate::expressions::operand;
 use crate::files::file_of;
 use crate::refusal::Refusal;
 use crate::schemas::tables_of;
-use crate::signs::{Sign, signs_of};
+use crate::terminals::{Terminal, terminals_of};
 use away_grammar::Level;
 use away_lex::{LimitKind, ReadRefusal, Token, nesting, tokens};
 use away_trees::{Expr, Query, Schema};
@@ -28,8 +28,8 @@ pub fn read_query(alloc: Global, bytes: &[u8]) -> Result<Query, ReadRefusal>
     ensures ok { IfOk result (λ query. MayBeRead bytes.now × ReadsQuery bytes.now query) }
     ensures err { IfErr result (Refuses (ReadsQuery bytes.now) bytes.now) }
 {
-    let signs = text_signs(alloc, bytes)?;
-    let mut left = Cursor::new(signs.as_slice(), 0);
+    let terminals = text_terminals(alloc, bytes)?;
+    let mut left = Cursor::new(terminals.as_slice(), 0);
     match file_of(alloc, &mut left) {
         Ok(query) => {
             if left.left() == 0 {
@@ -48,8 +48,8 @@ pub fn read_schema(alloc: Global, bytes: &[u8]) -> Result<Schema, ReadRefusal>
     ensures ok { IfOk result (λ schema. MayBeRead bytes.now × ReadsSchema bytes.now schema) }
     ensures err { IfErr result (Refuses (ReadsSchema bytes.now) bytes.now) }
 {
-    let signs = text_signs(alloc, bytes)?;
-    let mut left = Cursor::new(signs.as_slice(), 0);
+    let terminals = text_terminals(alloc, bytes)?;
+    let mut left = Cursor::new(terminals.as_slice(), 0);
     match tables_of(alloc, &mut left) {
         Ok(tables) => {
             if left.left() == 0 {
@@ -72,10 +72,10 @@ pub fn read_expr(alloc: Global, list: &[Token<'_>], at: usize) -> Result<(Expr, 
     ensures err { IfErr result (NoExpression (map seen list.now) at) }
 {
     let behind = &list[at..];
-    let Ok(signs) = signs_of(alloc, behind) else {
+    let Ok(terminals) = terminals_of(alloc, behind) else {
         return Err(ReadRefusal::NoMemory);
     };
-    let mut left = Cursor::new(signs.as_slice(), 0);
+    let mut left = Cursor::new(terminals.as_slice(), 0);
     match operand(alloc, &mut left, Level::Or) {
         Ok(found) => {
             if left.continues() {
@@ -89,15 +89,15 @@ pub fn read_expr(alloc: Global, list: &[Token<'_>], at: usize) -> Result<(Expr, 
     }
 }
 
-/// What the tokens of bytes say that are a text and nest no deeper than is read.
-fn text_signs<'a>(alloc: Global, bytes: &'a [u8]) -> Result<Items<Sign<'a>>, ReadRefusal>
-    ensures ok { IfOk result (λ signs. HasSigns bytes.now (map meaning_of signs)) }
-    ensures spelled { IfOk result (λ signs. All HasSpelling signs) }
+/// The terminals of the tokens of bytes that are a text and nest no deeper than is read.
+fn text_terminals<'a>(alloc: Global, bytes: &'a [u8]) -> Result<Items<Terminal<'a>>, ReadRefusal>
+    ensures ok { IfOk result (λ terminals. HasTerminals bytes.now (map meaning_of terminals)) }
+    ensures spelled { IfOk result (λ terminals. All HasSpelling terminals) }
     ensures err { IfErr result (RefusesTokens bytes.now) }
 {
     let list = tokens_of(alloc, bytes)?;
-    match signs_of(alloc, list.as_slice()) {
-        Ok(signs) => Ok(signs),
+    match terminals_of(alloc, list.as_slice()) {
+        Ok(terminals) => Ok(terminals),
         Err(_) => Err(ReadRefusal::NoMemory),
     }
 }

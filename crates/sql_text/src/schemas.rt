@@ -7,7 +7,7 @@ ghost use Rattle.sql_text.specs.Descent.{plan, column_plan, table_columns_plan, 
 
 use crate::cursor::Cursor;
 use crate::refusal::Refusal;
-use crate::tables::qualified_name;
+use crate::tables::schema_qualified_name;
 use away_grammar::Mark;
 use away_trees::{ColumnSchema, TableSchema};
 use sqlite_items::Items;
@@ -21,7 +21,7 @@ pub fn tables_of(alloc: Global, tokens: &mut Cursor<'_>) -> Result<Items<TableSc
     let mut found = Items::new(alloc);
     while tokens.eat(Mark::Create) {
         tokens.expect(Mark::Table)?;
-        let name = qualified_name(alloc, tokens)?;
+        let name = schema_qualified_name(alloc, tokens)?;
         tokens.expect(Mark::Open)?;
         let columns = columns_of(alloc, tokens)?;
         tokens.expect(Mark::Close)?;

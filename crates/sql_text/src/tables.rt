@@ -5,11 +5,11 @@ ghost use Rattle.away_grammar.specs.Grammar.{Tree, from_item, names};
 ghost use Rattle.sql_text.specs.Plans.{Gives};
 ghost use Rattle.sql_text.specs.Descent as descent;
 ghost use Rattle.sql_text.specs.Descent.{plan, names_plan, table_plan, columns_plan, alias_plan};
-ghost use Rattle.sql_text.specs.Qualified.{NameRead};
+ghost use Rattle.sql_text.specs.SchemaQualified.{NameRead};
 
 use crate::cursor::Cursor;
 use crate::refusal::Refusal;
-use crate::signs::is_public;
+use crate::terminals::is_public;
 use away_grammar::Mark;
 use away_trees::{FromItem, Query, Source};
 use away_values::Name;
@@ -28,15 +28,15 @@ fn from_with(source: Source, alias: Name, columns: Items<Name>) -> FromItem
 
 /// A table, perhaps behind `public.`, and its alias, which is its name where none is written.
 pub fn table_item(alloc: Global, tokens: &mut Cursor<'_>) -> Result<FromItem, Refusal>
-    ensures found { Gives Tree plan from_item (descent.qualified_name table_plan) tokens.old result tokens.new }
+    ensures found { Gives Tree plan from_item (descent.schema_qualified_name table_plan) tokens.old result tokens.new }
     ensures shrinks { length tokens.new ≤ length tokens.old }
 {
-    let name = qualified_name(alloc, tokens)?;
+    let name = schema_qualified_name(alloc, tokens)?;
     aliased_table(alloc, tokens, name)
 }
 
 /// A name, perhaps behind `public.`.
-pub fn qualified_name(alloc: Global, tokens: &mut Cursor<'_>) -> Result<Name, Refusal>
+pub fn schema_qualified_name(alloc: Global, tokens: &mut Cursor<'_>) -> Result<Name, Refusal>
     ensures found { NameRead tokens.old result tokens.new }
     ensures shrinks { length tokens.new ≤ length tokens.old }
     ensures shorter { IfOk result (λ _. length tokens.new < length tokens.old) }

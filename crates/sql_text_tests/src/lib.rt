@@ -10,4 +10,4 @@ mod productions;
 #[cfg(test)]
 mod readings;
 #[cfg(test)]
-mod signs;
+mod terminals;

@@ -5,7 +5,7 @@ use Rattle.std.specs.List.{filter}
 use Rattle.block_forms.specs.Places.{In}
 use Rattle.ssa_build.specs.declared.full.FullForm.{FullForm}
 use Rattle.ssa_build.specs.declared.places.Joins.{Joins}
-use Rattle.ssa_build.specs.declared.places.Place.{Place}
+use Rattle.ssa_build.specs.declared.places.PhiPlace.{PhiPlace}
 use Rattle.ssa_build.specs.Forms.{Block}
 use Rattle.ssa_build.specs.FullForms.{IsFullForm, after, live_in}
 use Rattle.ssa_build.specs.FullJoins.{block_joins, block_places, join_at, joins_at, joins_below, place, places_below, slot_join}
@@ -45,7 +45,7 @@ module _ (f : FullForm) (g : List Block) where
 -- ---- each place is one of the full form
 
 module _ (f : FullForm) where
-  slot_place : (b : ℕ) (p : Place) → b < f.layout.blocks → In (block_places f b) p → IsPlace f.layout p
+  slot_place : (b : ℕ) (p : PhiPlace) → b < f.layout.blocks → In (block_places f b) p → IsPlace f.layout p
   slot_place b p lt i = go (nat_eq b f.layout.entry) i
     where
       here : List ℕ
@@ -58,14 +58,14 @@ module _ (f : FullForm) where
           let s = from_count 0 f.layout.slots r.0 (from_filter (live_in f b) (count_from 0 f.layout.slots) r.0 r.1).0 in
           subst (λ v. IsPlace f.layout v) r.2 (lt, (let h = s.1 in omega (arith, h)))
 
-  in_places : (n : ℕ) (p : Place) → n ≤ f.layout.blocks → In (places_below f n) p → IsPlace f.layout p
+  in_places : (n : ℕ) (p : PhiPlace) → n ≤ f.layout.blocks → In (places_below f n) p → IsPlace f.layout p
   in_places zero p le i = absurd i
   in_places (suc n) p le i = elim (from_both (places_below f n) (block_places f n) p i) [
     | inl j ↦ in_places n p (omega (arith, le)) j
     | inr j ↦ slot_place n p (omega (arith, le)) j
   ]
 
-  pub places_in : (i : ℕ) (p : Place) → slice_get (places_below f f.layout.blocks) i ≡ Some p → IsPlace f.layout p
+  pub places_in : (i : ℕ) (p : PhiPlace) → slice_get (places_below f f.layout.blocks) i ≡ Some p → IsPlace f.layout p
   places_in i p at = in_places f.layout.blocks p (omega arith) (in_place (places_below f f.layout.blocks) i p at)
 
 -- ---- by place
@@ -79,7 +79,7 @@ pub length_map : {X Y : Type 0} (h : X → Y) (xs : List X) → length (map h xs
 length_map h [] = refl
 length_map h (x ∷ xs) = ap suc (length_map h xs)
 
-abbrev pub place_of : Joins → ℕ → Place
+abbrev pub place_of : Joins → ℕ → PhiPlace
 place_of x i = get_or x.places.now i (place 0 0)
 
 abbrev pub join_of : Joins → ℕ → Join
@@ -101,7 +101,7 @@ within_places x i j at = let lt : i < length (joins_of x) = slice_get_within (jo
 
 -- ---- the operands of a join, by the blocks that they come from
 
-module _ (x : Joins) (are : AreJoins x) (p : Place) (place_in : IsPlace x.full.now.layout p) (r sources : List ℕ) (is : r ≡ get_or x.full.now.sources.items p.block r) (same : sources ≡ r) where
+module _ (x : Joins) (are : AreJoins x) (p : PhiPlace) (place_in : IsPlace x.full.now.layout p) (r sources : List ℕ) (is : r ≡ get_or x.full.now.sources.items p.block r) (same : sources ≡ r) where
   held : sources ≡ predecessors_of x.blocks.now p.block
   held = sources_held x.blocks.now x.full.now.sources.items p.block r sources are.sources (subst (λ v. p.block < v) (sym are.sized) place_in.0) is same
 

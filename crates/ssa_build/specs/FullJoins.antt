@@ -2,7 +2,7 @@
 use Rattle.std.specs.Prelude.{ℕ, zero, suc, if◌then◌else◌, List, [], ◌++◌, map, nat_eq}
 use Rattle.std.specs.List.{filter}
 use Rattle.ssa_build.specs.declared.full.FullForm.{FullForm}
-use Rattle.ssa_build.specs.declared.places.Place.{Place}
+use Rattle.ssa_build.specs.declared.places.PhiPlace.{PhiPlace}
 use Rattle.ssa_build.specs.Forms.{Block}
 use Rattle.ssa_build.specs.FullForms.{after, live_in, phi_name}
 use Rattle.ssa_build.specs.Joins.{Join}
@@ -26,19 +26,19 @@ joins_below f g (suc b) = joins_below f g b ++ block_joins f g b
 
 -- ---- their places
 
-abbrev pub place : ℕ → ℕ → Place
+abbrev pub place : ℕ → ℕ → PhiPlace
 place b s = record { block = b; slot = s }
 
-abbrev pub block_places : FullForm → ℕ → List Place
+abbrev pub block_places : FullForm → ℕ → List PhiPlace
 block_places f b = if nat_eq b f.layout.entry then [] else map (place b) (filter (live_in f b) (count_from 0 f.layout.slots))
 
 -- the places of the first blocks
-abbrev pub places_below : FullForm → ℕ → List Place
+abbrev pub places_below : FullForm → ℕ → List PhiPlace
 places_below f zero = []
 places_below f (suc b) = places_below f b ++ block_places f b
 
-abbrev pub join_at : FullForm → List Block → Place → Join
+abbrev pub join_at : FullForm → List Block → PhiPlace → Join
 join_at f g p = slot_join f g p.block p.slot
 
-abbrev pub joins_at : FullForm → List Block → List Place → List Join
+abbrev pub joins_at : FullForm → List Block → List PhiPlace → List Join
 joins_at f g ps = map (join_at f g) ps

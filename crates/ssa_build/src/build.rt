@@ -21,7 +21,7 @@ use crate::writing::new_blocks;
 use away_types::CheckedFunction;
 use away_values::NoMemory;
 use block_forms::{Goto, Ssa};
-use lowered_laws::{
+use goto_law::{
     forms_lead_to_their_blocks, names_of_forms_are_few, only_parameters_are_live_at_the_entry,
     parameters_have_slots,
 };

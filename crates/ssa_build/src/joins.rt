@@ -6,7 +6,7 @@ ghost use Rattle.ssa_build.specs.JoinPlaces.{AreJoins, IsPlace, joins_of, names_
 ghost use Rattle.ssa_build.specs.Joins.{IsRoot, IsWithin, Merged, Merging, Settled, Swept, Tells, roots, walk};
 
 use crate::full::{name_after, phi_name};
-use crate::places::{Joins, Place};
+use crate::places::{Joins, PhiPlace};
 use std::alloc::{AllocError, Global};
 
 /// What a join joins besides itself.
@@ -35,7 +35,7 @@ pub(crate) fn root(into: &[u32], merges: usize, name: u32) -> u32
 }
 
 /// What the join at a place joins besides itself, as far as names are merged.
-pub(crate) fn joined_names(joins: &Joins<'_>, place: Place, into: &[u32], merges: usize) -> Found
+pub(crate) fn joined_names(joins: &Joins<'_>, place: PhiPlace, into: &[u32], merges: usize) -> Found
     requires are { AreJoins joins.now }
     requires place_in { IsPlace joins.now.full.now.layout place }
     requires within { IsWithin into.now }

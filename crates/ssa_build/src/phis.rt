@@ -5,7 +5,7 @@ ghost use Rattle.ssa_build.specs.FullForms.{IsSized};
 ghost use Rattle.ssa_build.specs.FullJoins.{block_places, places_below};
 
 use crate::full::FullForm;
-use crate::places::Place;
+use crate::places::PhiPlace;
 use block_graph::is_live;
 use std::alloc::{AllocError, Global};
 
@@ -13,7 +13,7 @@ use std::alloc::{AllocError, Global};
 fn push_block_places(
     full: &FullForm,
     block: usize,
-    places: &mut Vec<Place>,
+    places: &mut Vec<PhiPlace>,
 ) -> Result<(), AllocError>
     requires tables { IsSized full.now }
     requires block_in { block < full.now.layout.blocks }
@@ -24,7 +24,7 @@ fn push_block_places(
     }
     for slot in 0..full.layout.slots {
         if is_live(&full.live, block, slot) {
-            places.push(Place {
+            places.push(PhiPlace {
                 block: block as u32,
                 slot: slot as u32,
             })?;
@@ -34,7 +34,7 @@ fn push_block_places(
 }
 
 /// The places of all φs, block by block.
-pub(crate) fn full_places(alloc: Global, full: &FullForm) -> Result<Vec<Place>, AllocError>
+pub(crate) fn full_places(alloc: Global, full: &FullForm) -> Result<Vec<PhiPlace>, AllocError>
     requires tables { IsSized full.now }
     ensures { IfOk result (λ v. v.items ≡ places_below full.now full.now.layout.blocks) }
 {

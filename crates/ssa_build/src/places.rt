@@ -5,7 +5,7 @@ use block_forms::Block;
 
 /// The block and the slot of a φ of the full form.
 #[derive(Clone, Copy)]
-pub(crate) struct Place {
+pub(crate) struct PhiPlace {
     pub(crate) block: u32,
     pub(crate) slot: u32,
 }
@@ -15,5 +15,5 @@ pub(crate) struct Place {
 pub(crate) struct Joins<'a> {
     pub(crate) full: &'a FullForm,
     pub(crate) blocks: &'a [Block],
-    pub(crate) places: &'a [Place],
+    pub(crate) places: &'a [PhiPlace],
 }

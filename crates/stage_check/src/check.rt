@@ -12,11 +12,11 @@ use away_types::{CheckedFunction, CheckedQuery, CheckedSchema};
 use away_values::NoMemory;
 use call_check::{check_called, check_columned, check_merged};
 use cert_json::Cert;
+use cte_check::check_templated;
 use equivalence::accepted_forms_are_equivalent;
 use goto_check::check_lowered;
 use ssa_check::check_named;
 use std::alloc::Global;
-use template_check::check_templated;
 
 /// Whether the certificate's forms stand between the function and the query, over the tables of the schema; or the first relation that doesn't hold.
 /// Where they do, the query is equivalent to the function, if both were checked under the schema.

@@ -12,11 +12,11 @@ use itoa::Buffer;
 use std::alloc::{AllocError, Global};
 
 /// How a run ends that has this answer.
-pub fn told(alloc: Global, answer: &Answer) -> Result<Ending, AllocError>
+pub fn answer_ending(alloc: Global, answer: &Answer) -> Result<Ending, AllocError>
     ensures { IfOk result (λ ending. IsEnding ending (answer_end answer.now).0 (answer_end answer.now).1) }
 {
     match answer {
-        Answer::Value(v) => told_value(alloc, v),
+        Answer::Value(v) => value_ending(alloc, v),
         Answer::Fault(class) => with_details(alloc, Status::Fault, b"fault ", &class.code),
         Answer::More => with_output(alloc, Status::More, b"more\n"),
         Answer::Shape(rows) => {
@@ -27,7 +27,7 @@ pub fn told(alloc: Global, answer: &Answer) -> Result<Ending, AllocError>
     }
 }
 
-fn told_value(alloc: Global, v: &Value) -> Result<Ending, AllocError>
+fn value_ending(alloc: Global, v: &Value) -> Result<Ending, AllocError>
     ensures { IfOk result (λ ending. IsEnding ending Status.Done (value_line v.now)) }
 {
     match v {

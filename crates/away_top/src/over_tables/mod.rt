@@ -2,6 +2,6 @@
 
 pub mod answer_lines;
 pub mod arguments;
-pub mod call;
+pub mod run_fn;
 pub mod sql;
 pub mod tables;

@@ -8,7 +8,7 @@ ghost use Rattle.away_top.specs.Steps.{run_end};
 use crate::Files;
 use crate::ending::{Ending, Halt, usage};
 use crate::files::{query_of, schema_of};
-use crate::over_tables::answer_lines::told;
+use crate::over_tables::answer_lines::answer_ending;
 use crate::over_tables::arguments::{bound_of, values_of};
 use crate::over_tables::tables::tables_of;
 use away_trees::Schema;
@@ -92,5 +92,5 @@ fn answered<F: Files>(
 {
     let tables = tables_of(alloc, dir, schema.tables.as_slice(), files)?;
     let answer = run_query(alloc, &query.query, &tables, values, bound)?;
-    Ok(told(alloc, &answer)?)
+    Ok(answer_ending(alloc, &answer)?)
 }

@@ -2,7 +2,7 @@ use Rattle.std.proofs.Common.{rules, sym, refl, arith}
 use Rattle.std.proofs.lemmas.Grind.{common_steps}
 use Rattle.std.proofs.lemmas.Result.{err_from_is_err_and}
 use Rattle.away_grammar.specs.declared.grammar.Mark.TheVariants as m
-use Rattle.sql_text.specs.SignKinds.{comparison_in, name_in, type_in}
+use Rattle.sql_text.specs.TerminalKinds.{comparison_in, name_in, type_in}
 use Rattle.sql_text.specs.Plans.{no_memory}
 use Rattle.sql_text.proofs.Steps.{finished, eaten, left, read_on, read_no, taken, wanted, not_wanted, perhaps_found, perhaps_missed, looked, overlooked, refused, failed, moved}
 use Rattle.sql_text.proofs.Loops.{list_more, list_ends, list_fails, arms_more, arms_end, arms_fail, chain_fails, chain_alone, chain_on, links_begin, links_more, links_fail, links_end, levelled, passed, passed_keys, items_more, items_end, items_fail, from_more, from_end, from_fail, keys_more, keys_end, keys_fail, selects_more, selects_end, selects_fail, selects_break}

@@ -14,4 +14,4 @@ returns-in_err-forms g c =
 pub returns : goal.returns
 returns g c =
     check_cert_goes g.F.Files c.args.files.now c.cert_of.new.files c.cert_of.new.files c.args.tables.now.schema (as_callable c.args.function.now) (as_asked c.args.query.now) c.args.cert.now
-    c.in_ok-forms.forms (run_end c.judged.result) c.in_ok-forms.ensures c.judged.ensures
+    c.in_ok-forms.forms (run_end c.verdict_on.result) c.in_ok-forms.ensures c.verdict_on.ensures

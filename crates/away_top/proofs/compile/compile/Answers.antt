@@ -7,7 +7,7 @@ use Rattle.away_top.specs.Runs.{IsEnd}
 use Rattle.away_top.specs.Steps.{run_end}
 use Rattle.away_top.proofs.Compiling.{compiles, function_stops, schema_stops}
 use Rattle.away_top.proofs.ReadTexts.{of_texts}
-use Rattle.query_texts.specs.Texts.{IsOfTexts}
+use Rattle.cte_prints.specs.Texts.{IsOfTexts}
 use Rattle.away_top.proofs.compile.compile.Goals as goal
 
 pub written-requires : goal.written-requires

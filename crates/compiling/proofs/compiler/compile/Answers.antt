@@ -1,5 +1,5 @@
 use Rattle.std.proofs.Common.{◌<◌, ◌^◌, length, rules}
-use Rattle.compiling.proofs.Telling.{accepted, compiled}
+use Rattle.compiling.proofs.WrittenQueries.{accepted, compiled}
 use Rattle.compiling.proofs.compiler.compile.Goals as goal
 
 pub returns-clause-compiled : goal.returns-clause-compiled

@@ -6,10 +6,10 @@ use Rattle.sql_meaning.specs.Trees.{item, null_of}
 use Rattle.cte_template.specs.Making.{Making, making}
 use Rattle.cte_template.specs.Places.{place_of}
 use Rattle.cte_template.specs.Steps.{reached, arm_of, select_of}
-use Rattle.template_laws.specs.Terms.{EndHasClass}
-use Rattle.template_parts.specs.Trees.{either_as}
+use Rattle.call_law.specs.Terms.{EndHasClass}
+use Rattle.cte_parts.specs.Trees.{either_as}
 use Rattle.cte_template.specs.Walks.{end_row, rest, written, from_block, from_call, from_end, all_columns}
-use Rattle.template_parts.proofs.Results.{ok_by, ok_by_three}
+use Rattle.cte_parts.proofs.Results.{ok_by, ok_by_three}
 use Rattle.cte_template.proofs.WalkRules.{end_go, end_pick, end_return, end_fail, failed_row, unended_row, block_none, block_some, no_blocks, picked_done}
 use Rattle.cte_template.proofs.body.+bodies.Goals as goal
 
@@ -20,11 +20,11 @@ left_by-returns-in-Go t c =
     let depth = c.args.depth in
     let places = place_of c.args.pairs.now in
     let d = c.args.draft.now in
-    let after = c.called.new.draft in
+    let after = c.behind_call.new.draft in
     let call = c.in-Go.call in
-    ok_by c.called.result (λ next. reached m depth left next after ≡ rest m depth places d (from_call m left call))
+    ok_by c.behind_call.result (λ next. reached m depth left next after ≡ rest m depth places d (from_call m left call))
     (λ next. reached m depth left next after ≡ rest m depth places d (from_end m left c.args.end.now))
-    (λ next h. h ∙ ap (λ e. rest m depth places d e) (sym (ap (λ e. from_end m left e) c.in-Go.is ∙ end_go m left call))) c.called.ensures
+    (λ next h. h ∙ ap (λ e. rest m depth places d e) (sym (ap (λ e. from_end m left e) c.in-Go.is ∙ end_go m left call))) c.behind_call.ensures
 
 pub left_by-returns-in_ok-list-in-Pick : goal.left_by-returns-in_ok-list-in-Pick
 left_by-returns-in_ok-list-in-Pick t c =
@@ -53,8 +53,8 @@ left_by-returns-in_ok-list-in-Fail t c =
 pub left_by-picked-requires : goal.left_by-picked-requires
 left_by-picked-requires t c = (omega (arith, c.decreases), c.requires.classes)
 
-pub left_by-failed-requires : goal.left_by-failed-requires
-left_by-failed-requires t c = subst EndHasClass c.in-Fail.is c.requires.class
+pub left_by-fault_row-requires : goal.left_by-fault_row-requires
+left_by-fault_row-requires t c = subst EndHasClass c.in-Fail.is c.requires.class
 
 pub visited-returns-in_default : goal.visited-returns-in_default
 visited-returns-in_default t c =
@@ -133,14 +133,14 @@ body_of-returns t c =
 pub through-returns-in-Row : goal.through-returns-in-Row
 through-returns-in-Row t c =
     let m : Making = making c.args.w.now in
-    ap (λ n. reached m c.args.depth c.args.left n c.called.new.draft) (sym c.in-Row.is) ∙ c.in_ok-list.ensures
+    ap (λ n. reached m c.args.depth c.args.left n c.behind_call.new.draft) (sym c.in-Row.is) ∙ c.in_ok-list.ensures
 
 pub through-returns-in-On : goal.through-returns-in-On
 through-returns-in-On t c =
     let m : Making = making c.args.w.now in
     let left = c.args.left in
     let depth = c.args.depth in
-    let between = c.called.new.draft in
+    let between = c.behind_call.new.draft in
     let after = c.body_of.new.draft in
     ok_by c.body_of.result (λ list. written after list ≡ rest m depth (place_of c.in-On.places) between (from_block m left c.in-On.block))
     (λ list. written after list ≡ rest m depth (place_of c.args.pairs.now) c.args.draft.now (from_call m left c.args.call.now))

@@ -3,7 +3,7 @@ use Rattle.call_forms.specs.Bodies.{Body}
 use Rattle.cte_template.specs.Making.{Making, making}
 use Rattle.cte_template.specs.Places.{first_of, stands, place_of}
 use Rattle.cte_template.specs.Walks.{let_at, rest, from_set}
-use Rattle.template_parts.proofs.Results.{ok_by}
+use Rattle.cte_parts.proofs.Results.{ok_by}
 use Rattle.cte_template.proofs.WalkRules.{assigned_none, assigned_one}
 use Rattle.cte_template.proofs.body.assigned.Goals as goal
 

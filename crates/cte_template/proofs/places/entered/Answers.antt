@@ -2,7 +2,7 @@ use Rattle.std.proofs.Common.{◌≡◌, ap, ◌∙◌}
 use Rattle.call_forms.specs.Scopes.{paired}
 use Rattle.cte_template.specs.Places.{nowhere, place_of, at_keys}
 use Rattle.cte_template.proofs.PlaceRules.{keys_are}
-use Rattle.template_parts.proofs.Results.{ok_by}
+use Rattle.cte_parts.proofs.Results.{ok_by}
 use Rattle.cte_template.proofs.places.entered.Goals as goal
 
 pub returns : goal.returns

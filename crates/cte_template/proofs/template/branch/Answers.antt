@@ -3,7 +3,7 @@ use Rattle.call_forms.specs.Scopes.{paired}
 use Rattle.cte_template.specs.Making.{Making, making}
 use Rattle.cte_template.specs.Places.{place_of, row_place, nowhere}
 use Rattle.cte_template.specs.Tree.{at_label}
-use Rattle.template_parts.specs.Trees.{gate_as}
+use Rattle.cte_parts.specs.Trees.{gate_as}
 use Rattle.cte_template.proofs.BranchRules.{branch_is, branch_fits}
 use Rattle.cte_template.proofs.template.branch.Goals as goal
 

@@ -5,9 +5,9 @@ use Rattle.sql_meaning.specs.Names.{bare}
 use Rattle.cte_template.specs.Making.{Making, making_of}
 use Rattle.cte_template.specs.Numbers.{NumbersFit}
 use Rattle.cte_template.specs.Tree.{tree}
-use Rattle.template_laws.proofs.FormTerms.{terms_fit, fails_fit}
-use Rattle.template_laws.proofs.HasTrees.{labels_have_trees}
-use Rattle.template_parts.proofs.Results.{ok_by}
+use Rattle.call_law.proofs.FormTerms.{terms_fit, fails_fit}
+use Rattle.call_law.proofs.HasTrees.{labels_have_trees}
+use Rattle.cte_parts.proofs.Results.{ok_by}
 use Rattle.cte_template.proofs.Makings.{of_function}
 use Rattle.cte_template.proofs.TreeIsTemplate.{tree_is_template}
 use Rattle.cte_template.proofs.template.template_tree.Goals as goal

@@ -5,11 +5,11 @@ use Rattle.std.proofs.lemmas.Option.{slice_get_read}
 use Rattle.sql_meaning.specs.Placed.{placed_at}
 use Rattle.sql_meaning.specs.Trees.{null_of}
 use Rattle.sql_meaning.specs.Reads.{slots_of}
-use Rattle.template_parts.specs.Columns.{column_beside}
+use Rattle.cte_parts.specs.Columns.{column_beside}
 use Rattle.cte_template.specs.Making.{Making, making}
 use Rattle.cte_template.specs.Places.{place_of, seen}
 use Rattle.cte_template.specs.Walks as walks
-use Rattle.template_parts.proofs.Results.{ok_by}
+use Rattle.cte_parts.proofs.Results.{ok_by}
 use Rattle.cte_template.proofs.ValueRules.{value_missing, value_some}
 use Rattle.cte_template.proofs.terms.value_at.Goals as goal
 

@@ -2,7 +2,7 @@ use Rattle.std.proofs.Common.{IsTrue, true, sym, subst}
 use Rattle.block_forms.specs.Places.{Each}
 use Rattle.block_forms.proofs.Pairs.{pairs_more, pairs_all}
 use Rattle.call_forms.specs.declared.forms.AnfBlock.{AnfBlock}
-use Rattle.template_laws.specs.Terms.{EndHasClass, FailsByClass}
+use Rattle.call_law.specs.Terms.{EndHasClass, FailsByClass}
 use Rattle.cte_template.proofs.tests.none_fails.Goals as goal
 
 pub loop-i-preserved : goal.loop-i-preserved

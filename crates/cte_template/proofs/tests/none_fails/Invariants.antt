@@ -1,6 +1,6 @@
 use Rattle.call_forms.specs.declared.forms.AnfBlock.{AnfBlock}
 use Rattle.block_forms.proofs.Pairs.{EachPairBelow}
-use Rattle.template_laws.specs.Terms.{FailsByClass}
+use Rattle.call_law.specs.Terms.{FailsByClass}
 use Rattle.cte_template.proofs.tests.none_fails.Given as goal
 
 abbrev pub invariant-loop-i : goal.invariant-loop-i

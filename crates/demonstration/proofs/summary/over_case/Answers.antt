@@ -1,11 +1,11 @@
 use Rattle.std.proofs.Common.{subst, sym}
 use Rattle.away_types.specs.declared.checked_function.CheckedFunction.{CheckedFunction}
 use Rattle.away_types.specs.declared.checked_schema.CheckedSchema.{CheckedSchema}
-use Rattle.query_texts.specs.Texts.{IsOfTexts}
+use Rattle.cte_prints.specs.Texts.{IsOfTexts}
 use Rattle.demonstration.proofs.summary.over_case.Goals as goal
 
-pub told_of-requires : goal.told_of-requires
-told_of-requires c =
+pub compiled_query-requires : goal.compiled_query-requires
+compiled_query-requires c =
     let trial = c.args.trial.now in
     record {
       texts = subst (λ (s : CheckedSchema). IsOfTexts s.schema c.get-2.result.now.function c.get-2.result.now.slots) (sym c.get.ensures)

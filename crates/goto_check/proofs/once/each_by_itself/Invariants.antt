@@ -1,7 +1,7 @@
 use Rattle.std.proofs.Common.{ℕ, ◌<◌}
 use Rattle.block_forms.specs.Lowered.{parts_in}
 use Rattle.goto_check.specs.Asking.{setting_in}
-use Rattle.goto_check.specs.Told.{IsOnce}
+use Rattle.goto_check.specs.AnswerRuns.{IsOnce}
 use Rattle.goto_check.proofs.once.each_by_itself.Given as goal
 
 abbrev pub invariant-loop-b : goal.invariant-loop-b

@@ -4,9 +4,9 @@ use Rattle.block_forms.specs.Laid.{laid, place}
 use Rattle.block_forms.specs.Lowered.{params_parts, body_place}
 use Rattle.block_forms.specs.Patterns.{shared, jumps, fails}
 use Rattle.goto_check.specs.Asking.{setting_in}
-use Rattle.goto_check.specs.Told.{told}
+use Rattle.goto_check.specs.AnswerRuns.{answer_run}
 use Rattle.goto_check.specs.Room.{here}
-use Rattle.goto_check.proofs.Telling.{two}
+use Rattle.goto_check.proofs.AnswerRules.{two}
 use Rattle.goto_check.proofs.parameters.ask_function.Goals as goal
 
 pub returns : goal.returns
@@ -21,4 +21,4 @@ returns c =
     let B = (laid f.body).parts s (here c.spot_of-body.result) [] g.finish in
     two c.args.a.now (E ∷ []) (F ∷ (P ++ B)) _ _ _ c.ask_shared-entry.ensures
     (two c.args.a.now (F ∷ []) (P ++ B) _ _ _ c.ask_shared-end.ensures (two c.args.a.now P B _ _ _ c.ask_params-params.ensures c.ask_statement-inside.ensures.run c.join.ensures) c.join-2.ensures) c.join-3.ensures
-    ∙ (λ i. told c.args.a.now (shared g.entry (jumps false (c.node-start.ensures i)) ∷ F ∷ (params_parts s f.strict f.result 0 (c.as_slice.ensures i) ++ (laid f.body).parts s (at i) [] g.finish)))
+    ∙ (λ i. answer_run c.args.a.now (shared g.entry (jumps false (c.node-start.ensures i)) ∷ F ∷ (params_parts s f.strict f.result 0 (c.as_slice.ensures i) ++ (laid f.body).parts s (at i) [] g.finish)))

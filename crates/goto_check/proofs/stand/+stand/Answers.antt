@@ -5,10 +5,10 @@ use Rattle.plsql_meaning.specs.Outcomes.{case_not_found}
 use Rattle.block_forms.specs.Laid.{laid, after, laid_arm, first_block, laid_row, laid_arms, row_parts, arms_parts}
 use Rattle.block_forms.specs.Patterns.{own, same, branches}
 use Rattle.goto_check.specs.Asking.{numbers_in, setting_in}
-use Rattle.goto_check.specs.Told.{told}
+use Rattle.goto_check.specs.AnswerRuns.{answer_run}
 use Rattle.goto_check.specs.Enclosing.{around_of}
 use Rattle.goto_check.specs.Room.{here}
-use Rattle.goto_check.proofs.Telling.{begins, ends}
+use Rattle.goto_check.proofs.AnswerRules.{begins, ends}
 use Rattle.goto_check.proofs.Lists.{drop_here, drop_past}
 use Rattle.goto_check.proofs.Walk.{row_next, row_end, row_room, arms_next, arms_end, arms_lack, arms_room, arm_end, arm_room, loop_tells, block_tells, else_tells, whole_block, whole_loop, whole_branch, if_is, cases_is, block_room, loop_room, branch_room, else_room, if_size, cases_size}
 use Rattle.goto_check.proofs.stand.+stand.Goals as goal
@@ -61,8 +61,8 @@ ask_arms-loop-i-preserved t c =
           c.no_of-other.ensures
           (c.first_block-body.ensures ∙ ap (λ k. first_block (setting_in c.args.a.now) k (c.loop-i.at.node + 1) c.args.next) c.len.ensures)
           q r
-          (c.ask_same.ensures ∙ ap (λ k. told c.args.a.now (same c.loop-i.from k ∷ [])) c.node.ensures)
-          (c.ask_own-own.ensures ∙ ap (λ w. told c.args.a.now (own c.loop-i.from (branches false w c.first_block-body.result c.no_of-other.result) ∷ [])) c.source_term-test.ensures)
+          (c.ask_same.ensures ∙ ap (λ k. answer_run c.args.a.now (same c.loop-i.from k ∷ [])) c.node.ensures)
+          (c.ask_own-own.ensures ∙ ap (λ w. answer_run c.args.a.now (own c.loop-i.from (branches false w c.first_block-body.result c.no_of-other.result) ∷ [])) c.source_term-test.ensures)
           c.join-here.ensures
           (rw c.as_slice.ensures at c.ask_row-answer.ensures.run)
           c.join.ensures c.join-run.ensures c.loop-i.invariant.tells;
@@ -92,7 +92,7 @@ ask_block-returns-clause-run t c =
     c.first_block-then.ensures
     c.first_block-first.ensures
     (ap (λ l. record { label = l; exit = c.args.next; again = None } ∷ (around_of c.args.around.now)) c.as_ref.ensures.value)
-    (c.ask_same-begins.ensures ∙ ap (λ k. told c.args.a.now (same k c.first_block-first.result ∷ [])) c.node.ensures)
+    (c.ask_same-begins.ensures ∙ ap (λ k. answer_run c.args.a.now (same k c.first_block-first.result ∷ [])) c.node.ensures)
     c.ask_decls-declared.ensures
     c.ask_row-inside.ensures.run
     c.join.ensures c.join-2.ensures
@@ -113,7 +113,7 @@ ask_else-returns-clause-run t c =
     else_tells c.args.a.now (here c.args.tested.end) (around_of c.args.around.now) c.args.next c.args.tested.lack c.args.body.now c.first_block-to.result (here c.after.result) c.args.tested.run _ _ c.ask_row-inside.result.run _ _ _
     c.first_block-to.ensures
     (c.after.ensures ∙ ap (λ z. after (here c.args.tested.end) z) c.spot_of.ensures)
-    (c.ask_same-here.ensures ∙ ap (λ k. told c.args.a.now (same c.args.tested.lack k ∷ [])) c.node.ensures)
+    (c.ask_same-here.ensures ∙ ap (λ k. answer_run c.args.a.now (same c.args.tested.lack k ∷ [])) c.node.ensures)
     c.ask_same-begins.ensures
     c.ask_row-inside.ensures.run
     c.join.ensures c.join-2.ensures c.join-3.ensures

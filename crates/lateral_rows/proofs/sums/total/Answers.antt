@@ -3,7 +3,7 @@ use Rattle.std.proofs.lemmas.Int.{ints}
 use Rattle.away_values.specs.declared.values.Value.{Value}
 use Rattle.sql_meaning.specs.KeyOrder.{number}
 use Rattle.sql_meaning.proofs.WalkRules.{next_item}
-use Rattle.lateral_rows.specs.Folds.{whole_sum}
+use Rattle.lateral_rows.specs.Aggregates.{whole_sum}
 use Rattle.lateral_rows.proofs.SumRules.{whole_more}
 use Rattle.lateral_rows.proofs.sums.total.Goals as goal
 

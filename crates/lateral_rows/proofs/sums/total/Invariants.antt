@@ -1,6 +1,6 @@
 use Rattle.std.proofs.Common.{◌≡◌, ◌*◌, ◌^◌, pos, ◌≤ℤ◌, ◌+ℤ◌, drop}
 use Rattle.std.specs.Prelude.{neg_ℤ}
-use Rattle.lateral_rows.specs.Folds.{whole_sum}
+use Rattle.lateral_rows.specs.Aggregates.{whole_sum}
 use Rattle.lateral_rows.proofs.sums.total.Given as goal
 
 abbrev pub invariant-loop-v : goal.invariant-loop-v

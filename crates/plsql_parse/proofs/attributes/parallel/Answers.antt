@@ -1,6 +1,6 @@
 use Rattle.std.proofs.Common.{refl, sym}
 use Rattle.std.proofs.lemmas.Result.{err_from_is_err_and}
-use Rattle.sql_text.specs.SignKinds.{name_in}
+use Rattle.sql_text.specs.TerminalKinds.{name_in}
 use Rattle.sql_text.proofs.Steps.{finished, wanted, not_wanted, failed}
 use Rattle.plsql_parse.proofs.Words.{then_on, else_on}
 use Rattle.plsql_parse.proofs.attributes.parallel.Goals as goal

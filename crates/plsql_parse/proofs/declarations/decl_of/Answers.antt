@@ -1,6 +1,6 @@
 use Rattle.std.proofs.lemmas.Result.{err_from_is_err_and}
 use Rattle.away_grammar.specs.declared.grammar.Mark.TheVariants as m
-use Rattle.sql_text.specs.SignKinds.{name_in}
+use Rattle.sql_text.specs.TerminalKinds.{name_in}
 use Rattle.sql_text.proofs.Steps.{wanted, not_wanted}
 use Rattle.plsql_parse.specs.Bodies.{typed_plan}
 use Rattle.plsql_parse.proofs.BodySteps.{eat_by}

@@ -1,6 +1,6 @@
 use Rattle.std.proofs.lemmas.Result.{err_from_is_err_and}
 use Rattle.away_grammar.specs.declared.grammar.Mark.TheVariants as m
-use Rattle.sql_text.specs.SignKinds.{type_in}
+use Rattle.sql_text.specs.TerminalKinds.{type_in}
 use Rattle.sql_text.proofs.Steps.{wanted, not_wanted, eaten, left, refused}
 use Rattle.plsql_parse.proofs.declarations.type_and_value.Goals as goal
 

@@ -9,4 +9,4 @@ returns-in_err-expect_word-clause-found c =
     rw (p.1, p.2) (λ inside. word_refused (codes "function") c.in_err-expect_word.ensures.found)
 
 pub returns-clause-found : goal.returns-clause-found
-returns-clause-found c = λ inside. word_eaten (codes "function") c.in_ok-expect_word.ensures.found (c.qualified.ensures.found inside)
+returns-clause-found c = λ inside. word_eaten (codes "function") c.in_ok-expect_word.ensures.found (c.schema_qualified.ensures.found inside)

@@ -2,7 +2,7 @@ use Rattle.std.proofs.Common.{refl, sym, ap, ◌∙◌}
 use Rattle.std.specs.Prelude.{codes}
 use Rattle.std.proofs.lemmas.Result.{err_from_is_err_and}
 use Rattle.away_grammar.specs.FunctionGrammar.{may_stand}
-use Rattle.sql_text.specs.SignKinds.{type_in}
+use Rattle.sql_text.specs.TerminalKinds.{type_in}
 use Rattle.sql_text.specs.Plans.{done}
 use Rattle.plsql_parse.specs.Headers.{function_with}
 use Rattle.plsql_parse.proofs.BodySteps.{eat_by}

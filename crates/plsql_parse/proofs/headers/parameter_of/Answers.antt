@@ -1,6 +1,6 @@
 use Rattle.std.proofs.Common.{refl}
 use Rattle.std.proofs.lemmas.Result.{err_from_is_err_and}
-use Rattle.sql_text.specs.SignKinds.{name_in, type_in}
+use Rattle.sql_text.specs.TerminalKinds.{name_in, type_in}
 use Rattle.plsql_parse.specs.Headers.{typed_name_plan}
 use Rattle.plsql_parse.proofs.BodySteps.{eat_by}
 use Rattle.sql_text.proofs.Steps.{finished, wanted, not_wanted}

@@ -1,18 +1,18 @@
 use Rattle.std.proofs.Common.{All, arith, ap, map, subst, sym, ◌∙◌}
-use Rattle.sql_text.specs.CodeSigns.{meaning_of, HasSpelling}
+use Rattle.sql_text.specs.CodeTerminals.{meaning_of, HasSpelling}
 use Rattle.sql_text.proofs.Steps.{moved}
 use Rattle.plsql_parse.proofs.WholeFile.{all_given, not_all_given, not_given}
 use Rattle.away_grammar.specs.FunctionGrammar.{function}
 use Rattle.plsql_parse.proofs.read.whole_header.Goals as goal
 
 pub returns-then-left-eq0 : goal.returns-then-left-eq0
-returns-then-left-eq0 c = λ inside. all_given (function inside) (moved (c.new-left.ensures ∙ ap (map meaning_of) c.as_slice.ensures ∙ c.in_ok-signs.ensures.values) (c.in-Ok.ensures.found inside)) (omega (arith, c.left.ensures, c.if-left-eq0.true))
+returns-then-left-eq0 c = λ inside. all_given (function inside) (moved (c.new-left.ensures ∙ ap (map meaning_of) c.as_slice.ensures ∙ c.in_ok-terminals.ensures.values) (c.in-Ok.ensures.found inside)) (omega (arith, c.left.ensures, c.if-left-eq0.true))
 
 pub returns-in-Ok : goal.returns-in-Ok
-returns-in-Ok c = λ inside. not_all_given (function inside) (moved (c.new-left.ensures ∙ ap (map meaning_of) c.as_slice.ensures ∙ c.in_ok-signs.ensures.values) (c.in-Ok.ensures.found inside)) (λ e. absurd (omega (arith, c.left.ensures, c.if-left-eq0.false, e)))
+returns-in-Ok c = λ inside. not_all_given (function inside) (moved (c.new-left.ensures ∙ ap (map meaning_of) c.as_slice.ensures ∙ c.in_ok-terminals.ensures.values) (c.in-Ok.ensures.found inside)) (λ e. absurd (omega (arith, c.left.ensures, c.if-left-eq0.false, e)))
 
 pub returns : goal.returns
-returns c = λ inside. not_given (function inside) _ c.in-Err.refusal (moved (c.new-left.ensures ∙ ap (map meaning_of) c.as_slice.ensures ∙ c.in_ok-signs.ensures.values) (c.in-Err.ensures.found inside))
+returns c = λ inside. not_given (function inside) _ c.in-Err.refusal (moved (c.new-left.ensures ∙ ap (map meaning_of) c.as_slice.ensures ∙ c.in_ok-terminals.ensures.values) (c.in-Err.ensures.found inside))
 
 pub new-left-requires-clause-spelled : goal.new-left-requires-clause-spelled
-new-left-requires-clause-spelled c = subst (All HasSpelling) (sym c.as_slice.ensures) c.in_ok-signs.ensures.spelled
+new-left-requires-clause-spelled c = subst (All HasSpelling) (sym c.as_slice.ensures) c.in_ok-terminals.ensures.spelled

@@ -4,7 +4,7 @@ use Rattle.std.proofs.lemmas.Result.{err_from_is_err_and}
 use Rattle.away_grammar.specs.declared.grammar.Mark.TheVariants as m
 use Rattle.away_trees.specs.declared.statements.Stmt.TheVariants as s
 use Rattle.away_grammar.specs.FunctionGrammar.{elsifs, whens}
-use Rattle.sql_text.specs.SignKinds.{name_in}
+use Rattle.sql_text.specs.TerminalKinds.{name_in}
 use Rattle.sql_text.specs.Plans.{done, no_memory}
 use Rattle.sql_text.proofs.Steps.{finished, eaten, left, read_on, read_no, taken, wanted, not_wanted, looked, overlooked, refused, failed}
 use Rattle.plsql_parse.proofs.BodySteps.{maybe_named, begins_none, behind_arms, arms_on, arms_no}

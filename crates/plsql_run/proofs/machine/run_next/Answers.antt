@@ -6,7 +6,7 @@ use Rattle.plsql_meaning.specs.Statements.{meaning, meanings, in_row}
 use Rattle.plsql_meaning.proofs.Slots.{takes}
 use Rattle.plsql_run.specs.Continues.{body_of, unwound}
 use Rattle.plsql_run.specs.Layouts.{slots}
-use Rattle.plsql_run.specs.Places.{Place}
+use Rattle.plsql_run.specs.Places.{ListPosition}
 use Rattle.plsql_run.specs.Settings.{meant}
 use Rattle.plsql_run.specs.declared.frames.Frame.TheVariants as frame
 use Rattle.plsql_run.proofs.Layouts.{first_laid, rest_laid, slots_are}
@@ -52,7 +52,7 @@ returns-in_ok-push-in-Some-clause-runs c =
     let first = c.in-Some.first.now in
     let rest = c.in-Some.rest.now in
     let laid = first_laid place.layouts.now place.list.now c.index-layouts-0.result first rest c.place.invariant.laid c.in-Some.ensures.cases.0 c.index-layouts-0.is in
-    let behind : Place = record { list = rest; at = at + slots c.index-layouts-0.result } in
+    let behind : ListPosition = record { list = rest; at = at + slots c.index-layouts-0.result } in
     goes_as set c.enter.new.stack c.enter.new.env c.enter.result
     (λ n. unwound_on set fs c.push.new.self (frame.Rest behind) c.in_ok-push-in-Some.ensures.ok ((meaning set first).run at env n)
     ∙ ap (λ k. unwound set fs (and_then ((meaning set first).run at env n) (in_row (meanings set rest) (at + k)))) (ap slots laid ∙ slots_are first ∙ sym (takes set first))

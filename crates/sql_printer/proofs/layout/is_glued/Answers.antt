@@ -3,15 +3,15 @@ use Rattle.away_grammar.specs.Reserved.{calls}
 use Rattle.away_grammar.specs.Spacing.{is_glued, is_one}
 use Rattle.away_grammar.specs.Tokens.{is_word_kind}
 use Rattle.away_grammar.specs.Printing.{spelled}
-use Rattle.sql_printer.specs.PrintedSigns.{sign_of}
+use Rattle.sql_printer.specs.PrintedTerminals.{terminal_of}
 use Rattle.sql_printer.proofs.LaidOut.{glued_is}
 use Rattle.sql_printer.proofs.layout.is_glued.Goals as goal
 use Rattle.sql_printer.proofs.layout.is_glued.Goals.{After-calls, then-opens, else-opens}
 
-glued_by : (c : After-calls) → is_glued calls (spelled (sign_of c.args.before)) (spelled (sign_of c.args.sign)) ≡ (c.calls.result && is_one 40 (spelled (sign_of c.args.sign)))
+glued_by : (c : After-calls) → is_glued calls (spelled (terminal_of c.args.before)) (spelled (terminal_of c.args.terminal)) ≡ (c.calls.result && is_one 40 (spelled (terminal_of c.args.terminal)))
 glued_by c =
-    let p = spelled (sign_of c.args.before) in
-    let q = spelled (sign_of c.args.sign) in
+    let p = spelled (terminal_of c.args.before) in
+    let q = spelled (terminal_of c.args.terminal) in
     elim c.if-opens.branch [
       | then-opens w ↦ absurd (cc (w.value-is, c.if-closes.false))
       | else-opens w ↦
@@ -21,7 +21,7 @@ glued_by c =
     ]
 
 pub returns-then-calls : goal.returns-then-calls
-returns-then-calls c = c.is_opening.ensures ∙ sym (glued_by (goal.at.returns-then-calls c).After-calls ∙ ap (λ b. b && is_one 40 (spelled (sign_of c.args.sign))) c.if-calls.true)
+returns-then-calls c = c.is_opening.ensures ∙ sym (glued_by (goal.at.returns-then-calls c).After-calls ∙ ap (λ b. b && is_one 40 (spelled (terminal_of c.args.terminal))) c.if-calls.true)
 
 pub returns-else-calls : goal.returns-else-calls
-returns-else-calls c = c.if-calls.false ∙ sym (glued_by (goal.at.returns-else-calls c).After-calls ∙ ap (λ b. b && is_one 40 (spelled (sign_of c.args.sign))) c.if-calls.false)
+returns-else-calls c = c.if-calls.false ∙ sym (glued_by (goal.at.returns-else-calls c).After-calls ∙ ap (λ b. b && is_one 40 (spelled (terminal_of c.args.terminal))) c.if-calls.false)

@@ -1,6 +1,6 @@
 use Rattle.std.proofs.Common.{refl}
 use Rattle.std.proofs.lemmas.Result.{err_from_is_err_and}
-use Rattle.sql_text.specs.SignKinds.{test_in}
+use Rattle.sql_text.specs.TerminalKinds.{test_in}
 use Rattle.sql_text.proofs.Steps.{finished, wanted, not_wanted}
 use Rattle.sql_text.proofs.Cases.{test_on}
 use Rattle.sql_text.proofs.expressions.test_of.Goals as goal

@@ -1,6 +1,6 @@
 use Rattle.std.proofs.lemmas.Result.{err_from_is_err_and}
 use Rattle.away_grammar.specs.declared.grammar.Mark.TheVariants as m
-use Rattle.sql_text.specs.SignKinds.{name_in}
+use Rattle.sql_text.specs.TerminalKinds.{name_in}
 use Rattle.sql_text.proofs.Steps.{eaten, read_on, read_no, wanted, not_wanted, refused}
 use Rattle.sql_text.proofs.Whole.{made}
 use Rattle.sql_text.proofs.files.recursive_of.Goals as goal

@@ -1,7 +1,7 @@
 use Rattle.std.proofs.Common.{refl}
 use Rattle.std.proofs.lemmas.Result.{err_from_is_err_and}
 use Rattle.away_grammar.specs.declared.grammar.Mark.TheVariants as m
-use Rattle.sql_text.specs.SignKinds.{type_in, parameter_in}
+use Rattle.sql_text.specs.TerminalKinds.{type_in, parameter_in}
 use Rattle.sql_text.proofs.Steps.{finished, eaten, wanted, not_wanted, refused}
 use Rattle.sql_text.proofs.primaries.typed_parameter.Goals as goal
 

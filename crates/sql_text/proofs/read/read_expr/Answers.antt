@@ -1,11 +1,11 @@
 use Rattle.std.proofs.Common.{◌≡◌, ◌≤◌, ℕ, List, All, ◌-◌, length, drop, take, arith, refl, map, subst, sym, ◌∙◌, ap}
 use Rattle.std.proofs.lemmas.List.{drop-map, length-drop, length-map, take_all}
 use Rattle.away_grammar.specs.Texts.{IsExpression}
-use Rattle.away_grammar.specs.Signs.{Sign, all_say}
+use Rattle.away_grammar.specs.Terminals.{Terminal, token_terminals}
 use Rattle.away_lex.specs.Lexed.{seen}
 use Rattle.away_lex.specs.declared.slices.Token as token
-use Rattle.sql_text.specs.CodeSigns.{meaning_of, HasSpelling}
-use Rattle.sql_text.specs.declared.signs.Sign as code
+use Rattle.sql_text.specs.CodeTerminals.{meaning_of, HasSpelling}
+use Rattle.sql_text.specs.declared.terminals.Terminal as code
 use Rattle.sql_text.proofs.Places.{spelled_from}
 use Rattle.sql_text.proofs.OneTree.{expression_read, none_stops, none_begins, one_expression}
 use Rattle.sql_text.proofs.Steps.{moved}
@@ -16,12 +16,12 @@ whole_rest : (at : ℕ) (list : List token.Token) → take (length list - at) (d
 whole_rest at list = take_all (length list - at) (drop at list) (omega (arith, length-drop at list))
 
 -- what the cursor stands over
-read_from : (at : ℕ) (list : List token.Token) {rest : List token.Token} {slice signs : List code.Sign} {left : List Sign} → left ≡ map meaning_of slice → slice ≡ signs → map meaning_of signs ≡ all_say (map seen rest) → rest ≡ drop at list
-    → left ≡ all_say (drop at (map seen list))
-read_from at list e f g h = e ∙ ap (map meaning_of) f ∙ g ∙ ap (λ l. all_say (map seen l)) h ∙ ap all_say (sym (drop-map seen at list))
+read_from : (at : ℕ) (list : List token.Token) {rest : List token.Token} {slice terminals : List code.Terminal} {left : List Terminal} → left ≡ map meaning_of slice → slice ≡ terminals → map meaning_of terminals ≡ token_terminals (map seen rest) → rest ≡ drop at list
+    → left ≡ token_terminals (drop at (map seen list))
+read_from at list e f g h = e ∙ ap (map meaning_of) f ∙ g ∙ ap (λ l. token_terminals (map seen l)) h ∙ ap token_terminals (sym (drop-map seen at list))
 
-pub signs_of-requires : goal.signs_of-requires
-signs_of-requires c = rw (whole_rest c.args.at c.args.list.now) (spelled_from c.args.list.now c.args.at c.requires.spelled)
+pub terminals_of-requires : goal.terminals_of-requires
+terminals_of-requires c = rw (whole_rest c.args.at c.args.list.now) (spelled_from c.args.list.now c.args.at c.requires.spelled)
 
 pub new-left-requires-clause-spelled : goal.new-left-requires-clause-spelled
 new-left-requires-clause-spelled c = subst (All HasSpelling) (sym c.as_slice.ensures) c.in-Ok.ensures.spelled

@@ -1,7 +1,7 @@
 use Rattle.std.proofs.Common.{refl}
 use Rattle.std.proofs.lemmas.Result.{err_from_is_err_and}
 use Rattle.away_grammar.specs.declared.grammar.Mark.TheVariants as m
-use Rattle.sql_text.specs.SignKinds.{name_in, type_in}
+use Rattle.sql_text.specs.TerminalKinds.{name_in, type_in}
 use Rattle.sql_text.proofs.Steps.{finished, eaten, left, wanted, not_wanted, refused}
 use Rattle.sql_text.proofs.schemas.column_of.Goals.{then-not_null+in_ok-expect, else-not_null}
 use Rattle.sql_text.proofs.schemas.column_of.Goals as goal

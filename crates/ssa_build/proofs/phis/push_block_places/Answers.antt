@@ -1,5 +1,5 @@
 use Rattle.std.proofs.Common.{refl, ◌≡◌, ◌<◌, ℕ, Bool, Vec, Global, length, sym, ap, ◌∙◌, subst}
-use Rattle.ssa_build.specs.declared.places.Place.{Place}
+use Rattle.ssa_build.specs.declared.places.PhiPlace.{PhiPlace}
 use Rattle.ssa_build.specs.FullForms.{live_in}
 use Rattle.ssa_build.specs.FullJoins.{place}
 use Rattle.block_graph.specs.Tables.{live_by}
@@ -16,6 +16,6 @@ loop-slot-preserved c =
     let live : p s ≡ c.is_live.result = sym (c.is_live.ensures.by_table ∙ ap (λ t. live_by t b s) c.deref.ensures.value) in
     elim c.if-is_live.branch [
       | then-is_live+in_ok-push w ↦
-          built_more (place b) p c.args.places.now.items c.loop-slot.places.items s c.loop-slot.invariant c.if-is_live.places.items _ (live ∙ w.if-is_live.true) (ap (λ (v : Vec Place Global). v.items) w.places-is ∙ w.in_ok-push.ensures.items) refl
-      | else-is_live w ↦ built_same (place b) p c.args.places.now.items c.loop-slot.places.items s c.loop-slot.invariant c.if-is_live.places.items (live ∙ w.if-is_live.false) (ap (λ (v : Vec Place Global). v.items) w.places-is)
+          built_more (place b) p c.args.places.now.items c.loop-slot.places.items s c.loop-slot.invariant c.if-is_live.places.items _ (live ∙ w.if-is_live.true) (ap (λ (v : Vec PhiPlace Global). v.items) w.places-is ∙ w.in_ok-push.ensures.items) refl
+      | else-is_live w ↦ built_same (place b) p c.args.places.now.items c.loop-slot.places.items s c.loop-slot.invariant c.if-is_live.places.items (live ∙ w.if-is_live.false) (ap (λ (v : Vec PhiPlace Global). v.items) w.places-is)
     ]

@@ -27,9 +27,9 @@ returns-in_err-answer g c =
     (subst (λ ts. Follows g.F.Files c.args.files.now (tables_course c.args.dir.now ts) c.tables_of.new.files (goes_on rows)) c.as_slice.ensures c.in_ok-tables.ensures)
     (wants_at_once g.F.Files c.tables_of.new.files (ends (Tells (sql c.args.query.now.query rows c.args.values.now c.args.bound)))))
 
-pub returns-in_err-told : goal.returns-in_err-told
-returns-in_err-told g c =
-    let p = err_from_is_err_and c.from_residual-in_err-told.result c.from_residual-in_err-told.ensures.1 in
+pub returns-in_err-answer_ending : goal.returns-in_err-answer_ending
+returns-in_err-answer_ending g c =
+    let p = err_from_is_err_and c.from_residual-in_err-answer_ending.result c.from_residual-in_err-answer_ending.ensures.1 in
     let rows = rows_of_tables c.in_ok-tables.tables.list in
     rw (p.1, p.2) (answer_goes g.F.Files c.args.files.now c.tables_of.new.files c.args.bound c.args.schema.now (as_asked c.args.query.now) c.args.dir.now c.args.values.now
     rows wants_memory
@@ -40,5 +40,5 @@ pub returns : goal.returns
 returns g c =
     let rows = rows_of_tables c.in_ok-tables.tables.list in
     answer_told g.F.Files c.args.files.now c.tables_of.new.files c.args.bound c.args.schema.now (as_asked c.args.query.now) c.args.dir.now c.args.values.now
-    rows c.in_ok-answer.answer c.in_ok-told.field-0
-    (subst (λ ts. Follows g.F.Files c.args.files.now (tables_course c.args.dir.now ts) c.tables_of.new.files (goes_on rows)) c.as_slice.ensures c.in_ok-tables.ensures) c.in_ok-answer.ensures c.in_ok-told.ensures
+    rows c.in_ok-answer.answer c.in_ok-answer_ending.field-0
+    (subst (λ ts. Follows g.F.Files c.args.files.now (tables_course c.args.dir.now ts) c.tables_of.new.files (goes_on rows)) c.as_slice.ensures c.in_ok-tables.ensures) c.in_ok-answer.ensures c.in_ok-answer_ending.ensures

@@ -2,9 +2,9 @@ use Rattle.std.proofs.Common.{◌≡◌, Some, ap, sym, subst, ◌∙◌}
 use Rattle.std.proofs.lemmas.Bool.{OnTrue_from}
 use denote.Enum.Bare.{same_true}
 use Rattle.away_grammar.specs.contracts.grammar.Mark.{the_type}
-use Rattle.away_grammar.specs.Signs.{mark}
+use Rattle.away_grammar.specs.Terminals.{mark}
 use Rattle.sql_text.specs.Plans.{first, Begins}
-use Rattle.sql_text.specs.CodeSigns.{next_meaning}
+use Rattle.sql_text.specs.CodeTerminals.{next_meaning}
 use Rattle.sql_text.proofs.Places.{begins_first}
 use Rattle.sql_text.proofs.cursor.Cursor.sees.Goals as goal
 

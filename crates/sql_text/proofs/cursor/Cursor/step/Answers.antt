@@ -4,4 +4,4 @@ use Rattle.sql_text.proofs.Places.{meanings_on}
 use Rattle.sql_text.proofs.cursor.Cursor.step.Goals as goal
 
 pub returns-then-self : goal.returns-then-self
-returns-then-self c = meanings_on c.self.inside.signs.now c.self.inside.at c.if-self.true ∙ ap tail c.self.view_is
+returns-then-self c = meanings_on c.self.inside.terminals.now c.self.inside.at c.if-self.true ∙ ap tail c.self.view_is

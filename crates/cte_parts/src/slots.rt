@@ -1,0 +1,80 @@
+//! The slots that an expression reads, each once, in the order of their first occurrence.
+
+ghost use Rattle.std.specs.Prelude.{◌≡◌, IfOk, OnOk};
+ghost use Rattle.sql_meaning.specs.Reads as spec;
+ghost use Rattle.tree_events.specs.SlotsRead.{slot_of_kind, before, slots_in as slots_of_events};
+ghost use Rattle.cte_parts.specs.Occurrences.{contains, kept_with};
+
+use away_trees::Expr;
+use away_values::NoMemory;
+use sqlite_items::Items;
+use std::alloc::Global;
+use tree_events::{Kind, Manner, TreeEvent, expr_events};
+
+fn slot_of(kind: Kind) -> Option<u32>
+    ensures { result ≡ slot_of_kind kind }
+{
+    match kind {
+        Kind::Slot(slot) => Some(slot),
+        _ => None,
+    }
+}
+
+/// The slots in events, in their order.
+fn slots_in(alloc: Global, events: &[TreeEvent]) -> Result<Items<u32>, NoMemory>
+    ensures { IfOk result (λ list. list ≡ slots_of_events events.now) }
+{
+    let mut list = Items::new(alloc);
+    for event in events {
+        if let TreeEvent::Open(kind) = event {
+            if let Some(slot) = slot_of(*kind) {
+                list.push(slot)?;
+            }
+        }
+    }
+    Ok(list)
+}
+
+fn has(list: &[u32], slot: u32) -> bool
+    ensures { result ≡ contains slot list.now }
+{
+    for s in list {
+        if *s == slot {
+            return true;
+        }
+    }
+    false
+}
+
+/// Adds a slot that isn't there.
+#[tactic(auto, using(crate::proofs::FirstOccurrences::keeping_rules))]
+fn keep(list: &mut Items<u32>, slot: u32) -> Result<(), NoMemory>
+    ensures { OnOk result (list.new ≡ kept_with slot list.old) }
+{
+    if has(list.as_slice(), slot) {
+        Ok(())
+    } else {
+        list.push(slot)?;
+        Ok(())
+    }
+}
+
+#[tactic(auto, using(crate::proofs::FirstOccurrences::occurrence_step))]
+fn distinct(alloc: Global, list: &[u32]) -> Result<Items<u32>, NoMemory>
+    ensures { IfOk result (λ l. l ≡ spec.first_occurrences list.now) }
+{
+    let mut kept = Items::new(alloc);
+    for i in 0..list.len() {
+        keep(&mut kept, list[i])?;
+    }
+    Ok(kept)
+}
+
+#[tactic(auto, using(crate::proofs::SlotsOfEvents::told))]
+pub(crate) fn slots_of(alloc: Global, e: &Expr) -> Result<Items<u32>, NoMemory>
+    ensures { IfOk result (λ l. l ≡ spec.slots_of e.now) }
+{
+    let events = expr_events(alloc, Manner::Reading, e)?;
+    let slots = slots_in(alloc, events.as_slice())?;
+    distinct(alloc, slots.as_slice())
+}

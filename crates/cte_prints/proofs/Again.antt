@@ -1,0 +1,122 @@
+-- The query of a function that was read reads again.
+use Rattle.std.proofs.Common.{◌<◌, ◌^◌, List, [], length, arith}
+use Rattle.away_grammar.specs.Grammar as grammar
+use Rattle.away_grammar.specs.Printing.{query_text}
+use Rattle.away_grammar.specs.Texts.{ReadsQuery}
+use Rattle.away_trees.specs.declared.queries.Query.{Query}
+use Rattle.away_trees.specs.declared.schemas.Schema.{Schema}
+use Rattle.away_trees.specs.declared.statements.Function.{Function}
+use Rattle.away_names.specs.Files.{file}
+use Rattle.away_types.specs.declared.slots.Slot.{Slot}
+use Rattle.block_forms.specs.declared.forms.Goto.{Goto}
+use Rattle.block_forms.specs.declared.forms.Ssa.{Ssa}
+use Rattle.block_forms.specs.Expressions.{expressions}
+use Rattle.block_forms.specs.Lowered.{Lowered}
+use Rattle.block_forms.specs.Named.{Named}
+use Rattle.block_forms.specs.Places.{Each}
+use Rattle.call_forms.specs.declared.forms.Anf.{Anf}
+use Rattle.call_forms.specs.declared.forms.Tail.{Tail}
+use Rattle.call_forms.specs.Called.{Called}
+use Rattle.call_forms.specs.Columned.{Columned}
+use Rattle.call_forms.specs.Merged.{Merged}
+use Rattle.call_forms.specs.Templated.{Templated}
+use Rattle.call_forms.specs.Tight.{Tight}
+use Rattle.cte_template.specs.Making.{Making, making_of}
+use Rattle.cte_template.specs.Numbers.{NumbersFit}
+use Rattle.cte_template.specs.Tree.{tree}
+use Rattle.cte_template.proofs.TreeIsTemplate.{tree_is_template}
+use Rattle.qualified_names.specs.Trees.{qualified}
+use Rattle.qualified_names.specs.Unambiguous.{IsClearFile}
+use Rattle.qualified_names.proofs.FilesBack.{file_back}
+use Rattle.cte_prints.proofs.PrintedTexts.{derived_text_reads}
+use Rattle.cte_prints.specs.QueryLaws.{IsWritable, TreeIsDerivable}
+use Rattle.cte_prints.specs.Derivable.{Derivable, Derivation}
+use Rattle.cte_prints.proofs.DerivableExpressions.{file_expressions_derivable}
+use Rattle.sql_text.specs.Refusals.{MayBeRead}
+use Rattle.call_law.proofs.FormTerms.{terms_fit}
+use Rattle.call_law.proofs.HasTrees.{labels_have_trees}
+use Rattle.cte_names.specs.TreeLaws as names
+use Rattle.cte_names.proofs.NamedOnce.{table_named_once}
+use Rattle.cte_names.proofs.TreesClear.{trees_clear}
+use Rattle.cte_types.specs.Whole.{IsTypable, TreeBreaksNoRule}
+use Rattle.cte_types.specs.Typed.{HasKind, NoIntegers}
+use Rattle.cte_prints.specs.Texts.{IsOfTexts, ReadsAgain, TreesReadAgain}
+use Rattle.cte_prints.proofs.ColumnTypes.{columns_of_texts, kinds_of_texts}
+use Rattle.cte_prints.proofs.FewLabels.{few_labels, few_parameters}
+use Rattle.cte_prints.proofs.Linked.{expressions_linked}
+
+-- what can be derived with few enough brackets
+derived_reads : (q : Query) → Derivable 216 grammar.file q → MayBeRead (query_text q) × ReadsQuery (query_text q) q
+derived_reads q derivable =
+    let w : Derivation 216 grammar.file q [] = derivable [] in
+    derived_text_reads 216 w.terminals q (omega arith) (w.writable tt) w.derives
+
+module _ (no_rule : TreeBreaksNoRule) (tree_derivable : TreeIsDerivable) (s : Schema) (f : Function) (slots : List Slot) (g : Goto) (z : Ssa) (a : Anf) (r : Tail)
+    (texts : IsOfTexts s f slots)
+    (low : Lowered f slots g) (named : Named (length slots) (length f.params) g z) (called : Called g z a) (merged : Merged g a r)
+    (columned : Columned slots z a r) (tight : Tight slots g z a r) (few : length s.tables < 2 ^ 64)
+    (fits : NumbersFit (making_of f slots z a r)) where
+  abbrev m : Making
+  m = making_of f slots z a r
+
+  abbrev q : Query
+  q = tree m g.entry (length s.tables)
+
+  kinds : NoIntegers slots f.result
+  kinds = kinds_of_texts s f slots texts
+
+  columns : Each HasKind r.columns
+  columns = columns_of_texts s f slots g z a r texts tight
+
+  numbers : names.NumbersFit m
+  numbers = record { columns = fits.columns; aliases = fits.aliases }
+
+  templated : Templated f slots (length s.tables) g z a r q
+  templated = record {
+    entry = merged.entry;
+    trees = labels_have_trees slots g z a r (expressions f) called columned (terms_fit f slots g low (length slots) (length f.params) z named a called) merged;
+    query = tree_is_template m g.entry (length s.tables);
+  }
+
+  clear : IsClearFile s q
+  clear = trees_clear s texts.written f slots g z a r q texts.checked columned templated numbers
+
+  once : names.NamesTableOnce s q
+  once = table_named_once s texts.written f slots g z a r q texts.checked columned templated numbers
+
+  typable : IsTypable s f slots r
+  typable = record {
+    few = few;
+    types = kinds;
+    columns = columns;
+    linked = expressions_linked texts.function_text s texts.written f slots texts.function_fits texts.reads_function texts.checked;
+  }
+
+  writable : IsWritable f slots r (length f.params)
+  writable = record {
+    types = kinds;
+    columns = columns;
+    parameters = few_parameters s texts.written f slots texts.checked texts.limits;
+    labels = few_labels s texts.written f slots g z a r (length slots) (length f.params) texts.checked texts.limits low named called merged;
+  }
+
+  derivable : Derivable 216 grammar.file (qualified q)
+  derivable =
+      tree_derivable s texts.written f slots g z a r (length slots) (length f.params) texts.checked low named called merged columned tight writable numbers
+      (file_expressions_derivable texts.function_text texts.function_fits s texts.written f slots texts.checked texts.reads_function)
+
+  reads_again : ReadsAgain s q
+  reads_again =
+      let back = file_back s q clear in
+      let text = derived_reads (qualified q) derivable in
+      record {
+        may_be_read = text.0;
+        reads = text.1;
+        unbroken =
+            no_rule s texts.written f slots g z a r (length slots) (length f.params) texts.checked low named called merged columned typable (file s (qualified q))
+            back.query back.quiet once.first once.second;
+        is_tree = back.query;
+      }
+
+pub trees_read : TreeBreaksNoRule → TreeIsDerivable → TreesReadAgain
+trees_read no_rule tree_derivable = reads_again no_rule tree_derivable

@@ -1,0 +1,78 @@
+-- Each source expression of a checked function can be derived where the query has it.
+use Rattle.std.proofs.Common.{◌≡◌, refl, ap, sym, subst, ◌∙◌, ℕ, true, List, [], ◌∷◌}
+use Rattle.away_values.specs.declared.types.Ty.{Ty}
+use Rattle.away_grammar.specs.declared.grammar.Level.TheVariants as l
+use Rattle.away_grammar.specs.declared.grammar.Mark.TheVariants as m
+use Rattle.away_grammar.specs.Grammar.{at}
+use Rattle.away_trees.specs.declared.queries.Col.{Col}
+use Rattle.away_trees.specs.declared.queries.Expr.{Expr}
+use Rattle.away_trees.specs.declared.queries.Expr.TheVariants as expr
+use Rattle.away_trees.specs.declared.queries.Expr.TheBlock as b
+use Rattle.away_trees.specs.declared.schemas.Schema.{Schema}
+use Rattle.away_names.specs.Lookups.{Scope}
+use Rattle.away_names.specs.Trees.{named_expr}
+use Rattle.sql_meaning.specs.Placed.{column_of, placed, placed_at}
+use Rattle.sql_meaning.specs.Reads.{reads, slots_of}
+use Rattle.block_forms.specs.Places.{Each}
+use Rattle.type_soundness.specs.Sorts.{Every}
+use Rattle.qualified_names.specs.Trees.{qualified_expr}
+use Rattle.qualified_names.proofs.QualifyingRules as d
+use Rattle.cte_names.specs.Own.{SeesTables, IsOwn}
+use Rattle.cte_names.proofs.Standing.{Allowed}
+use Rattle.cte_names.proofs.OwnLeaves.{own_leaves}
+use Rattle.cte_names.proofs.ReadSlots.{is_in, stands, reads_own}
+use Rattle.cte_prints.specs.Derivable.{Derivable}
+use Rattle.cte_prints.specs.Like.{IsCastable}
+use Rattle.cte_prints.proofs.ReadingDepth.{read_so}
+use Rattle.cte_prints.proofs.LikeDerivable.{like_derivable}
+use Rattle.cte_prints.proofs.NodesAlike.{derive_cast_to}
+use Rattle.cte_prints.proofs.DeriveNodes as derive
+use Rattle.cte_prints.proofs.DeriveLevels.{at_or}
+use Rattle.cte_prints.specs.Derivation.{IsReadWithin}
+use Rattle.cte_prints.specs.InSight.{SightIsWritable}
+use Rattle.cte_prints.proofs.WritableColumns.{derivable_leaves}
+use Rattle.cte_prints.proofs.WritableReadings.{names_writable}
+use Rattle.cte_prints.proofs.LikeTrees.{expr_like}
+use Rattle.cte_prints.proofs.WrittenSources.{StandsFor}
+
+-- can be derived as a value of the query
+abbrev pub IsDerivableAt : Scope → Expr → Type 0
+IsDerivableAt s w = Derivable 195 (at l.Or) (qualified_expr w s.levels)
+
+-- at each place that sees the schema's tables, where its slots are columns of the query's own with names that can be written
+abbrev pub IsWritableName : Schema → Expr → Type 0
+IsWritableName schema e =
+    (t : Ty) (s : Scope) (ref : ℕ → Col) → IsCastable t → SeesTables schema s → SightIsWritable s.levels → Each (λ k. IsOwn s.levels (ref k))
+    (slots_of e) → IsDerivableAt s (placed_at t ref e)
+
+module _ (s : Scope) where
+  -- NULL with a type
+  pub null_derivable : (t : Ty) → IsCastable t → IsDerivableAt s (expr.Cast expr.Null t)
+  null_derivable t h =
+      subst (Derivable 195 (at l.Or)) (sym (d.cast_is expr.Null t s.levels ∙ ap (λ v. expr.Cast v t) (d.null_is s.levels)))
+      (at_or l.Primary (derive_cast_to {d = 194} t h (at_or l.Primary (derive.derive_literal m.Null refl))))
+
+  pub whole : (t : Ty) (ref : ℕ → Col) (e : Expr) → IsCastable t → IsDerivableAt s (placed ref e) → IsDerivableAt s (placed_at t ref e)
+  whole t ref b.Null h k = null_derivable t h
+  whole t ref e h k = k
+
+-- ---- source expressions
+
+module _ (schema : Schema) where
+  source_derivable : (e : Expr) → StandsFor (IsReadWithin 64) schema e → IsWritableName schema e
+  source_derivable e r t s ref h tables derivable own = whole s t ref e h (subst (λ e. IsDerivableAt s (placed ref e)) r.resolved at_place)
+    where
+      owned : (i : ℕ) → is_in (slots_of e) i ≡ true → IsOwn s.levels (ref i)
+      owned i h = let p = stands (slots_of e) i h in own p.place i p.there
+
+      at_place : IsDerivableAt s (placed ref (named_expr r.written r.scope).it)
+      at_place =
+          like_derivable r.holds.reads r.holds.writable _
+          (expr_like s (is_in (slots_of e)) (column_of ref) (own_leaves s (is_in (slots_of e)) ref owned) (derivable_leaves s (is_in (slots_of e)) ref derivable owned)
+          r.written (names_writable (read_so r.holds.reads) r.holds.writable).names r.scope r.plain.in_function
+          (λ x k. tables.tables x k ∙ ap (λ f. f x) (sym r.plain.tables)) r.plain.no_levels r.clean
+          (subst (λ x. Allowed (is_in (slots_of e)) (reads x)) (sym r.resolved) (reads_own e)))
+
+  pub sources_derivable : (es : List Expr) → Every (StandsFor (IsReadWithin 64) schema) es → Every (IsWritableName schema) es
+  sources_derivable [] h = tt
+  sources_derivable (e ∷ es) h = (source_derivable e h.0, sources_derivable es h.1)

@@ -1,0 +1,15 @@
+pub mod ReadsIn
+pub mod DerivesIn
+pub mod Derivable
+pub mod Like
+pub mod TreeLaws
+pub mod TerminalNesting
+pub mod NestingLaws
+pub mod Derivation
+pub mod FunctionLaws
+pub mod WritableNames
+pub mod InSight
+pub mod ExpressionLaws
+pub mod DerivableParts
+pub mod QueryLaws
+pub mod Texts

@@ -1,0 +1,17 @@
+pub mod OneByOne
+pub mod OneByOneWhere
+pub mod ListPlaces
+pub mod Lookups
+pub mod FoundBehind
+pub mod KnownNames
+pub mod SlotColumns
+pub mod PutsAppend
+pub mod PlacedInOrder
+pub mod LetPut
+pub mod FirstOccurrences
+pub mod EntriesInOrder
+pub mod SameKind
+pub mod TextOfClass
+pub mod TreeEvents
+pub mod RowsRead
+pub mod RowEvents

@@ -1,0 +1,5 @@
+pub mod Typed
+pub mod FormLaws
+pub mod Linked
+pub mod TreeLaws
+pub mod Whole

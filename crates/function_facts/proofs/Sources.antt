@@ -1,0 +1,78 @@
+-- The expressions of a checked function are over the tables of its schema.
+use Rattle.std.proofs.Common.{◌≡◌, ℕ, zero, suc, ◌<◌, ◌^◌, true, ◌&&◌, List, [], ◌∷◌, ◌++◌, length, refl, sym, subst, lt-ltb}
+use Rattle.std.specs.List.{list_all}
+use Rattle.std.proofs.lemmas.Option.{same_Some}
+use Rattle.away_trees.specs.declared.queries.Expr.{Expr}
+use Rattle.away_trees.specs.declared.schemas.Schema.{Schema}
+use Rattle.away_trees.specs.declared.statements.Function.{Function}
+use Rattle.away_names.specs.Notes.{joined}
+use Rattle.away_types.specs.declared.slots.Slot.{Slot}
+use Rattle.away_types.specs.CheckedFunctions.{IsChecked}
+use Rattle.away_types.specs.FunctionChecks.{start, entry, body_of, function_note, head_note, types_note, resolved_function, slots_of, asked_in}
+use Rattle.away_types.specs.ResolvedBodies.{resolved_stmt}
+use Rattle.sql_meaning.specs.Reads as read
+use Rattle.sql_meaning.specs.Reads.{Read, allows, reads, fits}
+use Rattle.block_forms.specs.Expressions.{Sources, sources, expressions}
+use Rattle.block_forms.specs.FixedList.{fixed_list}
+use Rattle.block_forms.specs.OwnSlots.{named_slots}
+use Rattle.block_forms.specs.Places.{Each}
+use Rattle.type_soundness.specs.Sorts.{Every}
+use Rattle.type_soundness.proofs.CleanNotes.{Clean, clean_parts, unbroken_clean}
+use Rattle.function_facts.proofs.SlotLookups as slot
+use Rattle.function_facts.proofs.SlotsOfParameters.{of_written}
+use Rattle.function_facts.proofs.Taken as taken
+use Rattle.function_facts.specs.OverTables.{IsOverTables}
+use Rattle.function_facts.proofs.Asked.{AreSingle, asked_single}
+use Rattle.function_facts.proofs.FixedList.{AreOver, fixed_over}
+use Rattle.function_facts.proofs.TableLookups.{IsBelow, tables_below}
+use Rattle.function_facts.proofs.TablesOfStatements.{AllBelow, stmt_fine}
+
+-- ---- an expression
+
+all_allowed : (slots tables : ℕ) (rs : List Read) → Every (slot.IsBelow slots) rs → Every (IsBelow tables) rs
+    → list_all (allows (λ i. true) 0 tables) rs ≡ true
+all_allowed slots tables [] h k = refl
+all_allowed slots tables (read.Slot i ∷ rs) h k = all_allowed slots tables rs h.1 k.1
+all_allowed slots tables (read.Param i ∷ rs) h k = absurd h.0
+all_allowed slots tables (read.Table i ∷ rs) h k = λ j. lt-ltb i tables k.0 j && all_allowed slots tables rs h.1 k.1 j
+all_allowed slots tables (read.Outer c ∷ rs) h k = absurd h.0
+
+all_over : (slots tables : ℕ) (es : List Expr) → Every (taken.SourceBelow slots) es → AllBelow tables es → AreSingle es → AreOver tables es
+all_over slots tables [] h k l = tt
+all_over slots tables (e ∷ es) h k l =
+    (record { reads_own = all_allowed slots tables (reads e) h.0 k.0; single = l.0 }, all_over slots tables es h.1 k.1 l.1)
+
+both_over : (tables : ℕ) (xs ys : Sources) → AreOver tables xs → AreOver tables ys → AreOver tables (xs ++ ys)
+both_over tables [] ys h k = k
+both_over tables (x ∷ xs) ys h k = (h.0, both_over tables xs ys h.1 k)
+
+each_over : (tables : ℕ) (es : Sources) → AreOver tables es → Each (IsOverTables tables) es
+each_over tables [] h i x at = cc
+each_over tables (e ∷ es) h zero x at = subst (IsOverTables tables) (same_Some e x at) h.0
+each_over tables (e ∷ es) h (suc i) x at = each_over tables es h.1 i x at
+
+-- ---- a function
+
+body_below : (s : Schema) (f : Function) → length s.tables < 2 ^ 64 → Clean (body_of s f).note → AllBelow (length s.tables) (sources (body_of s f).it)
+unfolding resolved_stmt sources
+body_below s f small c = stmt_fine (length s.tables) f.body (entry s f.params) (start f.params).slots ((λ x. tables_below s small x), refl) c
+
+body_single : (s : Schema) (f : Function) → Clean (types_note s f) → AreSingle (sources (body_of s f).it)
+unfolding sources
+body_single s f c = asked_single (asked_in s (slots_of s f) f.result) (body_of s f).it c
+
+written_over : (s : Schema) (f : Function) → length s.tables < 2 ^ 64 → Clean (function_note s f)
+    → AreOver (length s.tables) (sources (body_of s f).it)
+written_over s f small c =
+    let whole = clean_parts (head_note f) (joined (body_of s f).note (types_note s f)) c in
+    let body = clean_parts (body_of s f).note (types_note s f) whole.1 in
+    all_over (named_slots (resolved_function s f)) (length s.tables) (sources (body_of s f).it) (of_written s f c).reads (body_below s f small body.0)
+    (body_single s f body.1)
+
+pub over_their_tables : (s : Schema) (written f : Function) (slots : List Slot) → IsChecked s written f slots → length s.tables < 2 ^ 64
+    → Each (IsOverTables (length s.tables)) (expressions f)
+over_their_tables s written f slots checked small =
+    let own = written_over s written small (unbroken_clean (function_note s written) checked.unbroken) in
+    let here : AreOver (length s.tables) (sources f.body) = subst (λ (g : Function). AreOver (length s.tables) (sources g.body)) (sym checked.function) own in
+    each_over (length s.tables) (expressions f)
+    (both_over (length s.tables) (sources f.body) fixed_list here (fixed_over (length s.tables)))

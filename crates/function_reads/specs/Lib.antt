@@ -1,3 +1,0 @@
-pub mod OverTables
-pub mod Raising
-pub mod SetSlots

@@ -1,7 +1,0 @@
-pub mod Lookups
-pub mod Trees
-pub mod Found
-pub mod Taken
-pub mod Statements
-pub mod Parameters
-pub mod Facts

@@ -1,0 +1,95 @@
+-- The frame of a function gives the terms of its goto form the values for which they stand.
+use Rattle.std.proofs.Common.{◌≡◌, refl, sym, ap, ◌∙◌, ℕ, zero, suc, ◌+◌, ◌*◌, false, List, [], ◌∷◌, ◌++◌, map, length, slice_get, get_or, arith}
+use Rattle.away_values.specs.declared.values.Value.{Value}
+use Rattle.away_values.specs.declared.values.Value.TheVariants as val
+use Rattle.away_trees.specs.declared.statements.Function.{Function}
+use Rattle.away_types.specs.declared.slots.Slot.{Slot}
+use Rattle.sql_meaning.specs.Context.{Rows}
+use Rattle.plsql_meaning.specs.Functions.{over}
+use Rattle.plsql_meaning.specs.Outcomes.{Env}
+use Rattle.block_forms.specs.declared.fixed_list.Fixed.{Fixed}
+use Rattle.block_forms.specs.declared.fixed_list.Fixed.TheVariants as fix
+use Rattle.block_forms.specs.declared.forms.Goto.{Goto}
+use Rattle.block_forms.specs.Expressions.{Sources, sources, expressions, entry_value}
+use Rattle.block_forms.specs.FixedList.{fixed_list, position, in_range_entry, past_end_entry, next_entry}
+use Rattle.block_forms.specs.Frames.{frame_of}
+use Rattle.block_forms.specs.Laid.{laid}
+use Rattle.block_forms.specs.Lowered.{setting, numbers_of}
+use Rattle.block_forms.specs.Patterns as form
+use Rattle.block_forms.specs.Places.{Each}
+use Rattle.block_forms.specs.OwnSlots.{ReadsBelow}
+use Rattle.goto_law.proofs.FixedList as fixed
+use Rattle.goto_law.proofs.Known.{Sides, width, at, value_of, Entries, strict_at, Known}
+use Rattle.goto_law.proofs.SourceValues.{source_value}
+
+-- ---- the table
+
+behind : (xs ys : Sources) (k : ℕ) → slice_get (xs ++ ys) (length xs + k) ≡ slice_get ys k
+behind [] ys k = ap (slice_get ys) (omega arith)
+behind (x ∷ xs) ys k =
+    let e : length (x ∷ xs) + k ≡ suc (length xs + k) = omega arith in
+    ap (slice_get (x ∷ (xs ++ ys))) e ∙ behind xs ys k
+
+module _ (s : Sides) where
+  -- the sources are its first entries
+  first_entries : (k : ℕ) (es fs : Sources) → ((i : ℕ) → slice_get s.table (k + i) ≡ slice_get (es ++ fs) i) → Each (ReadsBelow (width s)) es
+      → Entries s k es
+  first_entries k [] fs same reads = tt
+  first_entries k (e ∷ es) fs same reads =
+      let here : k + 0 ≡ k = omega arith in (
+        record { there = ap (slice_get s.table) (sym here) ∙ same 0; reads = reads 0 e refl },
+        first_entries (suc k) es fs (λ i. let next : suc k + i ≡ k + suc i = omega arith in ap (slice_get s.table) next ∙ same (suc i))
+            (λ i x is. reads (suc i) x is),
+      )
+
+  pub source_entries : (es fs : Sources) → s.table ≡ es ++ fs → Each (ReadsBelow (width s)) es → Entries s 0 es
+  source_entries es fs same reads =
+      first_entries 0 es fs (λ i. let e : 0 + i ≡ i = omega arith in ap (slice_get s.table) e ∙ ap (λ table. slice_get table i) same) reads
+
+-- ---- NOT NULL
+
+strict_is : (slots : List Slot) (i : ℕ) → get_or (map (λ (s : Slot). s.not_null) slots) i false ≡ strict_at (slice_get slots i)
+strict_is [] zero = refl
+strict_is [] (suc i) = refl
+strict_is (s ∷ slots) zero = refl
+strict_is (s ∷ slots) (suc i) = strict_is slots i
+
+-- ---- a function over tables
+
+module _ (f : Function) (slots : List Slot) (g : Goto) (tables : List Rows) where
+  abbrev pub sides : Sides
+  sides = record {
+    frame = frame_of f (length slots) g tables;
+    form = setting f slots g;
+    set = over tables (map (λ (s : Slot). s.not_null) slots);
+    table = expressions f;
+    hidden = 3 * (laid f.body).size.fors;
+  }
+
+  module _ (fixed_is : (numbers_of f).fixed ≡ length (sources f.body)) where
+    abbrev held : List ℕ → Env → List Value
+    held names env = map (λ i. get_or env i val.Null) names
+
+    entry : (e : Fixed) (names : List ℕ) (env : Env) → value_of sides (form.entry_term (numbers_of f).fixed e names) env ≡ fixed.fixed_value tables e
+        (held names env)
+    entry e names env =
+        ap (λ o. entry_value tables o (held names env))
+        (ap (λ n. slice_get (expressions f) (n + position e)) fixed_is ∙ behind (sources f.body) fixed_list (position e))
+
+    pub known : Known sides
+    known = record {
+      sources = λ k e x env hid wide.
+          ap (λ o. entry_value tables o (held (form.source_term k e).names (env ++ hid))) x.there
+          ∙ source_value tables (numbers_of f).counters e x.reads env hid wide;
+      nulls = λ t env. entry (fix.Null t) [] env ∙ fixed.null_of tables t;
+      null_tests = λ t slot env. entry (fix.IsNull t) (slot ∷ []) env ∙ fixed.null_test tables t (at env slot);
+      positive_tests = λ slot env. entry fix.NotPositive (slot ∷ []) env ∙ fixed.positive_test tables (at env slot);
+      ones = λ env. entry fix.One [] env ∙ fixed.one tables;
+      copies = λ slot env. entry fix.Copy (slot ∷ []) env ∙ fixed.copy tables (at env slot);
+      ranges =
+          λ reverse cur last env. entry (in_range_entry reverse) (cur ∷ last ∷ []) env ∙ fixed.range tables reverse (at env cur) (at env last);
+      ends = λ reverse step cur env. entry (past_end_entry reverse) (step ∷ cur ∷ []) env ∙ fixed.end tables reverse (at env step) (at env cur);
+      moves =
+          λ reverse cur step env. entry (next_entry reverse) (cur ∷ step ∷ []) env ∙ fixed.move tables reverse (at env cur) (at env step);
+      not_nulls = λ slot. strict_is slots slot;
+    }

@@ -1,2 +1,0 @@
-pub mod SignNesting
-pub mod Laws

@@ -1,0 +1,5 @@
+pub mod Sight
+pub mod Qualifying
+pub mod Trees
+pub mod Examples
+pub mod Unambiguous

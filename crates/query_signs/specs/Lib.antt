@@ -1,4 +1,0 @@
-pub mod Signs
-pub mod Telling
-pub mod Placing
-pub mod SlotsRead

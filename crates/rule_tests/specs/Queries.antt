@@ -1,0 +1,119 @@
+-- Worked queries over the table t and worked schemas, and the least rule that each breaks.
+use Rattle.std.specs.Prelude.{ℕ, Bool, true, false, List, [], ◌∷◌, Some, None, codes}
+use Rattle.away_values.specs.declared.types.Ty.TheVariants as ty
+use Rattle.away_trees.specs.declared.queries.Expr.{Expr}
+use Rattle.away_trees.specs.declared.queries.Expr.TheVariants as expr
+use Rattle.away_trees.specs.declared.queries.Expr.TheViews.{roll-Item}
+use Rattle.away_trees.specs.declared.queries.FromItem.{FromItem}
+use Rattle.away_trees.specs.declared.queries.Query.{Query}
+use Rattle.away_trees.specs.declared.queries.Select.{Select}
+use Rattle.away_trees.specs.declared.schemas.Schema.{Schema}
+use Rattle.away_names.specs.Schemas.{schema_note}
+use Rattle.away_types.specs.CheckedQueries.{query_note}
+use Rattle.rule_tests.specs.Pieces.{Name, Row, none, schema, column, t, n, named, k, count, sum_of, as_bigint, null_text, plus, concat}
+use Rattle.rule_tests.specs.Pieces.{item, from, from_r, sub, select, query, one, from_t, ordered, with_recursive}
+
+abbrev pub broken : Row Query → ℕ
+broken row = (query_note schema row.0).least
+
+abbrev pub wanted : Row Query → ℕ
+wanted row = row.1
+
+-- SELECT e, CAST(NULL AS text) FROM t
+abbrev of_list : Expr → Query
+of_list e = one (e ∷ null_text ∷ []) from_t
+
+abbrev r_i : Expr
+r_i = expr.Dotted (codes "r") (codes "i")
+
+-- (SELECT t.v) AS u(a), LATERAL or not
+abbrev beside_t : Bool → FromItem
+beside_t lateral = sub lateral (codes "u") (codes "a" ∷ []) (one (expr.Dotted (codes "t") (codes "v") ∷ []) [])
+
+-- ---- FROM, ORDER BY and LIMIT
+
+abbrev pub selects : List (Row Query)
+selects =
+    -- SELECT 1
+    (one (n 1 ∷ []) [], 18)
+    ∷ (one (n 1 ∷ null_text ∷ []) [], none)
+    ∷ (one (null_text ∷ n 1 ∷ []) [], 18)
+    ∷ (of_list k, none)
+    -- k || 1 has no text operand
+    ∷ (of_list (concat k (n 1)), 13)
+    ∷ (of_list (concat expr.Null (n 1)), none)
+    -- FROM t, t
+    ∷ (one (n 1 ∷ null_text ∷ []) (from (codes "t") ∷ from (codes "t") ∷ []), 6)
+    -- a subquery sees its neighbours where it is LATERAL
+    ∷ (one (k ∷ expr.Dotted (codes "u") (codes "a") ∷ []) (from (codes "t") ∷ beside_t true ∷ []), none)
+    ∷ (one (k ∷ expr.Dotted (codes "u") (codes "a") ∷ []) (from (codes "t") ∷ beside_t false ∷ []), 7)
+    -- lists of columns
+    ∷ (one (n 1 ∷ null_text ∷ []) (sub false (codes "u") (codes "a" ∷ codes "a" ∷ []) (one (n 1 ∷ n 2 ∷ []) []) ∷ []), 6)
+    ∷ (one (n 1 ∷ null_text ∷ []) (sub false (codes "u") (codes "a" ∷ []) (one (n 1 ∷ n 2 ∷ []) []) ∷ []), 13)
+    ∷ (one (n 1 ∷ null_text ∷ []) (sub false (codes "u") (codes "a" ∷ codes "b" ∷ []) (one (n 1 ∷ n 2 ∷ []) []) ∷ []), none)
+    -- a key that is an alias of the list
+    ∷ (query (ordered (roll-Item (record { expr = named (codes "v"); alias = Some (codes "k") }) ∷ item null_text ∷ []) (k ∷ []) None ∷ []), 8)
+    ∷ (query (ordered (item k ∷ item null_text ∷ []) (k ∷ []) (Some (n 1)) ∷ []), none)
+    ∷ (query (ordered (item k ∷ item null_text ∷ []) (named (codes "z") ∷ []) None ∷ []), 7)
+    -- LIMIT of its own select
+    ∷ (query (ordered (item k ∷ item null_text ∷ []) [] (Some k) ∷ []), 13)
+    -- UNION ALL of other types, where NULL has each
+    ∷ (query (select (n 1 ∷ null_text ∷ []) [] ∷ select (expr.Bool true ∷ null_text ∷ []) [] ∷ []), 13)
+    ∷ (query (select (n 1 ∷ null_text ∷ []) [] ∷ select (expr.Null ∷ expr.Null ∷ []) [] ∷ []), none)
+    -- one parameter of two types
+    ∷ (of_list (plus (expr.Param 1 ty.Bigint) (as_bigint (expr.Param 1 ty.Text))), 13)
+    ∷ (of_list (plus (expr.Param 1 ty.Bigint) (expr.Param 1 ty.Bigint)), none)
+    -- names of the query's own may be written in a query
+    ∷ (one (n 1 ∷ null_text ∷ []) (sub false (codes "away_u") [] (one (n 1 ∷ []) []) ∷ []), none)
+    -- what no reader writes
+    ∷ (of_list (expr.Slot 0), 7)
+    ∷ []
+
+-- ---- WITH RECURSIVE
+
+-- WITH RECURSIVE r(columns) AS (first UNION ALL second) SELECT 1, CAST(NULL AS text) FROM r
+abbrev of_terms : List Name → Select → Select → Query
+of_terms columns first second = with_recursive columns first second (n 1 ∷ null_text ∷ [])
+
+-- SELECT 1
+abbrev one_row : Select
+one_row = select (n 1 ∷ []) []
+
+-- SELECT e FROM r
+abbrev of_r : Expr → Select
+of_r e = select (e ∷ []) from_r
+
+abbrev pub recursions : List (Row Query)
+recursions =
+    -- the second term doesn't name it
+    (of_terms (codes "i" ∷ []) one_row (select (n 2 ∷ []) []), 17)
+    ∷ (with_recursive (codes "i" ∷ []) one_row (of_r (plus r_i (n 1))) (as_bigint (sum_of r_i) ∷ null_text ∷ []), none)
+    -- the first term does
+    ∷ (of_terms (codes "i" ∷ []) (of_r r_i) (of_r r_i), 17)
+    -- twice
+    ∷ (of_terms (codes "i" ∷ []) one_row (select (r_i ∷ []) (from (codes "r") ∷ sub false (codes "u") [] (query (of_r (n 1) ∷ [])) ∷ [])), 17)
+    -- two names for one column, and one name twice
+    ∷ (of_terms (codes "i" ∷ codes "j" ∷ []) one_row (of_r r_i), 17)
+    ∷ (of_terms (codes "i" ∷ codes "i" ∷ []) (select (n 1 ∷ n 2 ∷ []) []) (select (n 1 ∷ n 2 ∷ []) from_r), 6)
+    -- an aggregate in the second term
+    ∷ (of_terms (codes "i" ∷ []) one_row (of_r count), 17)
+    -- NULL has the type of the first term
+    ∷ (of_terms (codes "i" ∷ []) one_row (of_r expr.Null), none)
+    ∷ (of_terms (codes "i" ∷ []) one_row (of_r (expr.Bool true)), 17)
+    ∷ []
+
+-- ---- schemas
+
+abbrev pub schemas : List (Row Schema)
+schemas =
+    (record { tables = t ∷ t ∷ [] }, 6)
+    ∷ (schema, none)
+    ∷ (record { tables = record { name = codes "t"; columns = column (codes "k") ty.Bigint ∷ column (codes "k") ty.Text ∷ [] } ∷ [] }, 6)
+    ∷ (record { tables = record { name = codes "away_t"; columns = column (codes "k") ty.Bigint ∷ [] } ∷ [] }, 14)
+    ∷ []
+
+abbrev pub schema_broken : Row Schema → ℕ
+schema_broken row = (schema_note row.0).least
+
+abbrev pub schema_wanted : Row Schema → ℕ
+schema_wanted row = row.1

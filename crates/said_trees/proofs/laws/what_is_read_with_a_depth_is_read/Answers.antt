@@ -1,5 +1,0 @@
-use Rattle.said_trees.proofs.ReadingDepth.{read_so}
-use Rattle.said_trees.proofs.laws.what_is_read_with_a_depth_is_read.Goals as goal
-
-pub returns : goal.returns
-returns c d n ts t rest h = read_so h

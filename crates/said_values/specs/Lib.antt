@@ -1,3 +1,0 @@
-pub mod NamesSaid
-pub mod InSight
-pub mod Laws

@@ -1,4 +1,0 @@
-pub mod PartTerms
-pub mod StatementTerms
-pub mod FormTerms
-pub mod HasTrees

@@ -1,8 +1,0 @@
-mod ColumnNames
-pub mod ClassTexts
-pub mod Lists
-pub mod FirstOccurrences
-pub mod SlotsOfSigns
-pub mod ColumnRules
-pub mod PlacingRules
-pub mod Results

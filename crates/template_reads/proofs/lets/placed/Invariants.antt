@@ -1,5 +1,0 @@
-use Rattle.template_reads.proofs.PlacedInOrder.{PlacedTo}
-use Rattle.template_reads.proofs.lets.placed.Given as goal
-
-abbrev pub invariant-loop-i : goal.invariant-loop-i
-invariant-loop-i l = PlacedTo l.out l.slots l.refs l.signs l.initial.at l.of l.i l.at l.depth

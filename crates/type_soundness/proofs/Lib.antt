@@ -1,0 +1,17 @@
+pub mod KindRules
+pub mod Results
+pub mod Operators
+pub mod Lists
+pub mod Functions
+pub mod Calls
+pub mod Nodes
+pub mod Places
+pub mod Selects
+pub mod Unions
+pub mod Trees
+pub mod CleanNotes
+pub mod Found
+pub mod Tables
+pub mod Recursions
+pub mod Queries
+pub mod Statements

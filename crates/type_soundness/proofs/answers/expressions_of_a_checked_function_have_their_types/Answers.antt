@@ -1,0 +1,5 @@
+use Rattle.type_soundness.proofs.Statements.{typed}
+use Rattle.type_soundness.proofs.answers.expressions_of_a_checked_function_have_their_types.Goals as goal
+
+pub returns : goal.returns
+returns c = typed

@@ -1,4 +1,0 @@
-pub mod Tables
-pub mod Recursions
-pub mod Queries
-pub mod Statements

@@ -1,4 +1,0 @@
-pub mod TypedAnswers
-pub mod Worked
-pub mod AskedTypes
-pub mod WorkedTypes

@@ -1,9 +1,0 @@
-pub mod Standing
-pub mod PartTypes
-pub mod FixedTypes
-pub mod PieceTypes
-pub mod StatementTypes
-pub mod CheckedFacts
-pub mod ExitMaps
-pub mod FormTypes
-pub mod CallTypes

@@ -1,5 +1,0 @@
-use Rattle.typed_forms.proofs.CallTypes.{calls_keep}
-use Rattle.typed_forms.proofs.laws.calls_of_forms_keep_types.Goals as goal
-
-pub returns : goal.returns
-returns c = λ slots g z a count params named called. calls_keep slots g z a count params named called

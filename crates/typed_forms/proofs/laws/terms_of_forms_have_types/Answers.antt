@@ -1,7 +1,0 @@
-use Rattle.typed_forms.proofs.CheckedFacts.{facts}
-use Rattle.typed_forms.proofs.FormTypes.{terms_typed}
-use Rattle.typed_forms.proofs.laws.terms_of_forms_have_types.Goals as goal
-
-pub returns : goal.returns
-returns c = λ schema written f slots g z a count params checked plain low named called.
-    terms_typed schema f slots (facts schema written f slots checked) plain g low count params z named a called

@@ -1,4 +1,0 @@
-pub mod Sorts
-pub mod Arguments
-pub mod Surroundings
-pub mod TypedValues
