@@ -5,10 +5,9 @@ use Rattle.away_trees.specs.declared.schemas.Schema.{Schema}
 use Rattle.away_types.specs.CheckedFunctions.{IsChecked}
 use Rattle.away_types.specs.CheckedQueries.{resolved_query}
 use Rattle.away_types.specs.FunctionChecks.{resolved_function, slots_of}
-use Rattle.cert_json.specs.declared.cert.Cert.{Cert}
-use Rattle.equivalence.specs.Accepted.{EquivalentWith}
+use Rattle.cert_json.specs.Forms.{Cert}
+use Rattle.equivalence.specs.Accepted.{AcceptedForms, EquivalentWith}
 use Rattle.stage_check.specs.declared.verdict.Verdict.TheVariants.{Accepted, Fails}
-use Rattle.stage_check.specs.Verdicts.{AllHold, all_relations, between}
 use Rattle.away_top.specs.declared.outside.Files.{Ghosts as Files}
 use Rattle.away_top.specs.declared.outside.Sink.{Ghosts as Sink}
 use Rattle.away_top.specs.declared.status.Status.{Status}
@@ -37,7 +36,7 @@ record CertRead (held : Held) (name : List ℕ) (c : Cert) : Type 0 where
 
 -- what a verdict of acceptance says
 record Good (s : Schema) (f : Callable) (q : Asked) (c : Cert) (output : List ℕ) : Type 0 where
-  pub holds : AllHold (between s f.function f.slots c q.query) all_relations
+  pub holds : AcceptedForms s f.function f.slots c q.query
   pub equivalent : EquivalentWith s f.function f.slots q.query
   pub output_is : output ≡ line (codes "accepted")
 

@@ -1,7 +1,7 @@
 -- The stretches of `check` make its run.
 use Rattle.std.proofs.Common.{◌≡◌, refl, ℕ, List}
 use Rattle.away_trees.specs.declared.schemas.Schema.{Schema}
-use Rattle.cert_json.specs.declared.cert.Cert.{Cert}
+use Rattle.cert_json.specs.Forms.{Cert}
 use Rattle.away_top.specs.declared.outside.Files.{Ghosts as Files}
 use Rattle.away_top.specs.declared.ending.Halt.{Halt}
 use Rattle.away_top.specs.Certificates.{cert_course}

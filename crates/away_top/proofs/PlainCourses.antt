@@ -20,7 +20,7 @@ use Rattle.plsql_run.specs.Settings.{not_nulls}
 use Rattle.away_top.specs.AnswerLines.{answer_end, value_line}
 use Rattle.away_top.specs.Arguments.{bound_of, values_for, values_of}
 use Rattle.away_top.specs.Commands.{NumberEnds, about_end, choice, command_course, course, either, other_command, usage, without_more}
-use Rattle.cert_json.specs.declared.cert.Cert.{Cert}
+use Rattle.cert_json.specs.Forms.{Cert}
 use Rattle.stage_check.specs.declared.verdict.Verdict.TheVariants.{Accepted, Fails}
 use Rattle.away_top.specs.Certificates.{RefusesCert, cert_course}
 use Rattle.away_top.specs.CheckCourse.{IsJudgedSo, check_course, with_function, with_query, with_schema}

@@ -7,7 +7,7 @@ use Rattle.away_types.specs.CheckedFunctions.{IsChecked}
 use Rattle.away_types.specs.CheckedQueries.{resolved_query}
 use Rattle.cert_json.specs.Certificates.{Reads}
 use Rattle.cert_json.specs.Lines.{IsLine}
-use Rattle.cert_json.specs.declared.cert.Cert.{Cert}
+use Rattle.cert_json.specs.Forms.{Cert}
 use Rattle.compiling.specs.Compiled.{IsCompiled}
 use Rattle.equivalence.specs.Accepted.{EquivalentWith}
 use Rattle.away_top.specs.declared.compile.Wanted.{Wanted}

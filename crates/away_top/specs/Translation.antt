@@ -5,7 +5,7 @@ use Rattle.std.specs.Io.KnownBytes.{Appends}
 use Rattle.away_trees.specs.declared.queries.Query.{Query}
 use Rattle.away_types.specs.CheckedQueries.{resolved_query}
 use Rattle.away_types.specs.FunctionChecks.{resolved_function, slots_of}
-use Rattle.cert_json.specs.declared.cert.Cert.{Cert}
+use Rattle.cert_json.specs.Forms.{Cert}
 use Rattle.compiling.specs.Compiled.{IsCompiled}
 use Rattle.equivalence.specs.Accepted.{EquivalentWith}
 use Rattle.away_top.specs.declared.compile.Wanted.{Wanted}

@@ -1,5 +1,5 @@
 use Rattle.std.proofs.Common.{inr, subst, sym}
-use Rattle.cert_json.specs.declared.cert.Cert.{Cert}
+use Rattle.cert_json.specs.Forms.{Cert}
 use Rattle.away_top.specs.Certificates.{IsCert, RefusesCert}
 use Rattle.away_top.specs.Course.{RefusedBy}
 use Rattle.away_top.specs.Runs.{Holds}

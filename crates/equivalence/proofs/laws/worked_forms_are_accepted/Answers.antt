@@ -1,5 +1,5 @@
 use Rattle.equivalence.proofs.SignOf.{named}
-use Rattle.equivalence.proofs.worked_forms_are_accepted.Goals as goal
+use Rattle.equivalence.proofs.laws.worked_forms_are_accepted.Goals as goal
 
 pub returns : goal.returns
 returns c =
