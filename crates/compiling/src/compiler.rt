@@ -10,7 +10,7 @@ ghost use Rattle.dotted_names.specs.Trees.{dotted};
 ghost use Rattle.equivalence.specs.Accepted.{EquivalentWith};
 ghost use Rattle.query_texts.specs.Texts.{IsOfTexts};
 
-use crate::forms::{Translated, translated};
+use crate::forms::{Translated, translate};
 use away_trees::Query;
 use away_types::{CheckedFunction, CheckedSchema};
 use away_values::NoMemory;
@@ -65,7 +65,7 @@ pub fn compile(alloc: Global, s: &CheckedSchema, f: &CheckedFunction) -> Result<
     accepted_forms_are_equivalent(f);
     trees_read_again();
     let _count = s.schema.tables.len();
-    let Translated { forms, tree } = translated(alloc, s, f)?;
+    let Translated { forms, tree } = translate(alloc, s, f)?;
     let Spoken { query, text } = text_of(alloc, tree.get())?;
     Ok(Compiled {
         query,

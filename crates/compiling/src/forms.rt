@@ -25,7 +25,7 @@ pub(crate) struct Translated {
 }
 
 /// The forms of a function, one from the other, and the tree of its query over the tables of the schema.
-pub(crate) fn translated(
+pub(crate) fn translate(
     alloc: Global,
     s: &CheckedSchema,
     f: &CheckedFunction,
