@@ -141,7 +141,7 @@ pub(crate) fn others_merge(goto: &Goto, anf: &Anf, tail: &Tail, labels: &[u8], c
     requires calls { CountsOf (length anf.now.blocks) (λ b. calls_to b anf.now.blocks) calls.now }
     ensures { IsTrue result ↔ ((b : ℕ) → b < length anf.now.blocks → label_of tail.now b ≡ None → MayMerge goto.now anf.now b) }
 {
-    for b in 0..a.blocks.len() {
+    for b in 0..anf.blocks.len() {
         if !label_or_merged(goto, anf, tail, labels, calls, b) {
             return false;
         }
