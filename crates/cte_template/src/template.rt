@@ -196,8 +196,8 @@ pub fn template_tree(
         slots: f.slots.as_slice(),
         names: ssa.names.as_slice(),
         result: f.function.result,
-        anf: anf,
-        tail: tail,
+        anf,
+        tail,
     };
     tree(alloc, &w, goto.entry, tables)
 }
