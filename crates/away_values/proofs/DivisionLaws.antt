@@ -1,6 +1,6 @@
 -- That division is exact and rounds toward zero.
 use Rattle.std.proofs.Common.{◌≡◌, refl, ◌∙◌, ap, ℕ, zero, suc, ◌<◌, arith, true, false, ℤ, pos, negsuc, ◌≤ℤ◌, neg_ℤ, ◌≤◌, ◌%◌, inl, inr}
-use Rattle.std.specs.Prelude.{Ok, Err, codes, if◌then◌else◌, int_div, int_rem, unsigned_abs}
+use Rattle.std.specs.Prelude.{Ok, Err, if◌then◌else◌, int_div, int_rem, unsigned_abs}
 use Rattle.std.specs.Ordering.{int_eq}
 use Rattle.std.proofs.lemmas.Bool.{cases_Bool}
 use Rattle.std.proofs.lemmas.Bool.Decides.{nat_tests}
@@ -10,7 +10,8 @@ use Rattle.away_values.specs.declared.values.Value.{Value}
 use Rattle.away_values.specs.declared.values.Value.TheVariants as val
 use Rattle.away_values.specs.ArithmeticLaws.{IsBigint, IsExactly, IsDivided}
 use Rattle.away_values.specs.Operators.{fits, ranged, unless_zero}
-use Rattle.away_values.specs.Results.{Or, class}
+use Rattle.away_values.specs.Results.{Or}
+use Rattle.away_values.specs.SqlStates.{division_by_zero, numeric_value_out_of_range}
 
 fits_bigint : (n : ℤ) → IsBigint n → fits n ≡ true
 fits_bigint (pos n) h = grind (arith, ints, nat_tests, h.to)
@@ -25,8 +26,8 @@ beyond n h = elim (cases_Bool (fits n)) [ inl e ↦ absurd (h (bigint_fits n e))
 
 exactly : (n : ℤ) → IsExactly n (ranged n)
 exactly n = record {
-  within = λ h. ap (λ b. if b then Ok (val.Int n) else Err (class (codes "22003"))) (fits_bigint n h);
-  beyond = λ h. ap (λ b. if b then Ok (val.Int n) else Err (class (codes "22003"))) (beyond n h);
+  within = λ h. ap (λ b. if b then Ok (val.Int n) else Err numeric_value_out_of_range) (fits_bigint n h);
+  beyond = λ h. ap (λ b. if b then Ok (val.Int n) else Err numeric_value_out_of_range) (beyond n h);
 }
 
 not_zero : (b : ℤ) → (b ≡ pos 0 → ⊥) → int_eq b (pos 0) ≡ false
@@ -40,7 +41,7 @@ positive (pos (suc n)) h = omega arith
 positive (negsuc n) h = omega arith
 
 there : (b : ℤ) (r : Or Value) → (b ≡ pos 0 → ⊥) → unless_zero b r ≡ r
-there b r h = ap (λ x. if x then Err (class (codes "22012")) else r) (not_zero b h)
+there b r h = ap (λ x. if x then Err division_by_zero else r) (not_zero b h)
 
 exactly_along : (n : ℤ) (r s : Or Value) → r ≡ s → IsExactly n s → IsExactly n r
 exactly_along n r s e h = record { within = λ p. e ∙ h.within p; beyond = λ p. e ∙ h.beyond p }

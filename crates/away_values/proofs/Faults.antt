@@ -1,6 +1,6 @@
 -- The faults of the operators are classes.
 use Rattle.std.proofs.Common.{refl, ℕ, ℤ, Bool, true, false, List, [], ◌∷◌, pos, ◌++◌, ◌+ℤ◌, ◌-ℤ◌, neg_ℤ}
-use Rattle.std.specs.Prelude.{if◌then◌else◌, int_lt, int_div, int_rem, ◌*ℤ◌, nat_le, codes, Ok, Err}
+use Rattle.std.specs.Prelude.{if◌then◌else◌, int_lt, int_div, int_rem, ◌*ℤ◌, nat_le, Ok, Err}
 use Rattle.std.specs.List.{sum_by}
 use Rattle.std.specs.Ordering.{int_eq}
 use Rattle.away_values.specs.declared.values.Value.{Value}
@@ -13,7 +13,8 @@ use Rattle.away_values.specs.declared.operators.TextOp.{TextOp}
 use Rattle.away_values.specs.declared.operators.TextOp.TheVariants as text
 use Rattle.away_values.specs.Classes.{FaultsByClass}
 use Rattle.away_values.specs.Operators.{bytes_of, cast, concat, fits, fits_small, int_op, int_result, negated, part, ranged, small, text_of_value, substr, text_op, text_within, unless_zero}
-use Rattle.away_values.specs.Results.{Or, class}
+use Rattle.away_values.specs.Results.{Or}
+use Rattle.away_values.specs.SqlStates.{division_by_zero, numeric_value_out_of_range, program_limit_exceeded, substring_error}
 
 -- a choice between two that give a value or a class
 chosen : (b : Bool) (x y : Or Value) → FaultsByClass x → FaultsByClass y → FaultsByClass (if b then x else y)
@@ -21,10 +22,10 @@ chosen true x y hx hy = hx
 chosen false x y hx hy = hy
 
 in_range : (n : ℤ) → FaultsByClass (ranged n)
-in_range n = chosen (fits n) (Ok (val.Int n)) (Err (class (codes "22003"))) tt refl
+in_range n = chosen (fits n) (Ok (val.Int n)) (Err numeric_value_out_of_range) tt refl
 
 no_zero : (b : ℤ) (x : Or Value) → FaultsByClass x → FaultsByClass (unless_zero b x)
-no_zero b x h = chosen (int_eq b (pos 0)) (Err (class (codes "22012"))) x refl h
+no_zero b x h = chosen (int_eq b (pos 0)) (Err division_by_zero) x refl h
 
 result : (op : IntOp) (a b : ℤ) → FaultsByClass (int_result op a b)
 result int.Add a b = in_range (a +ℤ b)
@@ -42,7 +43,7 @@ of_minus (val.Int a) = in_range (neg_ℤ a)
 of_minus _ = tt
 
 pub of_small : (a : Value) → FaultsByClass (small a)
-of_small (val.Int n) = chosen (fits_small n) (Ok (val.Int n)) (Err (class (codes "22003"))) tt refl
+of_small (val.Int n) = chosen (fits_small n) (Ok (val.Int n)) (Err numeric_value_out_of_range) tt refl
 of_small _ = tt
 
 pub of_cast : (t : Ty) (a : Value) → FaultsByClass (cast t a)
@@ -54,7 +55,7 @@ of_cast ty.Text (val.Text t) = tt
 of_cast _ a = tt
 
 within : (t : List ℕ) → FaultsByClass (text_within t)
-within t = chosen (nat_le (sum_by bytes_of t) 1048576) (Ok (val.Text t)) (Err (class (codes "54000"))) tt refl
+within t = chosen (nat_le (sum_by bytes_of t) 1048576) (Ok (val.Text t)) (Err program_limit_exceeded) tt refl
 
 of_concat : (a b : Value) → FaultsByClass (concat a b)
 of_concat val.Null b = tt
@@ -62,7 +63,7 @@ of_concat a val.Null = tt
 of_concat a b = within (text_of_value a ++ text_of_value b)
 
 of_substr : (t p n : Value) → FaultsByClass (substr t p n)
-of_substr (val.Text t) (val.Int p) (val.Int n) = chosen (int_lt n (pos 0)) (Err (class (codes "22011"))) (Ok (val.Text (part p (p +ℤ n) (pos 1) t))) refl tt
+of_substr (val.Text t) (val.Int p) (val.Int n) = chosen (int_lt n (pos 0)) (Err substring_error) (Ok (val.Text (part p (p +ℤ n) (pos 1) t))) refl tt
 of_substr _ _ _ = tt
 
 pub of_texts : (op : TextOp) (args : List Value) → FaultsByClass (text_op op args)

@@ -18,11 +18,12 @@ use Rattle.away_values.specs.declared.operators.IntOp.{IntOp}
 use Rattle.away_values.specs.declared.operators.IntOp.TheVariants as int
 use Rattle.away_values.specs.declared.operators.CmpOp.{CmpOp}
 use Rattle.away_values.specs.Operators.{fits, fits_small, ranged, int_result, int_op, negated, compare, text_of_value, concat, cast, length_of, small, part, substr, text_within, bytes_of}
-use Rattle.away_values.specs.Results.{Or, class}
+use Rattle.away_values.specs.Results.{Or}
 use Rattle.away_values.specs.ValueLaws.{AreTyped}
 use Rattle.away_values.specs.Values.{HasType, IsTextValue, IsValue}
 use Rattle.away_values.specs.Words.{HasNoZero, IsWord}
 use Rattle.away_values.proofs.TextParts.{bytes_of-encodes, bytes_of-chars, HasNoZero-parts, HasNoZero-append, no_zero-signed, chars-signed, IsUtf8-signed, length-signed}
+use Rattle.away_values.specs.SqlStates.{division_by_zero, numeric_value_out_of_range, program_limit_exceeded, substring_error}
 
 same_value : (v r : Value) → ◌≡◌ {A = Or Value} (Ok v) (Ok r) → v ≡ r
 same_value v r e = cc
@@ -37,7 +38,7 @@ chosen t true v r c h e = along t v r e (h refl)
 chosen t false v r c h e = cc
 
 ranged-typed : (n : ℤ) (r : Value) → ranged n ≡ Ok r → HasType r ty.Bigint
-ranged-typed n r e = chosen ty.Bigint (fits n) (val.Int n) r (class (codes "22003")) (λ h. h) e
+ranged-typed n r e = chosen ty.Bigint (fits n) (val.Int n) r numeric_value_out_of_range (λ h. h) e
 
 unless_zero-ok : (b : Bool) (other : Or Value) (r : Value) (c : Class) → ◌≡◌ {A = Or Value} (if b then Err c else other) (Ok r) → other ≡ Ok r
 unless_zero-ok true other r c e = cc
@@ -47,8 +48,8 @@ int_result-typed : (op : IntOp) (a b : ℤ) (r : Value) → int_result op a b �
 int_result-typed int.Add a b r e = ranged-typed (a +ℤ b) r e
 int_result-typed int.Sub a b r e = ranged-typed (a -ℤ b) r e
 int_result-typed int.Mul a b r e = ranged-typed (a *ℤ b) r e
-int_result-typed int.Div a b r e = ranged-typed (int_div a b) r (unless_zero-ok (int_eq b (pos 0)) (ranged (int_div a b)) r (class (codes "22012")) e)
-int_result-typed int.Rem a b r e = ranged-typed (int_rem a b) r (unless_zero-ok (int_eq b (pos 0)) (ranged (int_rem a b)) r (class (codes "22012")) e)
+int_result-typed int.Div a b r e = ranged-typed (int_div a b) r (unless_zero-ok (int_eq b (pos 0)) (ranged (int_div a b)) r division_by_zero e)
+int_result-typed int.Rem a b r e = ranged-typed (int_rem a b) r (unless_zero-ok (int_eq b (pos 0)) (ranged (int_rem a b)) r division_by_zero e)
 
 int_op-typed : (op : IntOp) (a b r : Value) → int_op op a b ≡ Ok r → HasType r ty.Bigint
 int_op-typed op (val.Int a) (val.Int b) r e = int_result-typed op a b r e
@@ -66,7 +67,7 @@ negated-typed (val.Bool a) r e = along ty.Bigint val.Null r e tt
 negated-typed (val.Text a) r e = along ty.Bigint val.Null r e tt
 
 small-typed : (a r : Value) → small a ≡ Ok r → HasType r ty.Integer
-small-typed (val.Int n) r e = chosen ty.Integer (fits_small n) (val.Int n) r (class (codes "22003")) (λ h. h) e
+small-typed (val.Int n) r e = chosen ty.Integer (fits_small n) (val.Int n) r numeric_value_out_of_range (λ h. h) e
 small-typed val.Null r e = along ty.Integer val.Null r e tt
 small-typed (val.Bool a) r e = along ty.Integer val.Null r e tt
 small-typed (val.Text a) r e = along ty.Integer val.Null r e tt
@@ -139,7 +140,7 @@ text : (t : List ℕ) → AreCharacters t → sum_by bytes_of t ≤ 1048576 → 
 text t h s = record { characters = h.characters; no_zero = h.no_zero; short = s }
 
 text_within-typed : (t : List ℕ) (r : Value) → AreCharacters t → text_within t ≡ Ok r → HasType r ty.Text
-text_within-typed t r h e = chosen ty.Text (nat_le (sum_by bytes_of t) 1048576) (val.Text t) r (class (codes "54000")) (λ p. text t h (leb-true (sum_by bytes_of t) 1048576 p)) e
+text_within-typed t r h e = chosen ty.Text (nat_le (sum_by bytes_of t) 1048576) (val.Text t) r program_limit_exceeded (λ p. text t h (leb-true (sum_by bytes_of t) 1048576 p)) e
 
 both : (a b r : Value) → IsValue a → IsValue b → text_within (text_of_value a ++ text_of_value b) ≡ Ok r → HasType r ty.Text
 both a b r h g e = text_within-typed (text_of_value a ++ text_of_value b) r (append-characters (text_of_value a) (text_of_value b) (spelled-characters a h) (spelled-characters b g)) e
@@ -194,7 +195,7 @@ unless_negative true v r c h e = cc
 unless_negative false v r c h e = along ty.Text v r e h
 
 substr-typed : (t p n r : Value) → IsValue t → substr t p n ≡ Ok r → HasType r ty.Text
-substr-typed (val.Text t) (val.Int p) (val.Int n) r h e = unless_negative (int_lt n (pos 0)) (val.Text (part p (p +ℤ n) (pos 1) t)) r (class (codes "22011")) (part-text p (p +ℤ n) t h) e
+substr-typed (val.Text t) (val.Int p) (val.Int n) r h e = unless_negative (int_lt n (pos 0)) (val.Text (part p (p +ℤ n) (pos 1) t)) r substring_error (part-text p (p +ℤ n) t h) e
 substr-typed (val.Text t) (val.Int p) val.Null r h e = along ty.Text val.Null r e tt
 substr-typed (val.Text t) (val.Int p) (val.Bool n) r h e = along ty.Text val.Null r e tt
 substr-typed (val.Text t) (val.Int p) (val.Text n) r h e = along ty.Text val.Null r e tt

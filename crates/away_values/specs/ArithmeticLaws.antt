@@ -1,10 +1,11 @@
 -- What arithmetic on bigints gives, by whole numbers.
-use Rattle.std.specs.Prelude.{◌≡◌, ◌<◌, ℤ, pos, negsuc, ◌+ℤ◌, ◌-ℤ◌, ◌*ℤ◌, ◌≤ℤ◌, unsigned_abs, Ok, Err, codes}
+use Rattle.std.specs.Prelude.{◌≡◌, ◌<◌, ℤ, pos, negsuc, ◌+ℤ◌, ◌-ℤ◌, ◌*ℤ◌, ◌≤ℤ◌, unsigned_abs, Ok, Err}
 use Rattle.away_values.specs.declared.values.Value.{Value}
 use Rattle.away_values.specs.declared.values.Value.TheVariants as val
 use Rattle.away_values.specs.declared.operators.IntOp.TheVariants as int
 use Rattle.away_values.specs.Operators.{int_op}
-use Rattle.away_values.specs.Results.{Or, class}
+use Rattle.away_values.specs.Results.{Or}
+use Rattle.away_values.specs.SqlStates.{division_by_zero, numeric_value_out_of_range}
 
 -- a whole number from -9223372036854775808 to 9223372036854775807
 pub record IsBigint (n : ℤ) : Type 0 where
@@ -14,7 +15,7 @@ pub record IsBigint (n : ℤ) : Type 0 where
 -- the result is the whole number where that is a bigint, and 22003 where not
 pub record IsExactly (n : ℤ) (result : Or Value) : Type 0 where
   pub within : IsBigint n → result ≡ Ok (val.Int n)
-  pub beyond : (IsBigint n → ⊥) → result ≡ Err (class (codes "22003"))
+  pub beyond : (IsBigint n → ⊥) → result ≡ Err numeric_value_out_of_range
 
 pub record IsExact : Type 0 where
   pub sum : (a b : ℤ) → IsExactly (a +ℤ b) (int_op int.Add (val.Int a) (val.Int b))
@@ -30,6 +31,6 @@ pub record IsDivision (a b q r : ℤ) : Type 0 where
   pub not_above : a ≤ℤ pos 0 → r ≤ℤ pos 0
 
 pub record IsDivided : Type 0 where
-  pub by_zero : (a : ℤ) → int_op int.Div (val.Int a) (val.Int (pos 0)) ≡ Err (class (codes "22012"))
-  pub rest_by_zero : (a : ℤ) → int_op int.Rem (val.Int a) (val.Int (pos 0)) ≡ Err (class (codes "22012"))
+  pub by_zero : (a : ℤ) → int_op int.Div (val.Int a) (val.Int (pos 0)) ≡ Err division_by_zero
+  pub rest_by_zero : (a : ℤ) → int_op int.Rem (val.Int a) (val.Int (pos 0)) ≡ Err division_by_zero
   pub otherwise : (a b : ℤ) → (b ≡ pos 0 → ⊥) → (q : ℤ) × ((r : ℤ) × (IsDivision a b q r × IsExactly q (int_op int.Div (val.Int a) (val.Int b)) × IsExactly r (int_op int.Rem (val.Int a) (val.Int b))))

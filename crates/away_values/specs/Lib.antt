@@ -1,6 +1,7 @@
 pub mod Words
 pub mod Results
 pub mod Classes
+pub mod SqlStates
 pub mod Operators
 pub mod Values
 pub mod BigintSpellings

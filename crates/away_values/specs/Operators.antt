@@ -17,8 +17,9 @@ use Rattle.away_values.specs.declared.operators.TextOp.{TextOp}
 use Rattle.away_values.specs.declared.operators.TextOp.TheVariants as text
 use Rattle.away_values.specs.declared.operators.IsTest.{IsTest}
 use Rattle.away_values.specs.declared.operators.IsTest.TheVariants as test
-use Rattle.away_values.specs.Results.{Or, class}
+use Rattle.away_values.specs.Results.{Or}
 use Rattle.away_values.specs.Words.{longest_text}
+use Rattle.away_values.specs.SqlStates.{division_by_zero, numeric_value_out_of_range, program_limit_exceeded, substring_error}
 
 -- ---- arithmetic (Mathematical Functions and Operators; the classes are those of the appendix PostgreSQL Error Codes)
 
@@ -29,11 +30,11 @@ fits (negsuc n) = nat_lt n (2 ^ 63)
 
 -- the one test of range: 22003, numeric_value_out_of_range
 abbrev pub ranged : ℤ → Or Value
-ranged n = if fits n then Ok (val.Int n) else Err (class (codes "22003"))
+ranged n = if fits n then Ok (val.Int n) else Err numeric_value_out_of_range
 
 -- 22012, division_by_zero
 abbrev pub unless_zero : ℤ → Or Value → Or Value
-unless_zero b other = if int_eq b (pos 0) then Err (class (codes "22012")) else other
+unless_zero b other = if int_eq b (pos 0) then Err division_by_zero else other
 
 -- The operation on whole numbers, and then the test of range. Division rounds toward zero, and the remainder has the sign
 -- of the dividend: so the least bigint divided by -1 is out of range, and its remainder by -1 is 0.
@@ -138,7 +139,7 @@ text_of_value (val.Text t) = t
 
 -- A result that is longer than a text may be raises 54000, program_limit_exceeded.
 abbrev pub text_within : List ℕ → Or Value
-text_within t = if nat_le (sum_by bytes_of t) longest_text then Ok (val.Text t) else Err (class (codes "54000"))
+text_within t = if nat_le (sum_by bytes_of t) longest_text then Ok (val.Text t) else Err program_limit_exceeded
 
 -- `||`: NULL where an operand is NULL
 abbrev pub concat : Value → Value → Or Value
@@ -153,7 +154,7 @@ fits_small (negsuc n) = nat_lt n (2 ^ 31)
 
 -- a bigint as an integer
 abbrev pub small : Value → Or Value
-small (val.Int n) = if fits_small n then Ok (val.Int n) else Err (class (codes "22003"))
+small (val.Int n) = if fits_small n then Ok (val.Int n) else Err numeric_value_out_of_range
 small _ = Ok val.Null
 
 -- Casts (Value Expressions, Type Casts) go between equal types, to text, and to integer.
@@ -177,7 +178,7 @@ part p end at (c ∷ cs) = if not (int_lt at p) && int_lt at end then c ∷ part
 -- `substr(t, p, n)`: the characters at the places p ≤ k < p + n, of which the first of the text is 1. The sum p + n is a
 -- whole number and has no bound. A negative n raises 22011, substring_error. Arguments of 64 bits are our own choice.
 abbrev pub substr : Value → Value → Value → Or Value
-substr (val.Text t) (val.Int p) (val.Int n) = if int_lt n (pos 0) then Err (class (codes "22011")) else Ok (val.Text (part p (p +ℤ n) (pos 1) t))
+substr (val.Text t) (val.Int p) (val.Int n) = if int_lt n (pos 0) then Err substring_error else Ok (val.Text (part p (p +ℤ n) (pos 1) t))
 substr _ _ _ = Ok val.Null
 
 -- the operators on texts, by their operands; another number of operands never stands in a checked tree

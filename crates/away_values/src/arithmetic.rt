@@ -4,11 +4,8 @@ ghost use Rattle.std.specs.Prelude.{◌≡◌};
 ghost use Rattle.away_values.specs.Operators.{int_op as int_value, int_result as int_answer, small as small_value};
 
 use crate::operators::IntOp;
+use crate::sqlstate;
 use crate::values::{Class, Value};
-
-const OUT_OF_RANGE: Class = Class { code: *b"22003" };
-
-const DIVISION_BY_ZERO: Class = Class { code: *b"22012" };
 
 /// Applies the operator to two bigints; NULL where an operand is NULL (PostgreSQL manual, Mathematical Functions and
 /// Operators). 22003 is a result out of range, 22012 a zero divisor.
@@ -33,20 +30,20 @@ fn int_result(op: IntOp, a: i64, b: i64) -> Result<Value, Class>
         IntOp::Mul => a.checked_mul(b),
         IntOp::Div => {
             if b == 0 {
-                return Err(DIVISION_BY_ZERO);
+                return Err(sqlstate::DIVISION_BY_ZERO);
             }
             a.checked_div(b)
         }
         IntOp::Rem => {
             if b == 0 {
-                return Err(DIVISION_BY_ZERO);
+                return Err(sqlstate::DIVISION_BY_ZERO);
             }
             if b == -1 { Some(0) } else { a.checked_rem(b) }
         }
     };
     match exact {
         Some(n) => Ok(Value::Int(n)),
-        None => Err(OUT_OF_RANGE),
+        None => Err(sqlstate::NUMERIC_VALUE_OUT_OF_RANGE),
     }
 }
 
@@ -57,7 +54,7 @@ pub fn small(v: &Value) -> Result<Value, Class>
     match v {
         Value::Int(n) => match i32::try_from(*n) {
             Ok(_) => Ok(Value::Int(*n)),
-            Err(_) => Err(OUT_OF_RANGE),
+            Err(_) => Err(sqlstate::NUMERIC_VALUE_OUT_OF_RANGE),
         },
         _ => Ok(Value::Null),
     }

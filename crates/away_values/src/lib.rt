@@ -8,6 +8,7 @@ mod errors;
 mod from_text;
 mod operator_laws;
 mod operators;
+pub mod sqlstate;
 mod texts;
 mod types;
 mod values;

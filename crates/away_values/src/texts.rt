@@ -10,13 +10,10 @@ ghost use Rattle.away_values.specs.declared.values.Value.TheVariants as val;
 
 use crate::errors::{NoMemory, OpError};
 use crate::operators::TextOp;
-use crate::values::{Class, Value};
+use crate::sqlstate;
+use crate::values::Value;
 use crate::words::{LONGEST_TEXT, Word};
 use std::alloc::Global;
-
-const SUBSTRING_ERROR: OpError = OpError::Class(Class { code: *b"22011" });
-
-const LIMIT_EXCEEDED: OpError = OpError::Class(Class { code: *b"54000" });
 
 /// Applies the operator to its operands: two for `||`, one for `length` and for the cast, three for `substr`; NULL where one
 /// of them is NULL (PostgreSQL manual, String Functions and Operators). 22011 is a negative length of `substr`, 54000 a
@@ -96,7 +93,7 @@ fn text_within(text: String) -> Result<Value, OpError>
     ensures { Answers (within_value (chars (string_bytes text))) result }
 {
     if text.len() > LONGEST_TEXT {
-        return Err(LIMIT_EXCEEDED);
+        return Err(OpError::Class(sqlstate::PROGRAM_LIMIT_EXCEEDED));
     }
     Ok(Value::Text(Word::from_string(text)))
 }
@@ -148,7 +145,7 @@ fn part(alloc: Global, word: &Word, from: i64, count: i64) -> Result<Value, OpEr
     ensures { Answers (substr_value (val.Text word.now) (val.Int from) (val.Int count)) result }
 {
     if count < 0 {
-        return Err(SUBSTRING_ERROR);
+        return Err(OpError::Class(sqlstate::SUBSTRING_ERROR));
     }
     let skipped = places_before(from);
     let taken = places_before(from.saturating_add(count)) - skipped;

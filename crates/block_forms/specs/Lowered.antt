@@ -1,9 +1,9 @@
 -- The relation between a function and its goto form: each node's blocks have the node's pattern.
 use Rattle.std.specs.Prelude.{◌≡◌, ℕ, ◌+◌, ◌<◌, ◌≤◌, Bool, true, false, ◌||◌, List, [], ◌∷◌, ◌++◌, length, slice_get, Some, None, nat_eq}
 use Rattle.away_values.specs.declared.types.Ty.{Ty}
+use Rattle.away_values.specs.SqlStates.{function_executed_no_return_statement}
 use Rattle.away_trees.specs.declared.statements.Function.{Function}
 use Rattle.away_types.specs.declared.slots.Slot.{Slot}
-use Rattle.plsql_meaning.specs.Outcomes.{no_return}
 use Rattle.block_forms.specs.declared.places.Place.{Place}
 use Rattle.block_forms.specs.declared.places.Numbers.{Numbers}
 use Rattle.block_forms.specs.Forms.{Term, End, Jump, Branch, Return, Fail, Assignment, Block, Goto}
@@ -69,7 +69,7 @@ body_place f = place (length f.params) 0 (length f.params) 0
 abbrev pub parts_in : Setting → Function → List Part
 parts_in s f =
     shared s.goto.entry (jumps false (node s.goto 0))
-    ∷ shared s.goto.finish (fails no_return)
+    ∷ shared s.goto.finish (fails function_executed_no_return_statement)
     ∷ (params_parts s f.strict f.result 0 f.params ++ (laid f.body).parts s (body_place f) [] s.goto.finish)
 
 abbrev pub all_parts : Function → List Slot → Goto → List Part

@@ -2,10 +2,10 @@
 use Rattle.std.specs.Prelude.{ℕ, ◌+◌, ◌*◌, Bool, true, false, ◌&&◌, if◌then◌else◌, List, [], ◌∷◌, ◌++◌, slice_get, Option, Some, None, nat_eq}
 use Rattle.away_values.specs.declared.types.Ty.{Ty}
 use Rattle.away_values.specs.declared.types.Ty.TheVariants as ty
+use Rattle.away_values.specs.SqlStates.{invalid_parameter_value, null_value_not_allowed}
 use Rattle.away_trees.specs.declared.queries.Expr.{Expr}
 use Rattle.away_types.specs.declared.slots.Slot.{Slot}
 use Rattle.sql_meaning.specs.Reads.{slots_of}
-use Rattle.plsql_meaning.specs.Outcomes.{null_not_allowed, invalid_parameter}
 use Rattle.block_forms.specs.declared.places.Place.{Place}
 use Rattle.block_forms.specs.declared.places.Numbers.{Numbers}
 use Rattle.block_forms.specs.declared.fixed_list.Fixed.{Fixed}
@@ -157,7 +157,7 @@ module _ (g : Goto) (n : Numbers) where
   set_parts true t b slot e next =
       own b (sets slot e (jump_of g b))
       ∷ own (jump_of g b) (branches false (is_null n.fixed t slot) (yes_of g (jump_of g b)) next)
-      ∷ shared (yes_of g (jump_of g b)) (fails null_not_allowed)
+      ∷ shared (yes_of g (jump_of g b)) (fails null_value_not_allowed)
       ∷ []
 
   -- what is no slot of the function may be NULL
@@ -182,7 +182,7 @@ module _ (g : Goto) (n : Numbers) where
   bound_parts b slot e next =
       own b (sets slot e (jump_of g b))
       ∷ own (jump_of g b) (branches false (is_null n.fixed ty.Bigint slot) (yes_of g (jump_of g b)) next)
-      ∷ shared (yes_of g (jump_of g b)) (fails null_not_allowed)
+      ∷ shared (yes_of g (jump_of g b)) (fails null_value_not_allowed)
       ∷ []
 
   abbrev pub step_parts : Option Expr → ℕ → ℕ → ℕ → ℕ → List Part
@@ -190,7 +190,7 @@ module _ (g : Goto) (n : Numbers) where
   step_parts (Some e) k b step head =
       bound_parts b step (source_term k e) (no_of g (jump_of g b))
       ++ (own (no_of g (jump_of g b)) (branches false (not_positive n.fixed step) (yes_of g (no_of g (jump_of g b))) head)
-      ∷ shared (yes_of g (no_of g (jump_of g b))) (fails invalid_parameter)
+      ∷ shared (yes_of g (no_of g (jump_of g b))) (fails invalid_parameter_value)
       ∷ [])
 
   -- the head, the start of a turn, the test after a turn and the next counter

@@ -14,7 +14,7 @@ use Rattle.away_trees.specs.declared.statements.Function.{Function}
 use Rattle.away_types.specs.declared.slots.Slot.{Slot}
 use Rattle.away_values.specs.declared.values.Value.TheVariants as val
 use Rattle.away_values.specs.declared.values.Answer.TheVariants as answer
-use Rattle.plsql_meaning.specs.Outcomes.{no_return, null_not_allowed}
+use Rattle.away_values.specs.SqlStates.{function_executed_no_return_statement, null_value_not_allowed}
 use Rattle.block_forms.specs.Expressions.{expressions}
 use Rattle.block_forms.specs.Forms.{Goto}
 use Rattle.block_forms.specs.Frames.{frame_of}
@@ -52,7 +52,7 @@ sign_of_form = record {
       ∷ branches false (term 0 (0 ∷ [])) 2 3
       ∷ returns (term 1 [])
       ∷ returns (term 2 [])
-      ∷ fails no_return
+      ∷ fails function_executed_no_return_statement
       ∷ [];
 }
 
@@ -85,7 +85,7 @@ collatz_form = record {
   nodes = 2 ∷ 2 ∷ 2 ∷ 3 ∷ 4 ∷ 4 ∷ 5 ∷ 6 ∷ 6 ∷ 7 ∷ 8 ∷ [];
   blocks =
       jumps false 2
-      ∷ fails no_return
+      ∷ fails function_executed_no_return_statement
       ∷ sets 1 (term 0 []) 3
       ∷ branches true (term 1 (0 ∷ [])) 4 8
       ∷ branches false (term 2 (0 ∷ [])) 5 6
@@ -125,12 +125,12 @@ count_up_form = record {
   nodes = 2 ∷ 4 ∷ 4 ∷ 7 ∷ 14 ∷ 15 ∷ 19 ∷ [];
   blocks =
       jumps false 2
-      ∷ fails no_return
+      ∷ fails function_executed_no_return_statement
       ∷ branches false (term 9 (0 ∷ [])) 3 4
       ∷ returns (term 6 [])
       ∷ sets 1 (term 0 []) 5
       ∷ branches false (term 9 (1 ∷ [])) 6 7
-      ∷ fails null_not_allowed
+      ∷ fails null_value_not_allowed
       ∷ sets 3 (term 1 []) 8
       ∷ branches false (term 9 (3 ∷ [])) 6 9
       ∷ sets 4 (term 2 (0 ∷ [])) 10
@@ -167,7 +167,7 @@ shared_entry = record {
   nodes = 2 ∷ 2 ∷ 3 ∷ 4 ∷ 0 ∷ [];
   blocks =
       jumps false 2
-      ∷ fails no_return
+      ∷ fails function_executed_no_return_statement
       ∷ jumps true 3
       ∷ jumps true 4
       ∷ jumps false 3

@@ -11,6 +11,7 @@ use Rattle.away_values.specs.declared.values.Answer.{Answer}
 use Rattle.away_values.specs.declared.values.Answer.TheVariants as answer
 use Rattle.away_values.specs.declared.values.Value.{Value}
 use Rattle.away_values.specs.declared.values.Value.TheVariants as val
+use Rattle.away_values.specs.SqlStates.{function_executed_no_return_statement}
 use Rattle.block_forms.specs.declared.forms.End.{End}
 use Rattle.block_forms.specs.declared.forms.End.TheVariants as jump
 use Rattle.block_forms.specs.declared.forms.Term.{Term}
@@ -26,7 +27,6 @@ use Rattle.block_forms.specs.Machines.{ran}
 use Rattle.block_forms.specs.Patterns.{term}
 use Rattle.block_forms.specs.Runs.{Frame, ssa_runs}
 use Rattle.block_forms.specs.Worked.{bigint, sign_of, sign_of_form, collatz, collatz_form}
-use Rattle.plsql_meaning.specs.Outcomes.{no_return}
 use Rattle.call_forms.specs.Called.{Called}
 use Rattle.call_forms.specs.Columned.{Columned}
 use Rattle.call_forms.specs.Forms.{Call, CallEnd, Go, Pick, Return, Fail, AnfBlock, Anf, Tail}
@@ -51,7 +51,7 @@ sign_of_ssa = record {
       ∷ ssa_block ((0, 0) ∷ []) (jump.Branch (term 0 (0 ∷ [])) 2 3)
       ∷ ssa_block [] (jump.Return (term 1 []))
       ∷ ssa_block [] (jump.Return (term 2 []))
-      ∷ ssa_block [] (jump.Fail no_return)
+      ∷ ssa_block [] (jump.Fail function_executed_no_return_statement)
       ∷ [];
 }
 
@@ -68,7 +68,7 @@ sign_of_anf = record {
       ∷ anf_block (0 ∷ []) (Pick (term 0 (0 ∷ [])) (call 2 []) (call 3 []))
       ∷ anf_block [] (Return (term 1 []))
       ∷ anf_block [] (Return (term 2 []))
-      ∷ anf_block [] (Fail no_return)
+      ∷ anf_block [] (Fail function_executed_no_return_statement)
       ∷ [];
 }
 
@@ -89,7 +89,7 @@ abbrev pub collatz_anf : Anf
 collatz_anf = record {
   blocks =
       anf_block (0 ∷ []) (Go (call 2 (0 ∷ [])))
-      ∷ anf_block [] (Fail no_return)
+      ∷ anf_block [] (Fail function_executed_no_return_statement)
       ∷ sets_block (0 ∷ []) 1 (term 0 []) (call 3 (0 ∷ 1 ∷ []))
       ∷ anf_block (2 ∷ 3 ∷ []) (Pick (term 1 (2 ∷ [])) (call 4 (2 ∷ 3 ∷ [])) (call 8 (3 ∷ [])))
       ∷ anf_block (2 ∷ 3 ∷ []) (Pick (term 2 (2 ∷ [])) (call 5 (2 ∷ 3 ∷ [])) (call 6 (2 ∷ 3 ∷ [])))

@@ -17,7 +17,7 @@ use Rattle.away_types.specs.declared.slots.Slot.{Slot}
 use Rattle.away_values.specs.declared.types.Ty.{Ty}
 use Rattle.away_values.specs.declared.values.Class.{Class}
 use Rattle.away_values.specs.Classes.{is_class}
-use Rattle.plsql_meaning.specs.Outcomes.{case_not_found, raised_message}
+use Rattle.away_values.specs.SqlStates.{case_not_found, raise_exception}
 use Rattle.plsql_meaning.specs.Statements.{class_of}
 use Rattle.block_forms.specs.declared.forms.Block.{Block}
 use Rattle.block_forms.specs.declared.forms.Goto.{Goto}
@@ -52,7 +52,7 @@ fair_append (p ∷ ps) qs h k = (h.0, fair_append ps qs h.1 k)
 class_is : (t : List ℕ) → is_class (class_of (raised.State t)).code ≡ true
 class_is t = by (is_class t) refl
   where
-    by : (q : Bool) → is_class t ≡ q → is_class (if q then record { code = t } else raised_message).code ≡ true
+    by : (q : Bool) → is_class t ≡ q → is_class (if q then record { code = t } else raise_exception).code ≡ true
     by true h = h
     by false h = refl
 

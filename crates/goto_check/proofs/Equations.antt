@@ -1,5 +1,6 @@
 -- What each statement asks, by its parts.
 use Rattle.std.proofs.Common.{◌≡◌, ℕ, ◌+◌, Bool, false, List, [], ◌∷◌, length, Option, Some, None, refl}
+use Rattle.away_values.specs.SqlStates.{case_not_found}
 use Rattle.away_trees.specs.declared.queries.Expr.{Expr}
 use Rattle.away_trees.specs.declared.queries.Select.{Select}
 use Rattle.away_trees.specs.declared.statements.Arm.{Arm}
@@ -9,7 +10,7 @@ use Rattle.away_trees.specs.declared.statements.Raised.{Raised}
 use Rattle.away_trees.specs.declared.statements.Stmt.{Stmt}
 use Rattle.away_trees.specs.declared.statements.Stmt.TheVariants as stmt
 use Rattle.away_trees.proofs.StatementEquations.{of_block, of_loop, of_if, of_cases}
-use Rattle.plsql_meaning.specs.Outcomes.{Label, case_not_found}
+use Rattle.plsql_meaning.specs.Outcomes.{Label}
 use Rattle.plsql_meaning.specs.Statements.{class_of}
 use Rattle.block_forms.specs.Around.{exit_to, again_to}
 use Rattle.block_forms.specs.Patterns.{own, shared, never, source_term, jumps, returns, fails, node, leave_parts, exit_parts}

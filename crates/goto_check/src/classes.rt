@@ -4,14 +4,11 @@ ghost use Rattle.std.specs.Prelude.{◌≡◌, ◌∷◌, [], chars, length, byt
 ghost use Rattle.std.specs.List.{list_all};
 ghost use Rattle.away_values.specs.Classes.{is_class, is_class_char};
 ghost use Rattle.away_values.specs.Results.{class};
-ghost use Rattle.plsql_meaning.specs.Outcomes.{raised_message};
+ghost use Rattle.away_values.specs.SqlStates.{raise_exception};
 ghost use Rattle.plsql_meaning.specs.Statements as meaning;
 
 use away_trees::Raised;
-use away_values::Class;
-
-/// raise_exception
-const RAISED_MESSAGE: Class = Class { code: *b"P0001" };
+use away_values::{Class, sqlstate};
 
 fn length_of(text: &str) -> usize
     ensures { result ≡ length (chars text.now) }
@@ -54,12 +51,12 @@ fn of_bytes(bytes: &[u8]) -> Class
 }
 
 fn class_of_text(text: &str) -> Class
-    ensures { result ≡ (if is_class (chars text.now) then class (chars text.now) else raised_message) }
+    ensures { result ≡ (if is_class (chars text.now) then class (chars text.now) else raise_exception) }
 {
     if is_class(text) {
         of_bytes(text.as_bytes())
     } else {
-        RAISED_MESSAGE
+        sqlstate::RAISE_EXCEPTION
     }
 }
 
@@ -68,7 +65,7 @@ pub(crate) fn class_of(raised: &Raised) -> Class
     ensures { result ≡ meaning.class_of raised.now }
 {
     match raised {
-        Raised::Message(_) => RAISED_MESSAGE,
+        Raised::Message(_) => sqlstate::RAISE_EXCEPTION,
         Raised::State(code) => class_of_text(code.text()),
     }
 }

@@ -10,17 +10,14 @@ ghost use Rattle.goto_check.specs.Room.{here, Room};
 ghost use Rattle.goto_check.specs.Wanted.{wanted};
 
 use crate::asking::{Asking, Question, ask_own, ask_shared};
-use crate::patterns::{NULL_NOT_ALLOWED, entry_term, is_null, source_term};
+use crate::patterns::{entry_term, is_null, source_term};
 use crate::read::{after_bound, first_test, jump_of, no_of, node, yes_of};
 use crate::runs::{Run, join};
 use crate::shapes::{Reads, Shape, Wanted};
 use crate::spots::Spot;
 use away_trees::{Expr, LoopKind};
-use away_values::{Class, Ty};
+use away_values::{Ty, sqlstate};
 use block_forms::{Fixed, Goto};
-
-/// invalid_parameter_value
-const INVALID_PARAMETER: Class = Class { code: *b"22023" };
 
 /// A bound is set, and is not NULL.
 #[tactic(auto, using(crate::proofs::Telling::told_rules))]
@@ -35,7 +32,7 @@ fn ask_bound(a: &Asking<'_>, b: usize, slot: usize, want: &Wanted<'_>, next: usi
         ask_own(a, b, &Shape::Sets(slot, want, test)),
         join(
             ask_own(a, test, &Shape::Branch(false, &null, fault, next)),
-            ask_shared(a, fault, &Shape::Fail(NULL_NOT_ALLOWED)),
+            ask_shared(a, fault, &Shape::Fail(sqlstate::NULL_VALUE_NOT_ALLOWED)),
         ),
     )
 }
@@ -74,7 +71,7 @@ fn ask_step(
                 ask_bound(a, b, step, &source_term(expr, e), test),
                 join(
                     ask_own(a, test, &Shape::Branch(false, &not_positive, fault, head)),
-                    ask_shared(a, fault, &Shape::Fail(INVALID_PARAMETER)),
+                    ask_shared(a, fault, &Shape::Fail(sqlstate::INVALID_PARAMETER_VALUE)),
                 ),
             )
         }

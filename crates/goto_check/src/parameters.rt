@@ -17,10 +17,7 @@ use crate::shapes::Shape;
 use crate::spots::spot_of;
 use crate::stand::ask_statement;
 use away_trees::Function;
-use away_values::{Class, Name, Ty};
-
-/// no_return: a function ends without RETURN
-const NO_RETURN: Class = Class { code: *b"2F005" };
+use away_values::{Name, Ty, sqlstate};
 
 #[tactic(auto, using(crate::proofs::Telling::told_rules))]
 fn ask_param(a: &Asking<'_>, strict: bool, result_type: Ty, k: usize, ty: Ty) -> Run
@@ -69,7 +66,11 @@ pub(crate) fn ask_function(a: &Asking<'_>, f: &Function) -> Run
     let finish = a.goto.finish as usize;
     let start = node(a.goto, 0);
     let entry = ask_shared(a, a.goto.entry as usize, &Shape::Jump(false, start));
-    let end = ask_shared(a, finish, &Shape::Fail(NO_RETURN));
+    let end = ask_shared(
+        a,
+        finish,
+        &Shape::Fail(sqlstate::FUNCTION_EXECUTED_NO_RETURN_STATEMENT),
+    );
     let params = ask_params(a, f.strict, f.result, 0, f.params.as_slice());
     let inside = ask_statement(a, &f.body, body, &Enclosing::Outside, finish);
     join(entry, join(end, join(params, inside.run)))

@@ -13,11 +13,8 @@ use crate::runs::{Run, join};
 use crate::shapes::{Reads, Shape, Wanted};
 use away_trees::Expr;
 use away_types::Slot;
-use away_values::{Class, Ty};
+use away_values::{Ty, sqlstate};
 use block_forms::Fixed;
-
-/// null_value_not_allowed
-pub(crate) const NULL_NOT_ALLOWED: Class = Class { code: *b"22004" };
 
 /// An entry of the fixed list that reads these slots.
 pub(crate) fn entry_term<'a>(fixed: usize, entry: Fixed, reads: Reads<'a>) -> Wanted<'a>
@@ -74,7 +71,7 @@ fn ask_set(
             ask_own(a, b, &Shape::Sets(slot, want, test)),
             join(
                 ask_own(a, test, &Shape::Branch(false, &null, fault, next)),
-                ask_shared(a, fault, &Shape::Fail(NULL_NOT_ALLOWED)),
+                ask_shared(a, fault, &Shape::Fail(sqlstate::NULL_VALUE_NOT_ALLOWED)),
             ),
         )
     } else {

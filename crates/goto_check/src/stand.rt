@@ -25,11 +25,8 @@ use crate::sizes::{decl_size, decls_size, kind_size, size_of};
 use crate::spots::{Spot, after, spot_of};
 use away_trees::{Arm, Decl, Expr, LoopKind, Raised, Stmt};
 use away_types::Slot;
-use away_values::{Class, Name, Ty};
+use away_values::{Class, Name, Ty, sqlstate};
 use block_forms::Goto;
-
-/// case_not_found
-const CASE_NOT_FOUND: Class = Class { code: *b"20000" };
 
 /// The first block of so many nodes, or what follows where there is none.
 pub(crate) fn first_block(a: &Asking<'_>, many: usize, i: usize, next: usize) -> usize
@@ -200,7 +197,7 @@ pub(crate) fn ask_statement(
         Stmt::Cases(arms, other) => {
             let tested = ask_tests(a, arms.as_slice(), p, around, next);
             match other {
-                None => ask_lack(a, tested, Some(CASE_NOT_FOUND), next),
+                None => ask_lack(a, tested, Some(sqlstate::CASE_NOT_FOUND), next),
                 Some(body) => ask_else(a, tested, body.as_slice(), around, next),
             }
         }

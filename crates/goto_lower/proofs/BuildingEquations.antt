@@ -1,6 +1,7 @@
 -- What is built for a statement, by its parts.
 use Rattle.std.proofs.Common.{◌≡◌, ℕ, ◌+◌, Bool, List, [], ◌∷◌, map, Option, Some, None, refl, ap, ◌∙◌, true, false, arith}
 use Rattle.std.specs.Prelude.{slice_get}
+use Rattle.away_values.specs.SqlStates.{case_not_found}
 use Rattle.away_trees.specs.declared.queries.Expr.{Expr}
 use Rattle.away_trees.specs.declared.queries.Select.{Select}
 use Rattle.away_trees.specs.declared.statements.Arm.{Arm}
@@ -12,7 +13,7 @@ use Rattle.away_trees.specs.declared.statements.Stmt.{Stmt}
 use Rattle.away_trees.specs.declared.statements.Stmt.TheVariants as stmt
 use Rattle.away_trees.proofs.StatementEquations.{of_block, of_loop, of_if, of_cases}
 use Rattle.away_types.specs.declared.slots.Slot.{Slot}
-use Rattle.plsql_meaning.specs.Outcomes.{Label, case_not_found}
+use Rattle.plsql_meaning.specs.Outcomes.{Label}
 use Rattle.plsql_meaning.specs.Statements.{class_of}
 use Rattle.block_forms.specs.declared.places.Numbers.{Numbers}
 use Rattle.block_forms.specs.Around.{exit_to, again_to}

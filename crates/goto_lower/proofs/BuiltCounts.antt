@@ -3,6 +3,7 @@ use Rattle.std.proofs.Common.{◌≡◌, ℕ, ◌+◌, ◌*◌, Bool, true, fals
 use Rattle.std.specs.Prelude.{slice_get}
 use Rattle.away_values.specs.declared.types.Ty.{Ty}
 use Rattle.away_values.specs.declared.types.Ty.TheVariants as ty
+use Rattle.away_values.specs.SqlStates.{invalid_parameter_value, null_value_not_allowed}
 use Rattle.away_trees.specs.declared.queries.Expr.{Expr}
 use Rattle.away_trees.specs.declared.statements.LoopKind.TheVariants as kind
 use Rattle.away_trees.specs.declared.statements.Stmt.TheOpen as st
@@ -10,7 +11,7 @@ use Rattle.block_forms.specs.Around.{Around}
 use Rattle.block_forms.specs.declared.forms.Term.{Term}
 use Rattle.block_forms.specs.declared.forms.Block.{Block}
 use Rattle.block_forms.specs.Patterns.{source_term, is_null, not_positive, one, copy, in_range, leaves_range, moved, sets, branches, fails, own, shared, node, jump_of, yes_of, no_of, end_in, jump_in, yes_in, no_in, set_parts, bound_parts, step_parts, turn_parts, for_parts, after_bound, head_after, for_head, for_test}
-use Rattle.plsql_meaning.specs.Outcomes.{Label, null_not_allowed, invalid_parameter}
+use Rattle.plsql_meaning.specs.Outcomes.{Label}
 use Rattle.block_forms.specs.declared.places.Place.{Place}
 use Rattle.block_forms.specs.Slots.{slot}
 use Rattle.block_forms.specs.Laid.{Laid, Setting, after, place, first_block, row_parts, laying, one_if}
@@ -39,8 +40,8 @@ module _ (s : Setting) where
   second_is : (slot : ℕ) (e : Term) (b : ℕ) → Seg B b (Bound slot e b) → after_bound s.goto b ≡ b + 3
   second_is slot e b bs =
       let test = branches false (is_null S ty.Bigint slot) (b + 2) (b + 3) in
-      let h0 : slice_get B b ≡ Some (sets slot e (b + 1)) = seg_head B (test ∷ fails null_not_allowed ∷ []) (sets slot e (b + 1)) b bs in
-      let h1 : slice_get B (b + 1) ≡ Some test = seg_head B (fails null_not_allowed ∷ []) test (b + 1) (seg_tail B (test ∷ fails null_not_allowed ∷ []) (sets slot e (b + 1)) b bs) in
+      let h0 : slice_get B b ≡ Some (sets slot e (b + 1)) = seg_head B (test ∷ fails null_value_not_allowed ∷ []) (sets slot e (b + 1)) b bs in
+      let h1 : slice_get B (b + 1) ≡ Some test = seg_head B (fails null_value_not_allowed ∷ []) test (b + 1) (seg_tail B (test ∷ fails null_value_not_allowed ∷ []) (sets slot e (b + 1)) b bs) in
       ap (no_of s.goto) (ap (end_in jump_in) h0) ∙ ap (end_in no_in) h1
 
   bound_stands : (slot : ℕ) (e : Term) (b : ℕ) → Seg B b (Bound slot e b) → Fine B b 3 (bound_parts s.goto s.numbers b slot e (after_bound s.goto b))
@@ -52,13 +53,13 @@ module _ (s : Setting) where
   steps_stand (Some e) k slot head start bs =
       let bound = Bound slot (source_term k e) start in
       let test = branches false (not_positive S slot) (start + 3 + 1) head in
-      let b1 : Seg B start bound = seg_left B bound (test ∷ fails invalid_parameter ∷ []) start bs in
-      let b2 : Seg B (start + 3) (test ∷ fails invalid_parameter ∷ []) = seg_right B bound (test ∷ fails invalid_parameter ∷ []) start 3 refl bs in
-      let h : slice_get B (start + 3) ≡ Some test = seg_head B (fails invalid_parameter ∷ []) test (start + 3) b2 in
-      let f : slice_get B (start + 3 + 1) ≡ Some (fails invalid_parameter) = seg_head B [] (fails invalid_parameter) (start + 3 + 1) (seg_tail B (fails invalid_parameter ∷ []) test (start + 3) b2) in
+      let b1 : Seg B start bound = seg_left B bound (test ∷ fails invalid_parameter_value ∷ []) start bs in
+      let b2 : Seg B (start + 3) (test ∷ fails invalid_parameter_value ∷ []) = seg_right B bound (test ∷ fails invalid_parameter_value ∷ []) start 3 refl bs in
+      let h : slice_get B (start + 3) ≡ Some test = seg_head B (fails invalid_parameter_value ∷ []) test (start + 3) b2 in
+      let f : slice_get B (start + 3 + 1) ≡ Some (fails invalid_parameter_value) = seg_head B [] (fails invalid_parameter_value) (start + 3 + 1) (seg_tail B (fails invalid_parameter_value ∷ []) test (start + 3) b2) in
       let second : after_bound s.goto start ≡ start + 3 = second_is slot (source_term k e) start b1 in
       let y : yes_of s.goto (after_bound s.goto start) ≡ start + 3 + 1 = ap (yes_of s.goto) second ∙ ap (end_in yes_in) h in (
-        fine_join B (bound_parts s.goto s.numbers start slot (source_term k e) (after_bound s.goto start)) (own (after_bound s.goto start) (branches false (not_positive S slot) (yes_of s.goto (after_bound s.goto start)) head) ∷ shared (yes_of s.goto (after_bound s.goto start)) (fails invalid_parameter) ∷ []) start 3 2
+        fine_join B (bound_parts s.goto s.numbers start slot (source_term k e) (after_bound s.goto start)) (own (after_bound s.goto start) (branches false (not_positive S slot) (yes_of s.goto (after_bound s.goto start)) head) ∷ shared (yes_of s.goto (after_bound s.goto start)) (fails invalid_parameter_value) ∷ []) start 3 2
             (bound_stands slot (source_term k e) start b1) (
               (
                 ap (slice_get B) second ∙ h ∙ ap (λ k. Some (branches false (not_positive S slot) k head)) (sym y),

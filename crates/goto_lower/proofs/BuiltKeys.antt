@@ -4,6 +4,7 @@ use Rattle.std.specs.Prelude.{slice_get}
 use Rattle.away_values.specs.declared.types.Ty.{Ty}
 use Rattle.away_values.specs.declared.types.Ty.TheVariants as ty
 use Rattle.away_values.specs.declared.values.Class.{Class}
+use Rattle.away_values.specs.SqlStates.{case_not_found, invalid_parameter_value}
 use Rattle.away_trees.specs.declared.queries.Expr.{Expr}
 use Rattle.away_trees.specs.declared.statements.Decl.{Decl}
 use Rattle.away_trees.specs.declared.statements.LoopKind.TheVariants as kind
@@ -11,7 +12,7 @@ use Rattle.away_trees.specs.declared.statements.Stmt.{Stmt}
 use Rattle.away_trees.specs.declared.statements.Stmt.TheBlock as b
 use Rattle.away_trees.specs.StatementAlgebra.{stmt_of, stmts_of, branches_of}
 use Rattle.away_types.specs.declared.slots.Slot.{Slot}
-use Rattle.plsql_meaning.specs.Outcomes.{Label, case_not_found, invalid_parameter}
+use Rattle.plsql_meaning.specs.Outcomes.{Label}
 use Rattle.block_forms.specs.declared.forms.Block.{Block}
 use Rattle.block_forms.specs.declared.forms.Term.{Term}
 use Rattle.block_forms.specs.declared.places.Place.{Place}
@@ -190,7 +191,7 @@ module _ (n : Numbers) where
   step_keys : (by : Option Expr) (k slot head start : ℕ) → keys S (step_blocks n by k slot head start) ≡ []
   step_keys None k slot head start = refl
   step_keys (Some e) k slot head start =
-      keys_append S (bound_blocks n slot (source_term k e) start) (branches false (not_positive S slot) (start + 3 + 1) head ∷ fails invalid_parameter ∷ [])
+      keys_append S (bound_blocks n slot (source_term k e) start) (branches false (not_positive S slot) (start + 3 + 1) head ∷ fails invalid_parameter_value ∷ [])
       ∙ (λ i. set_keys true ty.Bigint slot (source_term k e) (start + 3) start i ++ (entry_key fix.NotPositive (slot ∷ []) (start + 3 + 1) head (λ h. absurd (omega arith)) (λ h. absurd (omega arith)) i ++ []))
 
   range_key : (reverse : Bool) (cur last y m : ℕ) → key S (Branch (in_range S reverse cur last) y m) ≡ []

@@ -4,13 +4,13 @@ use Rattle.std.specs.Prelude.{All}
 use Rattle.std.proofs.lemmas.List.{length-map}
 use Rattle.away_values.specs.declared.types.Ty.{Ty}
 use Rattle.away_values.specs.declared.types.Ty.TheVariants as ty
+use Rattle.away_values.specs.SqlStates.{function_executed_no_return_statement}
 use Rattle.away_trees.specs.declared.queries.Expr.{Expr}
 use Rattle.away_trees.specs.declared.statements.Function.{Function}
 use Rattle.away_trees.specs.Count.{weight, nodes, nodes_of, counting}
 use Rattle.away_trees.specs.StatementAlgebra.{stmt_of}
 use Rattle.away_types.specs.declared.slots.Slot.{Slot}
 use Rattle.sql_meaning.specs.Reads.{slots_of}
-use Rattle.plsql_meaning.specs.Outcomes.{no_return}
 use Rattle.block_forms.specs.declared.forms.Block.{Block}
 use Rattle.block_forms.specs.declared.forms.Goto.{Goto}
 use Rattle.block_forms.specs.declared.places.Numbers.{Numbers}
@@ -82,7 +82,7 @@ all_safe f slots owned =
     let params = param_blocks n.fixed f.strict f.result 0 f.params 2 first in
     let body = (body_of f slots).blocks (body_place f) [] finish (body_start f) in (
       safe_jump n (length slots) room false (param_first f.strict f.params 2 first) (params_first n (length slots) room f.strict f.params 2 first (omega arith) begins),
-      (safe_fail n (length slots) room no_return, every_join (Safe (length slots)) params body (params_safe n (length slots) room f.strict f.result 0 f.params 2 first (omega arith) (omega arith) begins) (body_safe f slots owned)),
+      (safe_fail n (length slots) room function_executed_no_return_statement, every_join (Safe (length slots)) params body (params_safe n (length slots) room f.strict f.result 0 f.params 2 first (omega arith) (omega arith) begins) (body_safe f slots owned)),
     )
 
 -- ---- the whole

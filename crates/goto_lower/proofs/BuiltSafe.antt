@@ -5,6 +5,7 @@ use Rattle.std.proofs.lemmas.Bool.{ne_eqb}
 use Rattle.away_values.specs.declared.types.Ty.{Ty}
 use Rattle.away_values.specs.declared.types.Ty.TheVariants as ty
 use Rattle.away_values.specs.declared.values.Class.{Class}
+use Rattle.away_values.specs.SqlStates.{case_not_found, invalid_parameter_value, null_value_not_allowed}
 use Rattle.away_trees.specs.declared.queries.Expr.{Expr}
 use Rattle.away_trees.specs.declared.statements.Decl.{Decl}
 use Rattle.away_trees.specs.declared.statements.LoopKind.TheVariants as kind
@@ -13,7 +14,7 @@ use Rattle.away_trees.specs.declared.statements.Stmt.TheBlock as b
 use Rattle.away_trees.specs.StatementAlgebra.{stmt_of, stmts_of, branches_of}
 use Rattle.away_types.specs.declared.slots.Slot.{Slot}
 use Rattle.sql_meaning.specs.Reads.{slots_of}
-use Rattle.plsql_meaning.specs.Outcomes.{Label, case_not_found, invalid_parameter, null_not_allowed, names_loop}
+use Rattle.plsql_meaning.specs.Outcomes.{Label, names_loop}
 use Rattle.plsql_meaning.specs.Statements.{class_of}
 use Rattle.block_forms.specs.declared.forms.Block.{Block}
 use Rattle.block_forms.specs.declared.forms.Term.{Term}
@@ -118,7 +119,7 @@ module _ (n : Numbers) (limit : ℕ) (room : n.counters ≤ limit) where
   set_safe : (strict : Bool) (t : Ty) (slot : ℕ) (e : Term) (next start : ℕ) → slot < limit → TermBelow limit e → 1 ≤ next → AllSafe (set_blocks n strict t slot e next start)
   set_safe false t slot e next start lt eb p = (safe_sets slot e next lt eb p, tt)
   set_safe true t slot e next start lt eb p =
-      (safe_sets slot e (start + 1) lt eb (omega arith), (safe_branch false (is_null n.fixed t slot) (start + 2) next (term_below (is_null n.fixed t slot) (lt, tt)) (omega arith) p, (safe_fail null_not_allowed, tt)))
+      (safe_sets slot e (start + 1) lt eb (omega arith), (safe_branch false (is_null n.fixed t slot) (start + 2) next (term_below (is_null n.fixed t slot) (lt, tt)) (omega arith) p, (safe_fail null_value_not_allowed, tt)))
 
   slot_safe : (o : Option Slot) (slot : ℕ) (e : Term) (next start : ℕ) → slot < limit → TermBelow limit e → 1 ≤ next → AllSafe (slot_blocks n o slot e next start)
   slot_safe None slot e next start lt eb p = set_safe false ty.Bigint slot e next start lt eb p
@@ -265,9 +266,9 @@ module _ (n : Numbers) (limit : ℕ) (room : n.counters ≤ limit) where
   step_safe : (by : Option Expr) (k slot head start : ℕ) → Every OwnReads (if_there by) → slot < limit → 1 ≤ head → AllSafe (step_blocks n by k slot head start)
   step_safe None k slot head start h lt p = (safe_sets slot (one n.fixed) head lt (term_below (one n.fixed) tt) p, tt)
   step_safe (Some e) k slot head start h lt p =
-      safe_join (bound_blocks n slot (source_term k e) start) (branches false (not_positive n.fixed slot) (start + 3 + 1) head ∷ fails invalid_parameter ∷ [])
+      safe_join (bound_blocks n slot (source_term k e) start) (branches false (not_positive n.fixed slot) (start + 3 + 1) head ∷ fails invalid_parameter_value ∷ [])
       (set_safe true ty.Bigint slot (source_term k e) (start + 3) start lt (source_below k e h.0) (omega arith))
-      (safe_branch false (not_positive n.fixed slot) (start + 3 + 1) head (term_below (not_positive n.fixed slot) (lt, tt)) (omega arith) p, (safe_fail invalid_parameter, tt))
+      (safe_branch false (not_positive n.fixed slot) (start + 3 + 1) head (term_below (not_positive n.fixed slot) (lt, tt)) (omega arith) p, (safe_fail invalid_parameter_value, tt))
 
   turn_safe : (reverse : Bool) (p : Place) (body next head : ℕ) → p.slot < n.counters → n.counters + 3 * (p.fors + 1) ≤ limit → 1 ≤ body → 1 ≤ next → 1 ≤ head → AllSafe (turn_blocks n reverse p body next head)
   turn_safe reverse p body next head lt h q r t =

@@ -4,6 +4,7 @@ use Rattle.std.specs.Prelude.{slice_get, nat_eq, if◌then◌else◌}
 use Rattle.std.proofs.lemmas.Bool.{ne_eqb}
 use Rattle.away_values.specs.declared.types.Ty.{Ty}
 use Rattle.away_values.specs.declared.types.Ty.TheVariants as ty
+use Rattle.away_values.specs.SqlStates.{null_value_not_allowed}
 use Rattle.away_trees.specs.declared.queries.Expr.{Expr}
 use Rattle.away_trees.specs.declared.statements.LoopKind.TheVariants as kind
 use Rattle.away_trees.specs.declared.statements.Raised.{Raised}
@@ -13,7 +14,7 @@ use Rattle.block_forms.specs.Around.{Around, exit_to, again_to}
 use Rattle.block_forms.specs.declared.forms.Term.{Term}
 use Rattle.block_forms.specs.declared.forms.Block.{Block}
 use Rattle.block_forms.specs.Patterns.{Part, own, source_term, is_null, sets, branches, jumps, fails, node, jump_of, yes_of, no_of, end_in, jump_in, yes_in, no_in, set_parts, slot_parts, leave_parts, exit_parts, never}
-use Rattle.plsql_meaning.specs.Outcomes.{Label, null_not_allowed}
+use Rattle.plsql_meaning.specs.Outcomes.{Label}
 use Rattle.block_forms.specs.declared.places.Place.{Place}
 use Rattle.block_forms.specs.Laid.{Laid, Setting, after, place, nothing, first_block, row_parts, laying, a_node, with_expr}
 use Rattle.block_forms.specs.Laid as l
@@ -70,10 +71,10 @@ module _ (s : Setting) where
   set_stands true t b slot e next bs =
       let B = s.goto.blocks in
       let test = branches false (is_null s.numbers.fixed t slot) (b + 2) next in
-      let h0 : slice_get B b ≡ Some (sets slot e (b + 1)) = seg_head B (test ∷ fails null_not_allowed ∷ []) _ b bs in
-      let s1 : Seg B (b + 1) (test ∷ fails null_not_allowed ∷ []) = seg_tail B (test ∷ fails null_not_allowed ∷ []) (sets slot e (b + 1)) b bs in
-      let h1 : slice_get B (b + 1) ≡ Some test = seg_head B (fails null_not_allowed ∷ []) test (b + 1) s1 in
-      let h2 : slice_get B (b + 1 + 1) ≡ Some (fails null_not_allowed) = seg_head B [] (fails null_not_allowed) (b + 1 + 1) (seg_tail B (fails null_not_allowed ∷ []) test (b + 1) s1) in
+      let h0 : slice_get B b ≡ Some (sets slot e (b + 1)) = seg_head B (test ∷ fails null_value_not_allowed ∷ []) _ b bs in
+      let s1 : Seg B (b + 1) (test ∷ fails null_value_not_allowed ∷ []) = seg_tail B (test ∷ fails null_value_not_allowed ∷ []) (sets slot e (b + 1)) b bs in
+      let h1 : slice_get B (b + 1) ≡ Some test = seg_head B (fails null_value_not_allowed ∷ []) test (b + 1) s1 in
+      let h2 : slice_get B (b + 1 + 1) ≡ Some (fails null_value_not_allowed) = seg_head B [] (fails null_value_not_allowed) (b + 1 + 1) (seg_tail B (fails null_value_not_allowed ∷ []) test (b + 1) s1) in
       let j : jump_of s.goto b ≡ b + 1 = ap (end_in jump_in) h0 in
       let y : yes_of s.goto (jump_of s.goto b) ≡ b + 2 = ap (yes_of s.goto) j ∙ ap (end_in yes_in) h1 in
       let two : b + 2 ≡ b + 1 + 1 = omega arith in

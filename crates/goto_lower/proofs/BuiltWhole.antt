@@ -4,13 +4,13 @@ use Rattle.std.specs.Prelude.{slice_get}
 use Rattle.std.proofs.lemmas.List.{length-map}
 use Rattle.away_values.specs.declared.types.Ty.{Ty}
 use Rattle.away_values.specs.declared.types.Ty.TheVariants as ty
+use Rattle.away_values.specs.SqlStates.{function_executed_no_return_statement}
 use Rattle.away_trees.specs.declared.statements.Function.{Function}
 use Rattle.away_trees.specs.StatementAlgebra.{stmt_of}
 use Rattle.away_types.specs.declared.slots.Slot.{Slot}
 use Rattle.block_forms.specs.declared.forms.Block.{Block}
 use Rattle.block_forms.specs.declared.forms.Goto.{Goto}
 use Rattle.block_forms.specs.Patterns.{shared, is_null, null_of, branches, jumps, returns, fails, node, yes_of, end_in, yes_in}
-use Rattle.plsql_meaning.specs.Outcomes.{no_return}
 use Rattle.block_forms.specs.declared.places.Numbers.{Numbers}
 use Rattle.block_forms.specs.Laid.{Setting, laid, laying}
 use Rattle.block_forms.specs.Slots.{has_into, seeking, slot, variables}
@@ -104,8 +104,8 @@ built_stands f slots owned found =
     let p_firsts = param_firsts f.strict f.params 2 first in
     let b_firsts = (body_of f slots).firsts (body_start f) 1 in
     let x0 = jumps false (param_first f.strict f.params 2 first) in
-    let b1 : Seg B (0 + 1) (fails no_return ∷ (params ++ body)) = seg_tail B (fails no_return ∷ (params ++ body)) x0 0 (whole B) in
-    let b2 : Seg B (0 + 1 + 1) (params ++ body) = seg_tail B (params ++ body) (fails no_return) (0 + 1) b1 in
+    let b1 : Seg B (0 + 1) (fails function_executed_no_return_statement ∷ (params ++ body)) = seg_tail B (fails function_executed_no_return_statement ∷ (params ++ body)) x0 0 (whole B) in
+    let b2 : Seg B (0 + 1 + 1) (params ++ body) = seg_tail B (params ++ body) (fails function_executed_no_return_statement) (0 + 1) b1 in
     let b3 : Seg B (body_start f) body = seg_right B params body 2 (param_many f.strict f.params) (params_length s f.result f.strict 0 f.params 2 first) b2 in
     let zero_more : 0 + length f.params ≡ length f.params = omega arith in
     let n1 : Seg N (length f.params) b_firsts = subst (λ i. Seg N i b_firsts) zero_more (seg_right N p_firsts b_firsts 0 (length f.params) (params_nodes s f.result f.strict f.params 2 first) (whole N)) in
@@ -118,9 +118,9 @@ built_stands f slots owned found =
     let k = (body_of f slots).many in
     let inside : Fine B 2 (m + k) (params_in ++ body_in) =
     fine_join B params_in body_in 2 m k (params_stand s f.result f.strict 0 f.params 2 first b_firsts (seg_left B params body 2 b2) (whole N) at_body) (g.stands (body_place f) [] 1 (body_start f) (omega arith) b3 n1 v1) in
-    let behind : Fine B 1 (1 + (m + k)) (shared 1 (fails no_return) ∷ (params_in ++ body_in)) = fine_shared B 1 (fails no_return) (params_in ++ body_in) 1 (m + k) refl refl inside in
+    let behind : Fine B 1 (1 + (m + k)) (shared 1 (fails function_executed_no_return_statement) ∷ (params_in ++ body_in)) = fine_shared B 1 (fails function_executed_no_return_statement) (params_in ++ body_in) 1 (m + k) refl refl inside in
     let all : Fine B 0 (1 + (1 + (m + k))) (all_parts f slots (built f slots)) =
-    fine_shared B 0 (jumps false (node s.goto 0)) (shared 1 (fails no_return) ∷ (params_in ++ body_in)) 0 (1 + (m + k)) refl (ap (λ k. Some (jumps false k)) (sym at_entry)) behind in
+    fine_shared B 0 (jumps false (node s.goto 0)) (shared 1 (fails function_executed_no_return_statement) ∷ (params_in ++ body_in)) 0 (1 + (m + k)) refl (ap (λ k. Some (jumps false k)) (sym at_entry)) behind in
     let long : 1 + (1 + (m + k)) ≡ length B = omega (arith, length-append params body, params_length s f.result f.strict 0 f.params 2 first, g.many_is (body_place f) [] 1 (body_start f)) in
     fine_many B (all_parts f slots (built f slots)) 0 (1 + (1 + (m + k))) (length B) long all
 

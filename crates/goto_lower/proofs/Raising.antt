@@ -3,9 +3,9 @@ use Rattle.std.proofs.Common.{◌≡◌, refl, ℕ, Bool, true, false, if◌then
 use Rattle.away_values.specs.declared.values.Class.{Class}
 use Rattle.away_values.specs.Classes.{is_class}
 use Rattle.away_values.specs.Results.{class}
+use Rattle.away_values.specs.SqlStates.{raise_exception}
 use Rattle.away_trees.specs.declared.statements.Raised.TheVariants as raised
 use Rattle.sql_eval.specs.Classes.{class_told}
-use Rattle.plsql_meaning.specs.Outcomes.{raised_message}
 use Rattle.plsql_meaning.specs.Statements.{class_of}
 
 abbrev no_class : Option Class
@@ -15,15 +15,15 @@ pub state_told : (t : List ℕ) (c : Class) → class_told t ≡ Some c → clas
 unfolding class_told
 state_told t c h = by (is_class t) h
   where
-    by : (b : Bool) → (if b then Some (class t) else None) ≡ Some c → (if b then class t else raised_message) ≡ c
+    by : (b : Bool) → (if b then Some (class t) else None) ≡ Some c → (if b then class t else raise_exception) ≡ c
     by true e = cc
     by false e = cc
 
-pub message_told : (t : List ℕ) → class_told t ≡ None → class_of (raised.State t) ≡ raised_message
+pub message_told : (t : List ℕ) → class_told t ≡ None → class_of (raised.State t) ≡ raise_exception
 unfolding class_told
 message_told t h = by (is_class t) h
   where
-    by : (b : Bool) → (if b then Some (class t) else None) ≡ no_class → (if b then class t else raised_message) ≡ raised_message
+    by : (b : Bool) → (if b then Some (class t) else None) ≡ no_class → (if b then class t else raise_exception) ≡ raise_exception
     by true e = cc
     by false e = refl
 

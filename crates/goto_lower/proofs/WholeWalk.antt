@@ -1,9 +1,9 @@
 -- The form that is pushed for a function is the one that is built for it.
 use Rattle.std.proofs.Common.{◌≡◌, ℕ, zero, suc, ◌+◌, Bool, true, false, List, [], ◌∷◌, ◌++◌, length, Option, Some, None, refl, sym, ap, ◌∙◌, arith, length-append, append_assoc, append-nil}
 use Rattle.away_values.specs.declared.types.Ty.{Ty}
+use Rattle.away_values.specs.SqlStates.{function_executed_no_return_statement}
 use Rattle.away_trees.specs.declared.statements.Function.{Function}
 use Rattle.away_types.specs.declared.slots.Slot.{Slot}
-use Rattle.plsql_meaning.specs.Outcomes.{no_return}
 use Rattle.block_forms.specs.declared.forms.Block.{Block}
 use Rattle.block_forms.specs.declared.forms.Goto.{Goto}
 use Rattle.block_forms.specs.declared.places.Numbers.{Numbers}
@@ -123,7 +123,7 @@ first_entry false ps tests body on off = ap (λ k. first_from k 2 body) (off ref
 pub whole_is : (f : Function) (slots : List Slot) (body entry tests : ℕ) (d1 d2 d3 d4 : Draft) →
     (f.strict ≡ true → tests ≡ length f.params) → (f.strict ≡ false → tests ≡ 0) →
     body ≡ first_from (body_of f slots).many (body_start f) finish → entry ≡ first_from tests 2 body →
-    d1 ≡ pushed (jumps false entry) empty → d2 ≡ pushed (fails no_return) d1 → d3 ≡ begun_params (numbers_of f) f.strict f.result f.params body d2 → d4 ≡ emitted (body_of f slots) [] finish d3 →
+    d1 ≡ pushed (jumps false entry) empty → d2 ≡ pushed (fails function_executed_no_return_statement) d1 → d3 ≡ begun_params (numbers_of f) f.strict f.result f.params body d2 → d4 ≡ emitted (body_of f slots) [] finish d3 →
     form_of d4 ≡ built f slots
 unfolding built_of emitted begun_params extended
 whole_is f slots body entry tests d1 d2 d3 d4 on off body_is entry_is e1 e2 e3 e4 =
@@ -132,8 +132,8 @@ whole_is f slots body entry tests d1 d2 d3 d4 on off body_is entry_is e1 e2 e3 e
     let at_body : body ≡ first = body_is ∙ sym ((counted n slots finish f.body).first_is (body_start f) finish) in
     let at_entry : entry ≡ param_first f.strict f.params 2 first = entry_is ∙ first_entry f.strict f.params tests body on off ∙ ap (λ k. param_first f.strict f.params 2 k) at_body in
     let params = param_blocks n.fixed f.strict f.result 0 f.params 2 first in
-    let z = begun_params n f.strict f.result f.params first (pushed (fails no_return) (pushed (jumps false (param_first f.strict f.params 2 first)) empty)) in
+    let z = begun_params n f.strict f.result f.params first (pushed (fails function_executed_no_return_statement) (pushed (jumps false (param_first f.strict f.params 2 first)) empty)) in
     let long : length z.blocks ≡ body_start f = omega (arith, params_long n.fixed f.strict f.result 0 f.params 2 first) in
     let here : z.place ≡ body_place f = same_place _ _ _ _ _ _ _ _ (omega arith) (omega arith) (omega arith) (omega arith) in
-    ap form_of (e4 ∙ ap (λ d. emitted (body_of f slots) [] finish d) (e3 ∙ (λ i. begun_params n f.strict f.result f.params (at_body i) ((e2 ∙ ap (λ d. pushed (fails no_return) d) (e1 ∙ ap (λ k. pushed (jumps false k) empty) at_entry)) i))))
+    ap form_of (e4 ∙ ap (λ d. emitted (body_of f slots) [] finish d) (e3 ∙ (λ i. begun_params n f.strict f.result f.params (at_body i) ((e2 ∙ ap (λ d. pushed (fails function_executed_no_return_statement) d) (e1 ∙ ap (λ k. pushed (jumps false k) empty) at_entry)) i))))
     ∙ (λ i. record { entry = 0; finish = finish; nodes = z.nodes ++ (body_of f slots).firsts (long i) finish; blocks = z.blocks ++ (body_of f slots).blocks (here i) [] finish (long i) })

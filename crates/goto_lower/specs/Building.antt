@@ -3,6 +3,7 @@ use Rattle.std.specs.Prelude.{ℕ, zero, suc, ◌+◌, ◌*◌, Bool, true, fals
 use Rattle.away_values.specs.declared.types.Ty.{Ty}
 use Rattle.away_values.specs.declared.types.Ty.TheVariants as ty
 use Rattle.away_values.specs.declared.values.Class.{Class}
+use Rattle.away_values.specs.SqlStates.{case_not_found, invalid_parameter_value, null_value_not_allowed}
 use Rattle.away_trees.specs.declared.queries.Expr.{Expr}
 use Rattle.away_trees.specs.declared.statements.Arm.{Arm}
 use Rattle.away_trees.specs.declared.statements.Decl.{Decl}
@@ -13,7 +14,7 @@ use Rattle.away_trees.specs.declared.statements.Stmt.TheOpen.{Stmt-F, Arm-F}
 use Rattle.away_trees.specs.declared.statements.Stmt.TheOpen as st
 use Rattle.away_trees.specs.StatementAlgebra.{StatementAlgebra, stmt_of, branch_of}
 use Rattle.away_types.specs.declared.slots.Slot.{Slot}
-use Rattle.plsql_meaning.specs.Outcomes.{Label, invalid_parameter, null_not_allowed, case_not_found}
+use Rattle.plsql_meaning.specs.Outcomes.{Label}
 use Rattle.plsql_meaning.specs.Statements.{class_of}
 use Rattle.block_forms.specs.declared.places.Place.{Place}
 use Rattle.block_forms.specs.declared.places.Numbers.{Numbers}
@@ -111,7 +112,7 @@ module _ (n : Numbers) where
   abbrev pub set_blocks : Bool → Ty → ℕ → Term → ℕ → ℕ → List Block
   set_blocks false t slot e next start = sets slot e next ∷ []
   set_blocks true t slot e next start =
-      sets slot e (start + 1) ∷ branches false (is_null n.fixed t slot) (start + 2) next ∷ fails null_not_allowed ∷ []
+      sets slot e (start + 1) ∷ branches false (is_null n.fixed t slot) (start + 2) next ∷ fails null_value_not_allowed ∷ []
 
   abbrev pub slot_blocks : Option Slot → ℕ → Term → ℕ → ℕ → List Block
   slot_blocks None slot e next start = set_blocks false ty.Bigint slot e next start
@@ -271,7 +272,7 @@ module _ (n : Numbers) where
   step_blocks None k slot head start = sets slot (one n.fixed) head ∷ []
   step_blocks (Some e) k slot head start =
       bound_blocks slot (source_term k e) start
-      ++ (branches false (not_positive n.fixed slot) (start + 3 + 1) head ∷ fails invalid_parameter ∷ [])
+      ++ (branches false (not_positive n.fixed slot) (start + 3 + 1) head ∷ fails invalid_parameter_value ∷ [])
 
   abbrev pub cur_at : Place → ℕ
   cur_at p = n.counters + 3 * p.fors

@@ -1,9 +1,9 @@
 -- The goto form that is built for a function: its entry, the block behind the body, the tests of STRICT, and the body.
 use Rattle.std.specs.Prelude.{ℕ, ◌+◌, Bool, true, false, List, [], ◌∷◌, ◌++◌}
 use Rattle.away_values.specs.declared.types.Ty.{Ty}
+use Rattle.away_values.specs.SqlStates.{function_executed_no_return_statement}
 use Rattle.away_trees.specs.declared.statements.Function.{Function}
 use Rattle.away_types.specs.declared.slots.Slot.{Slot}
-use Rattle.plsql_meaning.specs.Outcomes.{no_return}
 use Rattle.block_forms.specs.declared.forms.Block.{Block}
 use Rattle.block_forms.specs.declared.forms.Goto.{Goto}
 use Rattle.block_forms.specs.Lowered.{numbers_of, body_place}
@@ -57,7 +57,7 @@ built f slots = record {
   nodes = param_firsts f.strict f.params 2 (body_first f slots) ++ (body_of f slots).firsts (body_start f) finish;
   blocks =
       jumps false (param_first f.strict f.params 2 (body_first f slots))
-      ∷ fails no_return
+      ∷ fails function_executed_no_return_statement
       ∷ (param_blocks (numbers_of f).fixed f.strict f.result 0 f.params 2 (body_first f slots)
       ++ (body_of f slots).blocks (body_place f) [] finish (body_start f));
 }

@@ -6,7 +6,6 @@ ghost use Rattle.block_forms.specs.declared.places.Numbers.{Numbers};
 ghost use Rattle.goto_lower.specs.Building as spec;
 ghost use Rattle.goto_lower.specs.Drafts.{extended, declared, all_declared};
 
-use crate::classes::NULL_NOT_ALLOWED;
 use crate::counts::set_many;
 use crate::draft::Draft;
 use crate::own_blocks::first_of;
@@ -16,7 +15,7 @@ use crate::sums::sum;
 use crate::terms::{is_null, null_of, source_term};
 use away_trees::{Decl, Expr};
 use away_types::Slot;
-use away_values::{NoMemory, Ty};
+use away_values::{NoMemory, Ty, sqlstate};
 use block_forms::{Numbers, Term};
 use std::alloc::Global;
 
@@ -46,7 +45,7 @@ pub(crate) fn push_set(
         let test = is_null(alloc, numbers.fixed, ty, slot)?;
         draft.push(sets(slot, term, sum(start, 1)?))?;
         draft.push(branches(false, test, sum(start, 2)?, next))?;
-        draft.push(fails(NULL_NOT_ALLOWED))
+        draft.push(fails(sqlstate::NULL_VALUE_NOT_ALLOWED))
     } else {
         draft.push(sets(slot, term, next))
     }

@@ -5,7 +5,6 @@ ghost use Rattle.goto_lower.specs.Building as spec;
 ghost use Rattle.goto_lower.specs.Drafts.{extended, count_begun};
 
 use crate::assignments::{Target, push_set};
-use crate::classes::INVALID_PARAMETER;
 use crate::counts::step_many;
 use crate::draft::Draft;
 use crate::shapes::{branches, fails, sets};
@@ -13,7 +12,7 @@ use crate::sizes::count_size;
 use crate::sums::sum;
 use crate::terms::{copy, in_range, leaves_range, moved, not_positive, one, source_term};
 use away_trees::Expr;
-use away_values::{NoMemory, Ty};
+use away_values::{NoMemory, Ty, sqlstate};
 use block_forms::{Numbers, Place, Term};
 use std::alloc::Global;
 
@@ -79,7 +78,7 @@ fn push_step(
             push_bound(alloc, numbers, draft, slot, source_term(alloc, k, e)?)?;
             let wrong = not_positive(alloc, numbers.fixed, slot)?;
             draft.push(branches(false, wrong, fault, head))?;
-            draft.push(fails(INVALID_PARAMETER))
+            draft.push(fails(sqlstate::INVALID_PARAMETER_VALUE))
         }
     }
 }

@@ -7,7 +7,6 @@ ghost use Rattle.goto_lower.specs.Drafts.{begun_params};
 ghost use Rattle.goto_lower.specs.Whole.{built};
 ghost use Rattle.goto_lower.specs.Whole as spec;
 
-use crate::classes::NO_RETURN;
 use crate::counts::statement_many;
 use crate::draft::Draft;
 use crate::enclosing::Enclosing;
@@ -20,7 +19,7 @@ use crate::sums::{place, sum};
 use crate::terms::{is_null, null_of};
 use away_trees::Function;
 use away_types::{CheckedFunction, Slot};
-use away_values::{Name, NoMemory, Ty};
+use away_values::{Name, NoMemory, Ty, sqlstate};
 use block_forms::{Goto, Numbers};
 use function_slots::checked_functions_own_their_slots;
 use sqlite_items::Items;
@@ -102,7 +101,7 @@ pub(crate) fn lowered(alloc: Global, f: &Function, slots: &[Slot]) -> Result<Got
     let tests = if f.strict { f.params.len() } else { 0 };
     let entry = first_of(tests, 2, body);
     draft.push(jumps(false, entry))?;
-    draft.push(fails(NO_RETURN))?;
+    draft.push(fails(sqlstate::FUNCTION_EXECUTED_NO_RETURN_STATEMENT))?;
     push_params(alloc, numbers, &mut draft, f, body)?;
     let flow = Flow {
         around: &Enclosing::Outside,

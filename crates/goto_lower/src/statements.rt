@@ -1,13 +1,12 @@
 //! The blocks of statements.
 
 ghost use Rattle.std.specs.Prelude.{◌≡◌, ◌+◌, IfOk, OnOk, Some, None, length};
-ghost use Rattle.plsql_meaning.specs.Outcomes.{case_not_found};
+ghost use Rattle.away_values.specs.SqlStates.{case_not_found};
 ghost use Rattle.goto_lower.specs.Building as spec;
 ghost use Rattle.goto_lower.specs.Drafts.{statement_in, row_in, arms_in, emitted, emitted_row, emitted_arms, begun, tested, inside};
 ghost use Rattle.block_forms.specs.Laid.{a_node};
 ghost use Rattle.goto_lower.specs.Enclosings.{frames_of};
 
-use crate::classes::CASE_NOT_FOUND;
 use crate::counted::{Bounds, head_at, push_count};
 use crate::counts::{arms_many, row_many, statement_many};
 use crate::draft::Draft;
@@ -20,7 +19,7 @@ use crate::setting::Setting;
 use crate::shapes::fails;
 use crate::sums::{place, sum};
 use away_trees::{Arm, LoopKind, Stmt};
-use away_values::{Name, NoMemory};
+use away_values::{Name, NoMemory, sqlstate};
 use std::alloc::Global;
 
 /// The number of the block behind the body.
@@ -230,7 +229,7 @@ fn push_cases(
 {
     let lack = sum(draft.here()?, arms_many(setting, arms)?)?;
     push_tests(alloc, setting, draft, arms, flow, lack)?;
-    draft.push(fails(CASE_NOT_FOUND))
+    draft.push(fails(sqlstate::CASE_NOT_FOUND))
 }
 
 /// The statements of a loop's body, whose next turn begins at `again`.

@@ -6,11 +6,9 @@ ghost use Rattle.sql_meaning.specs.Selects.{taken};
 ghost use Rattle.lateral_rows.specs.RowParts.{rows_of};
 
 use crate::rows::{Rows, copy_rows};
-use away_values::{Class, NoMemory, OpError, Value};
+use away_values::{NoMemory, OpError, Value, sqlstate};
 use sqlite_items::Items;
 use std::alloc::Global;
-
-const NEGATIVE_LIMIT: Class = Class { code: *b"2201W" };
 
 /// The first rows, as many as LIMIT says.
 pub fn cut(alloc: Global, rows: &Rows, limit: &Value) -> Result<Rows, OpError>
@@ -20,7 +18,7 @@ pub fn cut(alloc: Global, rows: &Rows, limit: &Value) -> Result<Rows, OpError>
     match limit {
         Value::Int(n) => {
             if *n < 0 {
-                return Err(OpError::Class(NEGATIVE_LIMIT));
+                return Err(OpError::Class(sqlstate::INVALID_ROW_COUNT_IN_LIMIT_CLAUSE));
             }
             let list = copy_first(alloc, list, *n as usize)?;
             Ok(Rows { list })
@@ -53,7 +51,7 @@ pub fn cut_off(rows: Items<Items<Value>>, limit: &Value) -> Result<Items<Items<V
     match limit {
         Value::Int(n) => {
             if *n < 0 {
-                return Err(OpError::Class(NEGATIVE_LIMIT));
+                return Err(OpError::Class(sqlstate::INVALID_ROW_COUNT_IN_LIMIT_CLAUSE));
             }
             Ok(first_rows(*n as usize, rows))
         }

@@ -7,9 +7,7 @@ ghost use Rattle.away_values.specs.Results.{Answers};
 ghost use Rattle.away_values.specs.declared.values.Value.TheVariants as val;
 ghost use Rattle.lateral_rows.specs.Folds.{has_int, whole_sum, is_int as is_integer};
 
-use away_values::{Class, OpError, Value};
-
-const OUT_OF_RANGE: Class = Class { code: *b"22003" };
+use away_values::{OpError, Value, sqlstate};
 
 /// The sum of the integers of a column, NULL over none. Its range is tested once, at the end.
 pub(crate) fn sum(column: &[Value]) -> Result<Value, OpError>
@@ -20,7 +18,7 @@ pub(crate) fn sum(column: &[Value]) -> Result<Value, OpError>
     }
     match i64::try_from(total(column)) {
         Ok(n) => Ok(Value::Int(n)),
-        Err(_) => Err(OpError::Class(OUT_OF_RANGE)),
+        Err(_) => Err(OpError::Class(sqlstate::NUMERIC_VALUE_OUT_OF_RANGE)),
     }
 }
 

@@ -2,9 +2,9 @@
 use Rattle.std.proofs.Common.{◌≡◌, ℕ, suc, ◌+◌, ◌<◌, Bool, true, false, List, [], ◌∷◌, length, sym, subst, arith}
 use Rattle.std.specs.List.{range_with_len}
 use Rattle.away_values.specs.declared.types.Ty.{Ty}
+use Rattle.away_values.specs.SqlStates.{function_executed_no_return_statement}
 use Rattle.away_trees.specs.declared.statements.Function.{Function}
 use Rattle.away_types.specs.declared.slots.Slot.{Slot}
-use Rattle.plsql_meaning.specs.Outcomes.{no_return}
 use Rattle.slots_in_sight.specs.InSight.{AllInSight}
 use Rattle.block_forms.specs.declared.forms.Goto.{Goto}
 use Rattle.block_forms.specs.declared.forms.Term.{Term}
@@ -57,7 +57,7 @@ module _ (f : Function) (slots : List Slot) (seen : AllInSight f) (g : Goto) (lo
   body_row = (laid f.body).parts s (body_place f) [] g.finish
 
   finish_safe : (k : ℕ) → Safe g.blocks k g.finish V
-  finish_safe k = safe_fail g.blocks k g.finish no_return V low.stand.1.0
+  finish_safe k = safe_fail g.blocks k g.finish function_executed_no_return_statement V low.stand.1.0
 
   body_safe : (k : ℕ) → Safe g.blocks k (node g params) V
   unfolding laid

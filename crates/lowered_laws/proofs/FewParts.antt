@@ -2,6 +2,7 @@
 use Rattle.std.proofs.Common.{ℕ, ◌+◌, ◌*◌, ◌≤◌, Bool, true, false, List, [], ◌∷◌, length, Option, Some, None, arith}
 use Rattle.std.specs.Prelude.{slice_get, sum}
 use Rattle.away_values.specs.declared.types.Ty.{Ty}
+use Rattle.away_values.specs.SqlStates.{case_not_found}
 use Rattle.away_trees.specs.declared.queries.Expr.{Expr}
 use Rattle.away_trees.specs.declared.statements.Decl.{Decl}
 use Rattle.away_trees.specs.declared.statements.Function.{Function}
@@ -12,7 +13,6 @@ use Rattle.away_trees.specs.declared.statements.Stmt.TheBlock as b
 use Rattle.away_trees.specs.Count.{counting, nodes, nodes_of, weight}
 use Rattle.away_trees.specs.StatementAlgebra.{stmt_of, stmts_of, branches_of}
 use Rattle.away_types.specs.declared.slots.Slot.{Slot}
-use Rattle.plsql_meaning.specs.Outcomes.{case_not_found}
 use Rattle.block_forms.specs.declared.forms.Goto.{Goto}
 use Rattle.block_forms.specs.declared.forms.Term.{Term}
 use Rattle.block_forms.specs.declared.places.Numbers.{Numbers}

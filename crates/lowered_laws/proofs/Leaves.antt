@@ -2,13 +2,14 @@
 use Rattle.std.proofs.Common.{◌≡◌, ℕ, ◌+◌, Bool, true, false, List, [], ◌∷◌, Option, Some, None, slice_get, refl, inl, inr, subst, arith}
 use Rattle.away_values.specs.declared.types.Ty.{Ty}
 use Rattle.away_values.specs.declared.types.Ty.TheVariants as ty
+use Rattle.away_values.specs.SqlStates.{null_value_not_allowed}
 use Rattle.away_trees.specs.declared.queries.Expr.{Expr}
 use Rattle.away_trees.specs.declared.queries.Select.{Select}
 use Rattle.away_trees.specs.declared.statements.Raised.{Raised}
 use Rattle.away_trees.specs.declared.statements.Stmt.TheOpen.{Stmt-F, Arm-F}
 use Rattle.away_trees.specs.declared.statements.Stmt.TheOpen as st
 use Rattle.away_types.specs.declared.slots.Slot.{Slot}
-use Rattle.plsql_meaning.specs.Outcomes.{Label, null_not_allowed}
+use Rattle.plsql_meaning.specs.Outcomes.{Label}
 use Rattle.plsql_meaning.specs.Statements.{class_of}
 use Rattle.slots_in_sight.specs.Sight as sight
 use Rattle.slots_in_sight.specs.Sight.{Walk}
@@ -42,7 +43,7 @@ module _ (s : Setting) where
       let is : Term = is_null s.numbers.fixed t slot in
       safe_set s.goto.blocks k b test slot e V stand.0 r
       (safe_branch s.goto.blocks k test null next false is S stand.1.0 (reads_one S slot is.expr (inr refl))
-      (safe_fail s.goto.blocks k null null_not_allowed S stand.1.1.0) h)
+      (safe_fail s.goto.blocks k null null_value_not_allowed S stand.1.1.0) h)
 
   pub slot_safe : (o : Option Slot) (k b slot next : ℕ) (e : Term) (V : Slots)
       → AllStand s.goto.blocks (slot_parts s.goto s.numbers o b slot e next) → Reads V e → SafeAt k next (with_slot V slot) → SafeAt k b V

@@ -1,11 +1,12 @@
 -- Only visible slots are live where LOOP, WHILE and FOR begin.
 use Rattle.std.proofs.Common.{◌≡◌, ℕ, zero, suc, ◌+◌, Bool, true, false, List, [], ◌∷◌, ◌++◌, length, slice_get, Option, Some, None, refl, inl, inr, subst, arith}
 use Rattle.away_values.specs.declared.types.Ty.TheVariants as ty
+use Rattle.away_values.specs.SqlStates.{invalid_parameter_value}
 use Rattle.away_trees.specs.declared.queries.Expr.{Expr}
 use Rattle.away_trees.specs.declared.statements.LoopKind.{LoopKind}
 use Rattle.away_trees.specs.declared.statements.LoopKind.TheVariants as kind
 use Rattle.away_trees.specs.declared.statements.Stmt.TheOpen as st
-use Rattle.plsql_meaning.specs.Outcomes.{Label, invalid_parameter}
+use Rattle.plsql_meaning.specs.Outcomes.{Label}
 use Rattle.typed_values.proofs.Lists.{every_left, every_right}
 use Rattle.slots_in_sight.specs.InSight.{ReadsInSight}
 use Rattle.slots_in_sight.specs.Sight as sight
@@ -70,7 +71,7 @@ module _ (s : Setting) where
       let positive : Term = not_positive s.numbers.fixed step in
       set_safe s true ty.Bigint k b step test (source_term j e) V (stand.0, (stand.1.0, (stand.1.1.0, tt))) r
       (safe_branch s.goto.blocks k test bad head false positive S stand.1.1.1.0 (reads_one S step positive.expr (inr refl))
-      (safe_fail s.goto.blocks k bad invalid_parameter S stand.1.1.1.1.0) h)
+      (safe_fail s.goto.blocks k bad invalid_parameter_value S stand.1.1.1.1.0) h)
 
   -- the counter, the last value and the step are visible at the head, and in the body the variable too
   abbrev counting : Slots → ℕ → Slots

@@ -1,12 +1,12 @@
 -- Every block of a function's goto form leads to blocks of the form.
 use Rattle.std.proofs.Common.{◌≡◌, ℕ, ◌+◌, ◌<◌, Bool, true, false, List, [], ◌∷◌, length, Some, None, sym, ap, subst, arith}
 use Rattle.away_values.specs.declared.types.Ty.{Ty}
+use Rattle.away_values.specs.SqlStates.{case_not_found, function_executed_no_return_statement}
 use Rattle.away_trees.specs.declared.statements.Function.{Function}
 use Rattle.away_trees.specs.declared.statements.Stmt.{Stmt}
 use Rattle.away_trees.specs.declared.statements.Stmt.TheBlock as b
 use Rattle.away_trees.specs.StatementAlgebra.{stmt_of, stmts_of, branches_of, else_of}
 use Rattle.away_types.specs.declared.slots.Slot.{Slot}
-use Rattle.plsql_meaning.specs.Outcomes.{case_not_found, no_return}
 use Rattle.block_forms.specs.declared.forms.Goto.{Goto}
 use Rattle.block_forms.specs.Around.{exit_to, again_to}
 use Rattle.block_forms.specs.Laid.{Setting, laying, laid}
@@ -112,7 +112,7 @@ module _ (f : Function) (slots : List Slot) (g : Goto) (low : Lowered f slots g)
   form_entry = in_list g.blocks g.entry (jumps false (node g 0)) low.stand.0
 
   finish_within : g.finish < length g.blocks
-  finish_within = in_list g.blocks g.finish (fails no_return) low.stand.1.0
+  finish_within = in_list g.blocks g.finish (fails function_executed_no_return_statement) low.stand.1.0
 
   body_leads : IsLed s (node g (length f.params)) body_row
   unfolding laid

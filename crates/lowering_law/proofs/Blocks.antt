@@ -3,10 +3,11 @@ use Rattle.std.proofs.Common.{◌≡◌, ℕ, suc, ◌+◌, ◌*◌, List, [], �
 use Rattle.std.proofs.lemmas.List.{length-append}
 use Rattle.away_values.specs.declared.types.Ty.{Ty}
 use Rattle.away_values.specs.declared.values.Class.{Class}
+use Rattle.away_values.specs.SqlStates.{case_not_found}
 use Rattle.away_trees.specs.declared.queries.Expr.{Expr}
 use Rattle.away_trees.specs.declared.statements.Decl.{Decl}
 use Rattle.away_trees.specs.declared.statements.Stmt.TheOpen as st
-use Rattle.plsql_meaning.specs.Outcomes.{Env, Label, and_then, close, case_not_found}
+use Rattle.plsql_meaning.specs.Outcomes.{Env, Label, and_then, close}
 use Rattle.plsql_meaning.specs.Statements.{StatementMeaning, ArmMeaning, arms_vars, else_vars, in_arms, in_else, in_row, initial, put, declare}
 use Rattle.block_forms.specs.declared.places.Place.{Place}
 use Rattle.block_forms.specs.Around.{Around}

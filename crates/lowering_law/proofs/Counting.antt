@@ -8,10 +8,11 @@ use Rattle.away_values.specs.declared.values.Value.{Value}
 use Rattle.away_values.specs.declared.values.Value.TheVariants as val
 use Rattle.away_values.specs.Operators.{compare, is_null, is_true}
 use Rattle.away_values.specs.Results.{Or}
+use Rattle.away_values.specs.SqlStates.{invalid_parameter_value}
 use Rattle.away_trees.specs.declared.queries.Expr.{Expr}
 use Rattle.plsql_meaning.specs.Loops as loops
 use Rattle.plsql_meaning.specs.Loops.{going, stepping, advanced, counts}
-use Rattle.plsql_meaning.specs.Outcomes.{Env, Step, invalid_parameter}
+use Rattle.plsql_meaning.specs.Outcomes.{Env, Step}
 use Rattle.plsql_meaning.specs.Statements.{bounded, with_bound, judged, with_step}
 use Rattle.block_forms.specs.declared.forms.Term.{Term}
 use Rattle.block_forms.specs.Around.{Around}
@@ -135,7 +136,7 @@ module _ (s : Sides) (known : Known s) where
 
         positive : List Part
         positive =
-            own test (form.branches false (form.not_positive s.form.numbers.fixed slot) fail on) ∷ shared fail (form.fails invalid_parameter) ∷ []
+            own test (form.branches false (form.not_positive s.form.numbers.fixed slot) fail on) ∷ shared fail (form.fails invalid_parameter_value) ∷ []
 
         behind : AllStandIn s positive
         behind = right s.form.goto.blocks bound positive stand

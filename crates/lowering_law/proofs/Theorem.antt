@@ -7,13 +7,14 @@ use Rattle.away_values.specs.declared.values.Answer.TheVariants as answer
 use Rattle.away_values.specs.declared.values.Value.{Value}
 use Rattle.away_values.specs.declared.values.Value.TheVariants as val
 use Rattle.away_values.specs.Operators.{is_null}
+use Rattle.away_values.specs.SqlStates.{function_executed_no_return_statement}
 use Rattle.away_trees.specs.declared.statements.Function.{Function}
 use Rattle.away_trees.specs.Count.{nodes, nodes_of, weight}
 use Rattle.away_trees.specs.StatementAlgebra.{stmt_of}
 use Rattle.away_types.specs.declared.slots.Slot.{Slot}
 use Rattle.sql_meaning.specs.Context.{Rows}
 use Rattle.plsql_meaning.specs.Functions.{answer_of, begun}
-use Rattle.plsql_meaning.specs.Outcomes.{Env, Outcome, normal, exits, continues, returns, faults, more, Done, no_return}
+use Rattle.plsql_meaning.specs.Outcomes.{Env, Outcome, normal, exits, continues, returns, faults, more, Done}
 use Rattle.plsql_meaning.specs.Statements.{running, meaning}
 use Rattle.block_forms.specs.declared.forms.Goto.{Goto}
 use Rattle.block_forms.specs.Expressions.{sources, sourcing}
@@ -163,7 +164,7 @@ module _ (f : Function) (slots : List Slot) (g : Goto) (low : Lowered f slots g)
     -- ---- the answer, by what the body's end leads to
 
     at_finish : (u l : ℕ) (env : Env) → n ≡ u + l → Reaches s.frame g g.entry first (spent u) u g.finish env
-        → (runs visits).answer ≡ answer.Fault no_return
+        → (runs visits).answer ≡ answer.Fault function_executed_no_return_statement
     at_finish u l env e r =
         let x = then_ends {m = spent u + 1} r (fails_there low.stand.1.0) (omega arith) in
         x.by visits 0 (omega (arith, x.at_most, enough body_nodes u n l params e))

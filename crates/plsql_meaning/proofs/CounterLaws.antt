@@ -1,6 +1,6 @@
 -- A counter's end is no fault.
 use Rattle.std.proofs.Common.{◌≡◌, ◌∙◌, ap, arith, ℕ, Bool, true, false, ℤ, pos, negsuc, ◌+ℤ◌, ◌-ℤ◌, ◌<ℤ◌, Some, inl, inr}
-use Rattle.std.specs.Prelude.{Ok, Err, codes, if◌then◌else◌, int_lt}
+use Rattle.std.specs.Prelude.{Ok, Err, if◌then◌else◌, int_lt}
 use Rattle.std.proofs.lemmas.Bool.{cases_Bool}
 use Rattle.std.proofs.lemmas.Bool.Decides.{nat_tests}
 use Rattle.std.proofs.lemmas.Int.{ints}
@@ -10,7 +10,8 @@ use Rattle.away_values.specs.declared.values.Value.{Value}
 use Rattle.away_values.specs.declared.values.Value.TheVariants as val
 use Rattle.away_values.specs.ArithmeticLaws.{IsBigint}
 use Rattle.away_values.specs.Operators.{compare, fits, int_op, is_true, ranged}
-use Rattle.away_values.specs.Results.{Or, class, mapped}
+use Rattle.away_values.specs.Results.{Or, mapped}
+use Rattle.away_values.specs.SqlStates.{numeric_value_out_of_range}
 use Rattle.plsql_meaning.specs.Counters.{CountsTo}
 use Rattle.plsql_meaning.specs.Loops.{advanced, counts, greatest, least, stepping}
 
@@ -25,7 +26,7 @@ fits_bigint (pos n) h = grind (arith, ints, nat_tests, h.to)
 fits_bigint (negsuc n) h = grind (arith, ints, nat_tests, h.from)
 
 in_range : (n : ℤ) → IsBigint n → ranged n ≡ Ok (val.Int n)
-in_range n h = ap (λ b. if b then Ok (val.Int n) else Err (class (codes "22003"))) (fits_bigint n h)
+in_range n h = ap (λ b. if b then Ok (val.Int n) else Err numeric_value_out_of_range) (fits_bigint n h)
 
 to_end : (by : ℤ) → IsBigint by → pos 0 <ℤ by → int_op int.Sub greatest (val.Int by) ≡ Ok (val.Int (top -ℤ by))
 to_end by b p = in_range (top -ℤ by) (record { from = omega (arith, ints, b.to, p); to = omega (arith, ints, p) })

@@ -8,6 +8,7 @@ use Rattle.away_values.specs.declared.values.Value.{Value}
 use Rattle.away_values.specs.declared.values.Value.TheVariants as val
 use Rattle.away_values.specs.Operators.{compare, is_null, is_true}
 use Rattle.away_values.specs.Results.{Or, mapped}
+use Rattle.away_values.specs.SqlStates.{case_not_found}
 use Rattle.away_trees.specs.declared.queries.Expr.{Expr}
 use Rattle.away_trees.specs.declared.statements.Decl.{Decl}
 use Rattle.away_trees.specs.declared.statements.LoopKind.{LoopKind}
@@ -16,7 +17,7 @@ use Rattle.away_trees.specs.declared.statements.Stmt.{Stmt}
 use Rattle.away_trees.specs.declared.statements.Stmt.TheBlock as b
 use Rattle.away_trees.specs.StatementAlgebra.{stmt_of, stmts_of, branches_of, else_of}
 use Rattle.sql_meaning.specs.Context.{Rows, at}
-use Rattle.plsql_meaning.specs.Outcomes.{Env, Label, Outcome, normal, exits, continues, returns, faults, more, Done, done, Step, after, and_then, case_not_found, close, closed_as}
+use Rattle.plsql_meaning.specs.Outcomes.{Env, Label, Outcome, normal, exits, continues, returns, faults, more, Done, done, Step, after, and_then, close, closed_as}
 use Rattle.plsql_meaning.specs.Loops.{Turning, started, Verdict, again, leave, verdict, moved, ended, finished, turns, turning, always, while, going, counts, reaches}
 use Rattle.plsql_meaning.specs.Statements.{Setting, is_not_null, stored, put, assign, initial, declare, pick, choose, jump, give, in_row, in_arms, in_else, row_vars, arms_vars, else_vars, kind_vars, body_at, bounded, with_bound, judged, with_step, loop, put_all, head_or_null, rest_of, into, running}
 use Rattle.plsql_meaning.specs.Sight.{Sight, with_slot, with_slots, Readers, row_slots, row_sees, arms_see, other_slots, other_sees, body_sight, maybe_sees, decls_see, kind_sees, seeing, Agree, AreReaders, EndAlike, Alike}

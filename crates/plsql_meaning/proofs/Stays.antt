@@ -15,8 +15,9 @@ use Rattle.away_trees.specs.StatementAlgebra.{stmt_of, stmts_of, branches_of, el
 use Rattle.away_values.specs.Operators.{is_true, is_null, compare}
 use Rattle.away_values.specs.declared.operators.CmpOp.TheVariants as cmp
 use Rattle.away_values.specs.Results.{Or}
+use Rattle.away_values.specs.SqlStates.{case_not_found}
 use Rattle.sql_meaning.specs.Context.{Rows}
-use Rattle.plsql_meaning.specs.Outcomes.{Env, Label, Outcome, normal, exits, continues, returns, faults, more, Done, done, Step, after, and_then, close, closed_as, case_not_found}
+use Rattle.plsql_meaning.specs.Outcomes.{Env, Label, Outcome, normal, exits, continues, returns, faults, more, Done, done, Step, after, and_then, close, closed_as}
 use Rattle.plsql_meaning.specs.Loops.{Turning, started, Verdict, again, leave, verdict, moved, ended, finished, turns, turning, always, while, counts}
 use Rattle.plsql_meaning.specs.Functions.{answer_of, begun, function_answer}
 use Rattle.plsql_meaning.specs.Statements.{Setting, meaning, is_not_null, stored, put, assign, initial, declare, pick, choose, jump, give, in_row, in_arms, in_else, bounded, with_bound, judged, with_step, loop, put_all, head_or_null, rest_of, into, running}

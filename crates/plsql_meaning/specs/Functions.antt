@@ -7,19 +7,20 @@ use Rattle.away_values.specs.declared.values.Answer.{Answer}
 use Rattle.away_values.specs.declared.values.Answer.TheVariants as answer
 use Rattle.away_trees.specs.declared.statements.Function.{Function}
 use Rattle.away_values.specs.Operators.{is_null}
+use Rattle.away_values.specs.SqlStates.{function_executed_no_return_statement}
 use Rattle.sql_meaning.specs.Context.{Rows}
 use Rattle.sql_meaning.specs.OneReturn.{body}
 use Rattle.sql_meaning.specs.Meaning.{value, rows_of_select}
-use Rattle.plsql_meaning.specs.Outcomes.{Env, Outcome, normal, exits, continues, returns, faults, more, no_return}
+use Rattle.plsql_meaning.specs.Outcomes.{Env, Outcome, normal, exits, continues, returns, faults, more}
 use Rattle.plsql_meaning.specs.Statements.{Setting, meaning}
 
 abbrev pub answer_of : Outcome → Answer
 answer_of (returns v) = answer.Value v
 answer_of (faults c) = answer.Fault c
 answer_of more = answer.More
-answer_of normal = answer.Fault no_return
-answer_of (exits l) = answer.Fault no_return
-answer_of (continues l) = answer.Fault no_return
+answer_of normal = answer.Fault function_executed_no_return_statement
+answer_of (exits l) = answer.Fault function_executed_no_return_statement
+answer_of (continues l) = answer.Fault function_executed_no_return_statement
 
 -- the variables with which the body begins: the arguments, and NULL in every other slot
 abbrev pub begun : Setting → Function → List Value → Env

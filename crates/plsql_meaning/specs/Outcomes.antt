@@ -1,8 +1,7 @@
 -- How a statement ends, and what it is to go on behind one.
-use Rattle.std.specs.Prelude.{ℕ, Bool, true, false, if◌then◌else◌, List, Option, Some, None, bytes_eq, codes}
+use Rattle.std.specs.Prelude.{ℕ, Bool, true, false, if◌then◌else◌, List, Option, Some, None, bytes_eq}
 use Rattle.away_values.specs.declared.values.Value.{Value}
 use Rattle.away_values.specs.declared.values.Class.{Class}
-use Rattle.away_values.specs.Results.{class}
 
 -- the values of all slots: parameters, then declarations and FOR variables in the order of the text
 abbrev pub Env : Type 0
@@ -66,31 +65,3 @@ closed_as own more = more
 
 abbrev pub close : Label → Done → Done
 close own d = done (closed_as own d.outcome) d.env d.left
-
--- ---- the classes that statements raise (PostgreSQL manual, appendix PostgreSQL Error Codes)
-
--- null_value_not_allowed
-abbrev pub null_not_allowed : Class
-null_not_allowed = class (codes "22004")
-
--- invalid_parameter_value
-abbrev pub invalid_parameter : Class
-invalid_parameter = class (codes "22023")
-
--- case_not_found
-abbrev pub case_not_found : Class
-case_not_found = class (codes "20000")
-
--- function_executed_no_return_statement
-abbrev pub no_return : Class
-no_return = class (codes "2F005")
-
--- raise_exception
-abbrev pub raised_message : Class
-raised_message = class (codes "P0001")
-
-abbrev pub no_data_found : Class
-no_data_found = class (codes "P0002")
-
-abbrev pub too_many_rows : Class
-too_many_rows = class (codes "P0003")

@@ -19,7 +19,8 @@ use Rattle.away_values.specs.Operators.{compare, is_true, is_null}
 use Rattle.away_values.specs.Results.{Or, class}
 use Rattle.sql_meaning.specs.Context.{Rows}
 use Rattle.away_values.specs.Classes.{is_class}
-use Rattle.plsql_meaning.specs.Outcomes.{Env, Label, Outcome, normal, exits, continues, returns, faults, done, Step, and_then, close, null_not_allowed, invalid_parameter, case_not_found, raised_message, no_data_found, too_many_rows}
+use Rattle.away_values.specs.SqlStates.{case_not_found, invalid_parameter_value, no_data_found, null_value_not_allowed, raise_exception, too_many_rows}
+use Rattle.plsql_meaning.specs.Outcomes.{Env, Label, Outcome, normal, exits, continues, returns, faults, done, Step, and_then, close}
 use Rattle.plsql_meaning.specs.Loops.{turning, always, while, counts}
 
 -- What a statement stands in: the values of expressions, the rows of selects, and whether each slot is NOT NULL.
@@ -68,12 +69,12 @@ body_at (kind.Count _ _ _ _ _) at = at + 1
 
 -- a text that is no SQLSTATE, which no reader gives, stands for the class of a message
 abbrev pub class_of : Raised → Class
-class_of (raised.Message _) = raised_message
-class_of (raised.State code) = if is_class code then class code else raised_message
+class_of (raised.Message _) = raise_exception
+class_of (raised.State code) = if is_class code then class code else raise_exception
 
 -- a value is put into a slot, unless it is NULL where it may not be
 abbrev pub stored : Bool → ℕ → Value → Step
-stored true slot v env n = done (faults null_not_allowed) env n
+stored true slot v env n = done (faults null_value_not_allowed) env n
 stored false slot v env n = done normal (slice_set env slot v) n
 
 -- the default of a declaration
@@ -96,7 +97,7 @@ give (Ok v) env n = done (returns v) env n
 
 -- a bound or a step, which may not be NULL
 abbrev pub bounded : Bool → Value → (Value → Step) → Step
-bounded true v go env n = done (faults null_not_allowed) env n
+bounded true v go env n = done (faults null_value_not_allowed) env n
 bounded false v go env n = go v env n
 
 abbrev pub with_bound : Or Value → (Value → Step) → Step
@@ -105,7 +106,7 @@ with_bound (Ok v) go env n = bounded (is_null v) v go env n
 
 -- a step, which is positive
 abbrev pub judged : Bool → Value → (Value → Step) → Step
-judged true v go env n = done (faults invalid_parameter) env n
+judged true v go env n = done (faults invalid_parameter_value) env n
 judged false v go env n = go v env n
 
 abbrev pub head_or_null : List Value → Value

@@ -8,13 +8,10 @@ ghost use Rattle.plsql_run.specs.Settings.{meant};
 
 use crate::setting::Setting;
 use away_trees::{Decl, Expr};
-use away_values::{Class, OpError, Value};
+use away_values::{OpError, Value, sqlstate};
 use lateral_rows::is_null;
 use sqlite_items::Items;
 use std::alloc::Global;
-
-/// null_value_not_allowed
-pub(crate) const NULL_NOT_ALLOWED: Class = Class { code: *b"22004" };
 
 /// Puts a value into a slot, where there is one.
 pub(crate) fn put_at(env: &mut Items<Value>, slot: usize, v: Value)
@@ -35,7 +32,7 @@ pub(crate) fn put(
     ensures { Does (meaning.put (meant setting.now) slot (Ok v)) env.old env.new result }
 {
     if setting.is_not_null(slot) && is_null(&v) {
-        return Err(OpError::Class(NULL_NOT_ALLOWED));
+        return Err(OpError::Class(sqlstate::NULL_VALUE_NOT_ALLOWED));
     }
     put_at(env, slot, v);
     Ok(())

@@ -10,24 +10,20 @@ ghost use Rattle.plsql_meaning.specs.Statements as meaning;
 ghost use Rattle.plsql_run.specs.Continues.{GoesOn, IfEnds, Passes, body_of};
 ghost use Rattle.plsql_run.specs.Settings.{meant};
 
-use crate::assignments::NULL_NOT_ALLOWED;
 use crate::frames::{Counting, Frame, Signal, Stretch};
 use crate::loops::begin_count;
 use crate::setting::Setting;
 use away_trees::Expr;
-use away_values::{Class, CmpOp, Name, OpError, Value, compare};
+use away_values::{CmpOp, Name, OpError, Value, compare, sqlstate};
 use lateral_rows::{is_null, is_true};
 use sqlite_items::Items;
 use std::alloc::Global;
-
-/// invalid_parameter_value
-const INVALID_PARAMETER: Class = Class { code: *b"22023" };
 
 fn not_null(v: Value) -> Result<Value, OpError>
     ensures { (env : List Value) → Passes (meaning.with_bound (Ok v)) env result }
 {
     if is_null(&v) {
-        return Err(OpError::Class(NULL_NOT_ALLOWED));
+        return Err(OpError::Class(sqlstate::NULL_VALUE_NOT_ALLOWED));
     }
     Ok(v)
 }
@@ -48,7 +44,7 @@ fn positive(v: Value) -> Result<Value, OpError>
     ensures { (env : List Value) → Passes (λ go. meaning.judged (is_true (compare cmp.Le v (val.Int (pos 0)))) v go) env result }
 {
     if is_true(&compare(CmpOp::Le, &v, &Value::Int(0))) {
-        return Err(OpError::Class(INVALID_PARAMETER));
+        return Err(OpError::Class(sqlstate::INVALID_PARAMETER_VALUE));
     }
     Ok(v)
 }

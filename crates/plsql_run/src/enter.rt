@@ -2,7 +2,7 @@
 
 ghost use Rattle.std.specs.Prelude.{◌≡◌, ◌+◌, ◌*◌, ◌≤◌, ◌<◌, ◌^◌, length, sum_by};
 ghost use Rattle.away_trees.specs.Count.{nodes_of, nodes_of_arm, nodes_of_else};
-ghost use Rattle.plsql_meaning.specs.Outcomes.{Env, and_then, case_not_found, close};
+ghost use Rattle.plsql_meaning.specs.Outcomes.{Env, and_then, close};
 ghost use Rattle.plsql_meaning.specs.Slots.{slots_of, slots_of_arm, slots_of_else};
 ghost use Rattle.plsql_meaning.specs.Statements.{Setting as Meant};
 ghost use Rattle.plsql_meaning.specs.Statements as meaning;
@@ -20,13 +20,10 @@ use crate::loops::{begin_plain, begin_while};
 use crate::setting::Setting;
 use crate::single_statements::{assign, give, jump, raise};
 use away_trees::{Arm, Decl, LoopKind, Stmt};
-use away_values::{Class, Name, OpError, Value};
+use away_values::{Class, Name, OpError, Value, sqlstate};
 use lateral_rows::is_true;
 use sqlite_items::Items;
 use std::alloc::Global;
-
-/// case_not_found
-const CASE_NOT_FOUND: Class = Class { code: *b"20000" };
 
 /// A block begins with its declarations, from the slot `at` on.
 fn enter_block<'a>(
@@ -235,7 +232,7 @@ pub(crate) fn enter<'a>(
             arms.as_slice(),
             other,
             layout,
-            Some(CASE_NOT_FOUND),
+            Some(sqlstate::CASE_NOT_FOUND),
             at,
         ),
         Stmt::Loop {

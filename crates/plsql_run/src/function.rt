@@ -19,13 +19,10 @@ use crate::machine::run_until_turn;
 use crate::setting::Setting;
 use away_trees::{Function, Stmt};
 use away_types::CheckedFunction;
-use away_values::{Answer, Class, NoMemory, OpError, Tables, Value};
+use away_values::{Answer, NoMemory, OpError, Tables, Value, sqlstate};
 use lateral_rows::is_null;
 use sqlite_items::Items;
 use std::alloc::Global;
-
-/// function_executed_no_return_statement
-const NO_RETURN: Class = Class { code: *b"2F005" };
 
 /// The body runs until its first turn.
 fn start<'a>(
@@ -68,7 +65,9 @@ fn run_body(
     let mut signal = start(alloc, setting, &mut stack, env, body, layout, at)?;
     'turns: loop {
         match signal {
-            Signal::Ends(_) => return Ok(Answer::Fault(NO_RETURN)),
+            Signal::Ends(_) => return Ok(Answer::Fault(
+                sqlstate::FUNCTION_EXECUTED_NO_RETURN_STATEMENT,
+            )),
             Signal::Returns(v) => return Ok(Answer::Value(v)),
             Signal::Turn => {
                 if left == 0 {

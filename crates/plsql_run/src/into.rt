@@ -10,15 +10,9 @@ use crate::assignments::put;
 use crate::frames::{Signal, Way};
 use crate::setting::Setting;
 use away_trees::Select;
-use away_values::{Class, Name, OpError, Value};
+use away_values::{Name, OpError, Value, sqlstate};
 use sqlite_items::Items;
 use std::alloc::Global;
-
-/// no_data_found
-const NO_DATA_FOUND: Class = Class { code: *b"P0002" };
-
-/// too_many_rows
-const TOO_MANY_ROWS: Class = Class { code: *b"P0003" };
 
 /// The value at a place of a row, NULL where the row ends before it.
 fn value_at(alloc: Global, row: &[Value], i: usize) -> Result<Value, OpError>
@@ -79,13 +73,13 @@ pub(crate) fn select_into<'a>(
     let rows = rows.as_slice();
     if rows.is_empty() {
         if strict {
-            return Err(OpError::Class(NO_DATA_FOUND));
+            return Err(OpError::Class(sqlstate::NO_DATA_FOUND));
         }
         put_all(alloc, setting, env, targets, &[])?;
         return Ok(Signal::Ends(Way::Normal));
     }
     if strict && rows.len() > 1 {
-        return Err(OpError::Class(TOO_MANY_ROWS));
+        return Err(OpError::Class(sqlstate::TOO_MANY_ROWS));
     }
     put_all(alloc, setting, env, targets, rows[0].as_slice())?;
     Ok(Signal::Ends(Way::Normal))

@@ -11,14 +11,11 @@ use crate::assignments::put;
 use crate::frames::{Signal, Way};
 use crate::setting::Setting;
 use away_trees::{Expr, Raised};
-use away_values::{Class, OpError, Value};
+use away_values::{Class, OpError, Value, sqlstate};
 use lateral_rows::is_true;
 use sql_eval::class_of;
 use sqlite_items::Items;
 use std::alloc::Global;
-
-/// raise_exception
-const RAISED_MESSAGE: Class = Class { code: *b"P0001" };
 
 pub(crate) fn assign<'a>(
     alloc: Global,
@@ -80,10 +77,10 @@ fn raised_class(alloc: Global, raised: &Raised) -> Result<Class, OpError>
     ensures memory { IfErr result (λ e. e ≡ NoMemory) }
 {
     match raised {
-        Raised::Message(_) => Ok(RAISED_MESSAGE),
+        Raised::Message(_) => Ok(sqlstate::RAISE_EXCEPTION),
         Raised::State(code) => match class_of(alloc, code)? {
             Some(class) => Ok(class),
-            None => Ok(RAISED_MESSAGE),
+            None => Ok(sqlstate::RAISE_EXCEPTION),
         },
     }
 }

@@ -13,15 +13,12 @@ ghost use Rattle.away_values.specs.declared.operators.CmpOp.TheVariants as cmp;
 ghost use Rattle.away_values.specs.declared.values.Value.TheVariants as val;
 
 use away_values::{
-    ChainOp, Class, CmpOp, IsTest, OpError, TextOp, Ty, Value, compare, int_op, small, text_op,
+    ChainOp, Class, CmpOp, IsTest, OpError, TextOp, Ty, Value, compare, int_op, small, sqlstate,
+    text_op,
 };
 use lateral_rows::{copied, is_null, is_true};
 use sqlite_items::{Items, at as item_at};
 use std::alloc::Global;
-
-const OUT_OF_RANGE: Class = Class { code: *b"22003" };
-
-const CARDINALITY: Class = Class { code: *b"21000" };
 
 #[tactic(auto, using(sql_meaning::proofs::GivesRules::gives_rules))]
 pub(crate) fn of_class(answer: Result<Value, Class>) -> Result<Value, OpError>
@@ -41,7 +38,7 @@ pub(crate) fn negated(v: &Value) -> Result<Value, OpError>
     match v {
         Value::Int(n) => match n.checked_neg() {
             Some(m) => Ok(Value::Int(m)),
-            None => Err(OpError::Class(OUT_OF_RANGE)),
+            None => Err(OpError::Class(sqlstate::NUMERIC_VALUE_OUT_OF_RANGE)),
         },
         _ => Ok(Value::Null),
     }
@@ -173,7 +170,7 @@ pub(crate) fn only(alloc: Global, rows: &Items<Items<Value>>) -> Result<Value, O
     match rows.as_slice() {
         [] => Ok(Value::Null),
         [row] => held(alloc, item_at(row.as_slice(), 0)),
-        _ => Err(OpError::Class(CARDINALITY)),
+        _ => Err(OpError::Class(sqlstate::CARDINALITY_VIOLATION)),
     }
 }
 

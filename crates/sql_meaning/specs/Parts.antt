@@ -1,5 +1,5 @@
 -- The parts of an expression that are evaluated one after the other, where an operator stops as soon as it is decided.
-use Rattle.std.specs.Prelude.{Bool, true, false, if◌then◌else◌, List, [], ◌∷◌, Ok, Err, codes}
+use Rattle.std.specs.Prelude.{Bool, true, false, if◌then◌else◌, List, [], ◌∷◌, Ok, Err}
 use Rattle.away_values.specs.declared.values.Value.{Value}
 use Rattle.away_values.specs.declared.values.Value.TheVariants as val
 use Rattle.away_values.specs.declared.operators.ChainOp.{ChainOp}
@@ -7,6 +7,7 @@ use Rattle.away_values.specs.declared.operators.ChainOp.TheVariants as chain
 use Rattle.away_values.specs.declared.operators.CmpOp.TheVariants as cmp
 use Rattle.away_values.specs.Results.{Or, and_then, mapped, class}
 use Rattle.away_values.specs.Operators.{int_op, small, compare, is_true, is_false, is_null, conjunction, disjunction, concat}
+use Rattle.away_values.specs.SqlStates.{cardinality_violation}
 use Rattle.sql_meaning.specs.Context.{Rows, at}
 
 -- The left operand's value and the right operand's answer. A false operand decides AND and a true one decides OR, so that the right one isn't
@@ -54,7 +55,7 @@ first_known (o ∷ os) = and_then o (λ v. if is_null v then first_known os else
 abbrev pub only : Rows → Or Value
 only [] = Ok val.Null
 only (row ∷ []) = Ok (at row 0)
-only (row ∷ other ∷ more) = Err (class (codes "21000"))
+only (row ∷ other ∷ more) = Err cardinality_violation
 
 -- Whether EXISTS is true. (PostgreSQL manual, Subquery Expressions: EXISTS.)
 abbrev pub has_row : Rows → Bool

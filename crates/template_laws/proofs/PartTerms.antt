@@ -11,8 +11,8 @@ use Rattle.away_trees.specs.declared.statements.Raised.{Raised}
 use Rattle.away_trees.specs.declared.statements.Raised.TheVariants as raised
 use Rattle.away_types.specs.declared.slots.Slot.{Slot}
 use Rattle.plsql_meaning.specs.Statements.{class_of}
-use Rattle.plsql_meaning.specs.Outcomes.{raised_message}
 use Rattle.away_values.specs.Results.{class}
+use Rattle.away_values.specs.SqlStates.{raise_exception}
 use Rattle.sql_meaning.specs.Reads.{slots_of}
 use Rattle.block_forms.specs.declared.forms.Block.{Block}
 use Rattle.block_forms.specs.declared.forms.End.{End}
@@ -30,7 +30,7 @@ pub is_class_of : (r : Raised) → is_class (class_of r).code ≡ true
 is_class_of (raised.Message t) = refl
 is_class_of (raised.State code) = by (is_class code) refl
   where
-    by : (b : Bool) → is_class code ≡ b → is_class (if b then class code else raised_message).code ≡ true
+    by : (b : Bool) → is_class code ≡ b → is_class (if b then class code else raise_exception).code ≡ true
     by true h = h
     by false h = refl
 

@@ -4,6 +4,7 @@ use Rattle.away_values.specs.Classes.{is_class}
 use Rattle.away_values.specs.declared.types.Ty.{Ty}
 use Rattle.away_values.specs.declared.types.Ty.TheVariants as ty
 use Rattle.away_values.specs.declared.values.Class.{Class}
+use Rattle.away_values.specs.SqlStates.{case_not_found, invalid_parameter_value}
 use Rattle.away_trees.specs.declared.queries.Expr.{Expr}
 use Rattle.away_trees.specs.declared.statements.Decl.{Decl}
 use Rattle.away_trees.specs.declared.statements.LoopKind.{LoopKind}
@@ -12,7 +13,7 @@ use Rattle.away_trees.specs.declared.statements.Stmt.{Stmt}
 use Rattle.away_trees.specs.declared.statements.Stmt.TheBlock as b
 use Rattle.away_trees.specs.StatementAlgebra.{stmt_of, stmts_of, branches_of, else_of}
 use Rattle.away_types.specs.declared.slots.Slot.{Slot}
-use Rattle.plsql_meaning.specs.Outcomes.{Label, case_not_found, invalid_parameter}
+use Rattle.plsql_meaning.specs.Outcomes.{Label}
 use Rattle.block_forms.specs.declared.forms.Term.{Term}
 use Rattle.block_forms.specs.declared.places.Place.{Place}
 use Rattle.block_forms.specs.Around.{Around, exit_to, again_to}
@@ -182,7 +183,7 @@ module _ (table : List Expr) (s : Setting) (fixed : FixedFits table s.numbers.fi
   step_fits None k c step head h = ((fixed.ones, tt), tt)
   step_fits (Some e) k c step head h =
       let test = no_of s.goto (jump_of s.goto c) in
-      let rest : List Part = own test (branches false (not_positive s.numbers.fixed step) (yes_of s.goto test) head) ∷ shared (yes_of s.goto test) (fails invalid_parameter) ∷ [] in
+      let rest : List Part = own test (branches false (not_positive s.numbers.fixed step) (yes_of s.goto test) head) ∷ shared (yes_of s.goto test) (fails invalid_parameter_value) ∷ [] in
       fit_both table (bound_parts s.goto s.numbers c step (source_term k e) test) rest
       (bound_fits c step (no_of s.goto (jump_of s.goto c)) (source_term k e) (source_fits table k e h.0)) ((tt, fixed.positives step), ((tt, refl), tt))
 

@@ -2,6 +2,7 @@
 use Rattle.std.proofs.Common.{◌≡◌, refl, ap, sym, subst, ℕ, zero, suc, ◌+◌, ◌≤◌, Bool, true, false, List, [], ◌∷◌, ◌++◌, slice_get, Option, Some, None, arith, ◌⊎◌, inl, inr}
 use Rattle.away_values.specs.declared.types.Ty.{Ty}
 use Rattle.away_values.specs.declared.types.Ty.TheVariants as ty
+use Rattle.away_values.specs.SqlStates.{invalid_parameter_value}
 use Rattle.away_trees.specs.declared.queries.Expr.{Expr}
 use Rattle.away_trees.specs.declared.statements.Decl.{Decl}
 use Rattle.away_trees.specs.declared.statements.LoopKind.{LoopKind}
@@ -11,7 +12,6 @@ use Rattle.away_types.specs.declared.slots.Slot.{Slot}
 use Rattle.away_types.specs.FunctionChecks.{slot_types}
 use Rattle.away_types.specs.StatementTypes as checks
 use Rattle.away_types.specs.StatementTypes.{Asked, asked, maybe_asked, asked_of_slot, head_asked}
-use Rattle.plsql_meaning.specs.Outcomes.{invalid_parameter}
 use Rattle.block_forms.specs.declared.forms.Term.{Term}
 use Rattle.block_forms.specs.declared.places.Place.{Place}
 use Rattle.block_forms.specs.Expressions.{if_there, of_kind}
@@ -122,7 +122,7 @@ module _ (tables : List (List Ty)) (table : List Expr) (result : Ty) (s : Settin
   step_has (Some e) k c step head at h n =
       let test = no_of s.goto (jump_of s.goto c) in
       let below = own test (branches false (not_positive s.numbers.fixed step) (yes_of s.goto test) head) in
-      let rest : List Part = below ∷ shared (yes_of s.goto test) (fails invalid_parameter) ∷ [] in
+      let rest : List Part = below ∷ shared (yes_of s.goto test) (fails invalid_parameter_value) ∷ [] in
       both (bound_parts s.goto s.numbers c step (source_term k e) test) rest
       (bound_has c step test (source_term k e) at (source k ty.Bigint e h.0 n)) ((tt, fixed.positives step at), ((tt, tt), tt))
 

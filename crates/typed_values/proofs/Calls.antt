@@ -1,13 +1,14 @@
 -- The values of calls are of the kinds that the typing gives them.
 use Rattle.std.proofs.Common.{◌≡◌, sym, subst, ℕ, ℤ, pos, Bool, true, false, not, ◌&&◌, List, [], ◌∷◌, filter, length, Option, Some, None, Ok, Err}
-use Rattle.std.specs.Prelude.{if◌then◌else◌, fold, int_lt, codes, ◌+ℤ◌}
+use Rattle.std.specs.Prelude.{if◌then◌else◌, fold, int_lt, ◌+ℤ◌}
 use Rattle.std.specs.List.{AllZip, list_all, list_any}
 use Rattle.away_values.specs.declared.types.Ty.TheVariants as ty
 use Rattle.away_values.specs.declared.values.Class.{Class}
 use Rattle.away_values.specs.declared.values.Value.{Value}
 use Rattle.away_values.specs.declared.values.Value.TheVariants as val
 use Rattle.away_values.specs.Operators as op
-use Rattle.away_values.specs.Results.{Or, mapped, each_joined, class}
+use Rattle.away_values.specs.Results.{Or, mapped, each_joined}
+use Rattle.away_values.specs.SqlStates.{numeric_value_out_of_range, substring_error}
 use Rattle.away_names.specs.declared.function.Known.{Known}
 use Rattle.away_names.specs.declared.function.Known.TheVariants as known
 use Rattle.away_names.specs.Functions as names
@@ -43,7 +44,7 @@ part_typed true t c r e = cc
 part_typed false t c r e = typed_ok ty.Text (val.Text t) r e tt
 
 substr_typed : (t p n r : Value) → op.substr t p n ≡ Ok r → IsOf ty.Text r
-substr_typed (val.Text t) (val.Int p) (val.Int n) r e = part_typed (int_lt n (pos 0)) (op.part p (p +ℤ n) (pos 1) t) (class (codes "22011")) r e
+substr_typed (val.Text t) (val.Int p) (val.Int n) r e = part_typed (int_lt n (pos 0)) (op.part p (p +ℤ n) (pos 1) t) substring_error r e
 substr_typed (val.Text t) (val.Int p) val.Null r e = typed_ok ty.Text val.Null r e tt
 substr_typed (val.Text t) (val.Int p) (val.Bool n) r e = typed_ok ty.Text val.Null r e tt
 substr_typed (val.Text t) (val.Int p) (val.Text n) r e = typed_ok ty.Text val.Null r e tt
@@ -96,7 +97,7 @@ tested_typed false n c r e = cc
 
 in_range_typed : (v r : Value) → IsOf ty.Bigint v → meant.in_range v ≡ Ok r → IsOf ty.Bigint r
 in_range_typed val.Null r h e = typed_ok ty.Bigint val.Null r e tt
-in_range_typed (val.Int n) r h e = tested_typed (op.fits n) n (class (codes "22003")) r e
+in_range_typed (val.Int n) r h e = tested_typed (op.fits n) n numeric_value_out_of_range r e
 in_range_typed (val.Bool b) r h e = absurd h
 in_range_typed (val.Text t) r h e = absurd h
 

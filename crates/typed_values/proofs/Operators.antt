@@ -1,6 +1,6 @@
 -- The values of operators are of the kinds that the typing gives them.
 use Rattle.std.proofs.Common.{◌≡◌, sym, subst, Bool, true, false, ◌&&◌, ◌||◌, List, [], ◌∷◌, ◌++◌, Ok, Err}
-use Rattle.std.specs.Prelude.{if◌then◌else◌, nat_le, sum_by, codes}
+use Rattle.std.specs.Prelude.{if◌then◌else◌, nat_le, sum_by}
 use Rattle.away_values.specs.declared.types.Ty.{Ty}
 use Rattle.away_values.specs.declared.types.Ty.TheVariants as ty
 use Rattle.away_values.specs.declared.values.Class.{Class}
@@ -11,9 +11,10 @@ use Rattle.away_values.specs.declared.operators.ChainOp.TheVariants as chain
 use Rattle.away_values.specs.declared.operators.CmpOp.{CmpOp}
 use Rattle.away_values.specs.declared.operators.CmpOp.TheVariants as cmp
 use Rattle.away_values.specs.Operators as op
-use Rattle.away_values.specs.Results.{Or, mapped, class}
+use Rattle.away_values.specs.Results.{Or, mapped}
 use Rattle.away_values.specs.Words.{longest_text}
 use Rattle.away_values.proofs.Typing.{are_typed}
+use Rattle.away_values.specs.SqlStates.{program_limit_exceeded}
 use Rattle.away_typing.specs.declared.kind.Kind.{Kind}
 use Rattle.away_typing.specs.declared.kind.Kind.TheVariants.{Null, Of, Sum, Wrong}
 use Rattle.away_typing.specs.Kinds.{of_type, fits, is_right}
@@ -74,7 +75,7 @@ within_typed true t r c e = typed_ok ty.Text (val.Text t) r e tt
 within_typed false t r c e = cc
 
 written_typed : (t : List _) (r : Value) → op.text_within t ≡ Ok r → IsOf ty.Text r
-written_typed t r e = within_typed (nat_le (sum_by op.bytes_of t) longest_text) t r (class (codes "54000")) e
+written_typed t r e = within_typed (nat_le (sum_by op.bytes_of t) longest_text) t r program_limit_exceeded e
 
 concat_typed : (a b r : Value) → op.concat a b ≡ Ok r → IsOf ty.Text r
 concat_typed val.Null b r e = typed_ok ty.Text val.Null r e tt

@@ -1,13 +1,13 @@
 use Rattle.std.proofs.Common.{◌≡◌, sym, ◌∙◌, ap, rules, ◌-◌, ◌≤◌, ◌^◌, arith, pos, ◌+ℤ◌, take, drop, length, false, SFits, w64, to_z-of_z, chars}
 use Rattle.std.proofs.lemmas.Str.{encodes-chars, length-le-encodes}
 use lib.Utf8.{encodes}
-use Rattle.std.specs.Prelude.{Ok, Err, if◌then◌else◌, int_lt, codes}
+use Rattle.std.specs.Prelude.{Ok, Err, if◌then◌else◌, int_lt}
 use Rattle.std.specs.Int.{saturate_signed}
 use Rattle.away_values.specs.Operators.{part}
-use Rattle.away_values.specs.Results.{class}
 use Rattle.away_values.specs.declared.values.Value.TheVariants as val
 use Rattle.away_values.proofs.TextParts.{before, before-int_max, part-saturated}
 use Rattle.away_values.proofs.texts.part.Goals as goal
+use Rattle.away_values.specs.SqlStates.{substring_error}
 
 pub returns : goal.returns
 returns c =
@@ -27,6 +27,6 @@ returns c =
     ∙ ap (λ m. take (before (saturate_signed w64 (c.args.from +ℤ c.args.count)) - m) (drop m (chars c.text.result.now))) skipped
     ∙ sym (part-saturated c.args.from (c.args.from +ℤ c.args.count) (chars c.text.result.now) short)
     in
-    ap (λ t. if int_lt c.args.count (pos 0) then Err (class (codes "22011")) else Ok (val.Text (part c.args.from (c.args.from +ℤ c.args.count) (pos 1) t))) (sym c.text.ensures.value)
-    ∙ ap (λ b. if b then Err (class (codes "22011")) else Ok (val.Text (part c.args.from (c.args.from +ℤ c.args.count) (pos 1) (chars c.text.result.now)))) not_negative
+    ap (λ t. if int_lt c.args.count (pos 0) then Err substring_error else Ok (val.Text (part c.args.from (c.args.from +ℤ c.args.count) (pos 1) t))) (sym c.text.ensures.value)
+    ∙ ap (λ b. if b then Err substring_error else Ok (val.Text (part c.args.from (c.args.from +ℤ c.args.count) (pos 1) (chars c.text.result.now)))) not_negative
     ∙ ap (λ t. Ok (val.Text t)) (sym cut)

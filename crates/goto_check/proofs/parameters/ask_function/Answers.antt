@@ -1,5 +1,5 @@
 use Rattle.std.proofs.Common.{◌≡◌, false, [], ◌∷◌, ◌++◌, ap, ◌∙◌}
-use Rattle.plsql_meaning.specs.Outcomes.{no_return}
+use Rattle.away_values.specs.SqlStates.{function_executed_no_return_statement}
 use Rattle.block_forms.specs.Laid.{laid, place}
 use Rattle.block_forms.specs.Lowered.{params_parts, body_place}
 use Rattle.block_forms.specs.Patterns.{shared, jumps, fails}
@@ -16,7 +16,7 @@ returns c =
     let f = c.args.f.now in
     let at : here c.spot_of-body.result ≡ body_place f = c.spot_of-body.ensures ∙ ap (λ k. place k 0 k 0) c.len-many.ensures in
     let E = shared g.entry (jumps false c.node-start.result) in
-    let F = shared g.finish (fails no_return) in
+    let F = shared g.finish (fails function_executed_no_return_statement) in
     let P = params_parts s f.strict f.result 0 c.as_slice.result.now in
     let B = (laid f.body).parts s (here c.spot_of-body.result) [] g.finish in
     two c.args.a.now (E ∷ []) (F ∷ (P ++ B)) _ _ _ c.ask_shared-entry.ensures

@@ -1,7 +1,7 @@
 use Rattle.std.proofs.Common.{◌≡◌, ◌+◌, ◌≤◌, false, drop, [], ◌∷◌, ◌∙◌, Some, None, sym, ap, subst, refl, rules, arith, length-drop}
+use Rattle.away_values.specs.SqlStates.{case_not_found}
 use Rattle.away_trees.specs.declared.statements.Stmt.{the_lemmas}
 use Rattle.away_trees.specs.declared.statements.Stmt.TheVariants as stmt
-use Rattle.plsql_meaning.specs.Outcomes.{case_not_found}
 use Rattle.block_forms.specs.Laid.{laid, after, laid_arm, first_block, laid_row, laid_arms, row_parts, arms_parts}
 use Rattle.block_forms.specs.Patterns.{own, same, branches}
 use Rattle.goto_check.specs.Asking.{numbers_in, setting_in}

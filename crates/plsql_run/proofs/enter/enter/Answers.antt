@@ -1,9 +1,10 @@
 use Rattle.std.proofs.Common.{arith, sym, ap, ◌∙◌, subst, ◌+◌, length, map, option_map, sum_by, [], None}
+use Rattle.away_values.specs.SqlStates.{case_not_found}
 use Rattle.away_trees.specs.StatementAlgebra.{branch_of}
 use Rattle.away_trees.specs.Count.{nodes_of, nodes_of_arm}
 use Rattle.away_trees.proofs.StatementEquations.{of_block, of_if, of_cases, of_loop}
 use Rattle.away_trees.proofs.CountLemmas.{block_nodes, if_nodes, cases_nodes, loop_nodes, assign_nodes, exit_nodes, continue_nodes, return_nodes, raise_nodes, into_nodes, nothing_nodes}
-use Rattle.plsql_meaning.specs.Outcomes.{close, and_then, done, faults, case_not_found, exits, continues}
+use Rattle.plsql_meaning.specs.Outcomes.{close, and_then, done, faults, exits, continues}
 use Rattle.plsql_meaning.specs.Statements.{meaning, meanings, running, declare, in_row, in_arms, in_else, loop, body_at, kind_vars, assign, jump, give, into, class_of}
 use Rattle.plsql_meaning.specs.Slots.{slots_of, slots_of_arm}
 use Rattle.plsql_meaning.proofs.Slots.{block_slots, if_slots, cases_slots, loop_slots}
