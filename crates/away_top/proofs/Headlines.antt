@@ -37,8 +37,8 @@ module _ {D : Type 0} (F : Files D) where
   no_refusal : (name : List ℕ) (Rules : List ℕ → Type 0) (status : Status) (output : List ℕ) → status ≡ Done → RefusedBy name Rules status output → ⊥
   no_refusal name Rules status output done (rule, is, e) = let wrong : Refused ≡ Done = sym e.0 ∙ done in cc
 
-  same_bytes : (told : Option (List ℕ)) (limit : ℕ) (bytes known : List ℕ) → told ≡ Some known → Holds told limit bytes → bytes ≡ known
-  same_bytes told limit bytes known is holds = subst (λ o. IfSome o (λ h. bytes ≡ h)) is holds.same
+  same_bytes : (now : D) (name : List ℕ) (limit : ℕ) (bytes known : List ℕ) → F.held now name ≡ Some known → Holds F now name limit bytes → bytes ≡ known
+  same_bytes now name limit bytes known is holds = subst (λ o. IfSome o (λ h. bytes ≡ h)) is holds.same
 
   compiled : (wanted : Wanted) (schema func : List ℕ) (s : IsSchema schema) (f : IsFunction s.schema func) (text output : List ℕ) (status : Status)
       → Compiles wanted s.schema (callable_of s.schema f.written) text status output → IsTranslation wanted schema func output
@@ -53,8 +53,8 @@ module _ {D : Type 0} (F : Files D) where
   of_compile wanted old new schema func text tables function output status done told_schema told_function (inr (middle, read, inr (bytes, holds, inr (s, inr (last, reread, inl h))))) = absurd (no_stop middle last func 1048576 status output done h.how)
   of_compile wanted old new schema func text tables function output status done told_schema told_function (inr (middle, read, inr (bytes, holds, inr (s, inr (last, reread, inr (more, held, inl h)))))) = absurd (no_refusal func _ status output done h.how)
   of_compile wanted old new schema func text tables function output status done told_schema told_function (inr (middle, read, inr (bytes, holds, inr (s, inr (last, reread, inr (more, held, inr (f, h))))))) =
-      let schema_is = same_bytes (F.held old schema) 67108864 bytes tables told_schema holds in
-      let function_is = same_bytes (F.held middle func) 1048576 more function (read.kept func function told_function) held in
+      let schema_is = same_bytes old schema 67108864 bytes tables told_schema holds in
+      let function_is = same_bytes middle func 1048576 more function (read.kept func function told_function) held in
       subst (λ b. IsTranslation wanted b function output) schema_is (subst (λ b. IsTranslation wanted bytes b output) function_is (compiled wanted bytes more s f text output status h.how))
 
 of_command : {D : Type 0} (F : Files D) (old new : D) (wanted : Wanted) (schema func text : List ℕ) (end : End ⊥) → Follows F old (course (command_of wanted ∷ schema ∷ func ∷ []) text) new end

@@ -1,82 +1,30 @@
 -- Over objects in memory that are to meet no failure, nothing but want of memory or of room is in the way of `sql`.
-use Rattle.std.proofs.Common.{◌≡◌, ◌≤◌, ◌++◌, ◌⊎◌, inl, inr, refl, sym, subst, ◌∙◌, ℕ, List, [], ◌∷◌, length, codes}
-use Rattle.std.specs.Prelude.{Option, Some, None, Ok, Err, IsSome}
+use Rattle.std.proofs.Common.{◌≡◌, ◌++◌, inl, inr, refl, sym, subst, ℕ, List, [], ◌∷◌, codes}
+use Rattle.std.specs.Prelude.{Option, Some, None, IsSome}
 use Rattle.std.specs.List.{AllByRecursion}
 use Rattle.away_values.specs.declared.values.Answer.{Answer}
 use Rattle.away_values.specs.declared.values.Answer.TheVariants as answer
-use Rattle.away_values.specs.declared.values.Value.{Value}
-use Rattle.away_trees.specs.declared.schemas.Schema.{Schema}
 use Rattle.away_trees.specs.declared.schemas.TableSchema.{TableSchema}
-use Rattle.away_types.specs.CheckedQueries.{judged_query}
-use Rattle.csv_tables.specs.Files.{Or, rows_in}
 use Rattle.sql_meaning.specs.Context.{Rows}
 use Rattle.sql_meaning.specs.Working.{sql}
 use Rattle.away_top.specs.declared.status.Status.{Status}
-use Rattle.away_top.specs.declared.status.Status.TheVariants.{NoMemory}
 use Rattle.away_top.specs.Arguments.{bound_of, values_of}
 use Rattle.away_top.specs.Commands.{course}
-use Rattle.away_top.specs.Course.{Course, and_then, ends, EachRead, Outcome}
-use Rattle.away_top.specs.Files.{schema_course}
-use Rattle.away_top.specs.InMemory.{Answered, IsFitTable, MayAnswer}
-use Rattle.away_top.specs.MemoryFiles.{HeldFiles, IsSafeName, held_at}
-use Rattle.away_top.specs.MemorySink.{RoomySink, safe_room}
-use Rattle.away_top.specs.QueryAnswers.{Held, IsAnswer, IsAnswered}
-use Rattle.away_top.specs.Refusals.{IsQuery, IsSchema}
-use Rattle.away_top.specs.SqlCourse.{Asked, Tells, answer_course, asked_course, asked_of, at_bound, over_schema, query_course, spelled, sql_course}
+use Rattle.away_top.specs.Course.{and_then, ends, Outcome}
+use Rattle.away_top.specs.InMemory.{Answered, EndsIn, IsFitTable, MayAnswer}
+use Rattle.away_top.specs.MemoryFiles.{HeldFiles, held_at}
+use Rattle.away_top.specs.MemorySink.{RoomySink}
+use Rattle.away_top.specs.QueryAnswers.{Held, IsAnswer}
+use Rattle.away_top.specs.Refusals.{IsSchema}
+use Rattle.away_top.specs.SqlCourse.{Tells, answer_course, asked_of, at_bound, over_schema, spelled, sql_course}
 use Rattle.away_top.specs.TableFiles.{holding, table_file, tables_behind}
 use Rattle.away_top.proofs.Answering as runs
-use Rattle.away_top.proofs.InMemory.{leads_on, room_is_safe, safe_name}
+use Rattle.away_top.proofs.EndsInMemory.{leads_on}
 use Rattle.away_top.proofs.Telling.{runs_so, telling}
 
 pub some_of : {A : Type 0} (o : Option A) → IsSome o → (a : A) × (o ≡ Some a)
 some_of None s = absurd (cc)
 some_of (Some a) s = (a, refl)
-
--- ---- the files of the run are safe
-
-held_safe : (Q : List ℕ → Type 0) (held : Held) (file : List ℕ) (o : Or Rows) (next : Rows → Course (List Rows)) (last : List Rows → Course ⊥)
-    → ((rows : Rows) → EachRead Q held (and_then (next rows) last)) → EachRead Q held (and_then (and_then (holding file o) next) last)
-held_safe Q held file (Ok rows) next last rest = rest rows
-held_safe Q held file (Err e) next last rest = tt
-
-module _ (m : HeldFiles) (none : m.fails ≡ []) (dir : List ℕ) where
-  pub tables_safe : (last : List Rows → Course ⊥) → ((rows : List Rows) → EachRead (IsSafeName m) (held_at m.held) (last rows)) → (left : List TableSchema) (done : List Rows)
-      → AllByRecursion (IsFitTable (held_at m.held) dir) left → EachRead (IsSafeName m) (held_at m.held) (and_then (tables_behind dir done left) last)
-  tables_safe last rest [] done fit = rest done
-  tables_safe last rest (t ∷ left) done fit = (
-    safe_name m (table_file dir t.name) fit.0.bytes none fit.0.holds,
-    λ bytes told fits.
-        held_safe (IsSafeName m) (held_at m.held) (table_file dir t.name) (rows_in t bytes) (λ rows. tables_behind dir (done ++ rows ∷ []) left) last
-        (λ rows. tables_safe last rest left (done ++ rows ∷ []) fit.1),
-  )
-
-  asked_safe : (n : ℕ) (s : Schema) (q : Asked) (o : Option (List Value)) → AllByRecursion (IsFitTable (held_at m.held) dir) s.tables
-      → EachRead (IsSafeName m) (held_at m.held) (and_then (spelled o) (answer_course n s q dir))
-  asked_safe n s q None fit = tt
-  asked_safe n s q (Some values) fit = tables_safe (λ tables. ends (Tells (sql q.query tables values n))) (λ rows. tt) s.tables [] fit
-
-pub same_some : (a b : List ℕ) → Some a ≡ Some b → a ≡ b
-same_some a b e = cc
-
-module _ (m : HeldFiles) (bound schema query dir : List ℕ) (args : List (List ℕ)) (may : MayAnswer m bound schema query dir args) where
-  over_safe : (n : ℕ) (bytes : List ℕ) → bytes ≡ may.tables → (s : IsSchema bytes) → EachRead (IsSafeName m) (held_at m.held) (over_schema n s.schema query dir args)
-  over_safe n bytes is s = (
-    safe_name m query may.asked may.no_failure may.holds_query,
-    λ more told fits q. asked_safe m may.no_failure dir n s.schema (asked_of s.schema q.written) (values_of (judged_query s.schema q.written).params args)
-        ((subst (λ b. (s : IsSchema b) → AllByRecursion (IsFitTable (held_at m.held) dir) s.schema.tables) (sym is) may.fit_tables) s),
-  )
-
-  bound_safe : (o : Option ℕ) → EachRead (IsSafeName m) (held_at m.held) (and_then (spelled o) (at_bound schema query dir args))
-  bound_safe None = tt
-  bound_safe (Some n) = (
-    safe_name m schema may.tables may.no_failure may.holds_schema,
-    λ bytes told fits s. over_safe n bytes (same_some bytes may.tables (sym told ∙ may.holds_schema)) s,
-  )
-
-pub all_safe : (m : HeldFiles) (words : List (List ℕ)) (text bound schema query dir : List ℕ) (args : List (List ℕ)) → words ≡ codes "sql" ∷ bound ∷ schema ∷ query ∷ dir ∷ args
-    → MayAnswer m bound schema query dir args → EachRead (IsSafeName m) (held_at m.held) (course words text)
-all_safe m words text bound schema query dir args is may =
-    subst (λ ws. EachRead (IsSafeName m) (held_at m.held) (course ws text)) (sym is) (bound_safe m bound schema query dir args may (bound_of bound))
 
 -- ---- files that are fit lead to an answer
 
@@ -117,14 +65,12 @@ module _ (m : HeldFiles) (bound schema query dir : List ℕ) (args : List (List 
         | inr (s, rest) ↦ query_leads n.0 s rest
       ]
 
--- what the call leaves, where it is complete and a whole output is Q
-pub answered : (m : HeldFiles) (before after : RoomySink) (words : List (List ℕ)) (text bound schema query dir : List ℕ) (args : List (List ℕ)) (result : Status) (Q : Status → List ℕ → Type 0)
-    → ((status : Status) (output : List ℕ) → Q status output → (result ≡ status) × (after.bytes ≡ before.bytes ++ output)) → words ≡ codes "sql" ∷ bound ∷ schema ∷ query ∷ dir ∷ args
-    → MayAnswer m bound schema query dir args → before.fails ≡ []
-    → (result ≡ NoMemory) ⊎ ((status : Status) × (output : List ℕ) × Outcome (held_at m.held) (course words text) status output × (length output ≤ safe_room before → Q status output))
-    → Answered m before after result bound schema query dir args
-answered m before after words text bound schema query dir args result Q of_whole is may none (inl wants) = inl wants
-answered m before after words text bound schema query dir args result Q of_whole is may none (inr (status, output, o, whole)) =
+-- what the call leaves
+pub answered : (m : HeldFiles) (before after : RoomySink) (words : List (List ℕ)) (text bound schema query dir : List ℕ) (args : List (List ℕ)) (result : Status)
+    → words ≡ codes "sql" ∷ bound ∷ schema ∷ query ∷ dir ∷ args → MayAnswer m bound schema query dir args
+    → EndsIn before after result (Outcome (held_at m.held) (course words text)) → Answered m before after result bound schema query dir args
+answered m before after words text bound schema query dir args result is may (inl wants) = inl wants
+answered m before after words text bound schema query dir args result is may (inr (status, output, o, told)) =
     let led = subst (λ ws. Outcome (held_at m.held) (course ws text) status output) is o in
     let late = leads m bound schema query dir args may status output led in
     inr (
@@ -132,7 +78,5 @@ answered m before after words text bound schema query dir args result Q of_whole
       output,
       late,
       runs.answered (telling (held_at m.held)) tt tt bound schema query dir args status output late (runs_so (held_at m.held) (sql_course bound schema query dir args) status output led),
-      λ fits.
-          let told = of_whole status output (whole (subst (λ n. length output ≤ n) (sym (room_is_safe before none)) fits)) in
-          record { status_is = told.0; bytes_are = told.1 },
+      told,
     )

@@ -1,28 +1,62 @@
--- What `compile`, `certify`, `check`, `demo`, `sql` and `fn` answer over files and a sink in memory that are to meet no failure.
+-- What a call answers over files and a sink in memory that are to meet no failure.
 use Rattle.std.specs.Prelude.{◌≡◌, ◌⊎◌, ℕ, ◌≤◌, List, [], ◌∷◌, ◌++◌, length, codes, Ok, Some, IsSome}
 use Rattle.std.specs.List.{AllByRecursion}
 use Rattle.away_trees.specs.declared.schemas.TableSchema.{TableSchema}
 use Rattle.away_top.specs.declared.status.Status.{Status}
-use Rattle.away_top.specs.declared.status.Status.TheVariants.{Done, NoMemory}
+use Rattle.away_top.specs.declared.status.Status.TheVariants.{Done, NoMemory, ReadFault}
 use Rattle.away_top.specs.MemoryFiles.{HeldFiles, held_at}
 use Rattle.away_top.specs.MemorySink.{RoomySink}
 use Rattle.away_types.specs.CheckedQueries.{judged_query}
 use Rattle.csv_tables.specs.Files.{rows_in}
 use Rattle.sql_meaning.specs.Context.{Rows}
 use Rattle.away_top.specs.declared.compile.Wanted.{Wanted}
+use Rattle.away_top.specs.Commands.{course}
 use Rattle.away_top.specs.CompileCourse.{command_of}
 use Rattle.stage_check.specs.declared.verdict.Verdict.{Verdict}
 use Rattle.away_top.specs.Arguments.{bound_of, values_for, values_of}
 use Rattle.away_top.specs.Certificates.{IsCert, RefusesCert}
 use Rattle.away_top.specs.CheckCourse.{IsVerdict, verdict_line, verdict_status}
+use Rattle.away_top.specs.Course.{Course, gives, ends, judges, reads, Outcome}
 use Rattle.away_top.specs.DemoCourse.{IsShown}
 use Rattle.away_top.specs.Files.{callable_of}
+use Rattle.away_top.specs.Lines.{read_fault}
 use Rattle.away_top.specs.FunctionAnswers.{IsCalled}
 use Rattle.away_top.specs.QueryAnswers.{Held, IsAnswer, IsAnswered}
 use Rattle.away_top.specs.Refusals.{IsFunction, IsQuery, IsSchema, RefusesFunction, RefusesQuery, RefusesSchema}
 use Rattle.away_top.specs.SqlCourse.{asked_of}
 use Rattle.away_top.specs.TableFiles.{table_file}
 use Rattle.away_top.specs.Translation.{IsTranslation}
+
+-- ---- all words
+
+-- the status is answered, with exactly this output written
+pub record IsTold (before after : RoomySink) (result status : Status) (output : List ℕ) : Type 0 where
+  pub status_is : result ≡ status
+  pub bytes_are : after.bytes ≡ before.bytes ++ output
+
+-- Memory was wanting, or there is one of these ends that the call tells, where the room holds its output.
+abbrev pub EndsIn : RoomySink → RoomySink → Status → (Status → List ℕ → Type 0) → Type 0
+EndsIn before after result Ends =
+    (result ≡ NoMemory)
+    ⊎ ((status : Status) × (output : List ℕ) × Ends status output × (length output ≤ before.room → IsTold before after result status output))
+
+-- The end is one that the held files lead to. A name that isn't held leads to a read fault.
+abbrev pub Ended : HeldFiles → RoomySink → RoomySink → Status → List (List ℕ) → Type 0
+Ended files before after result words = (text : List ℕ) × EndsIn before after result (Outcome (held_at files.held) (course words text))
+
+-- the first event is that this file is read
+abbrev pub BeginsWith : {A : Type 0} → List ℕ → Course A → Type 0
+BeginsWith name (gives a) = ⊥
+BeginsWith name (ends E) = ⊥
+BeginsWith name (judges E W next) = ⊥
+BeginsWith name (reads first limit next) = first ≡ name
+
+-- Memory was wanting, or the call tells that this file can't be read, where the room holds the line.
+abbrev pub Unread : RoomySink → RoomySink → Status → List ℕ → Type 0
+Unread before after result name =
+    (result ≡ NoMemory) ⊎ (length (read_fault name) ≤ before.room → IsTold before after result ReadFault (read_fault name))
+
+-- ---- compile and certify
 
 -- a schema's file is within its limit, and no rule refuses it
 pub record IsFitSchema (bytes : List ℕ) : Type 0 where
@@ -93,11 +127,6 @@ pub record MayAnswer (files : HeldFiles) (bound schema query dir : List ℕ) (ar
   pub fit_query : IsFitQuery tables asked args
   pub fit_tables : (s : IsSchema tables) → AllByRecursion (IsFitTable (held_at files.held) dir) s.schema.tables
   pub no_failure : files.fails ≡ []
-
--- the status is answered, with exactly this output written
-pub record IsTold (before after : RoomySink) (result status : Status) (output : List ℕ) : Type 0 where
-  pub status_is : result ≡ status
-  pub bytes_are : after.bytes ≡ before.bytes ++ output
 
 -- Memory was wanting, or there is the answer of the query that the call tells, where the room holds it.
 abbrev pub Answered : HeldFiles → RoomySink → RoomySink → Status → List ℕ → List ℕ → List ℕ → List ℕ → List (List ℕ) → Type 0

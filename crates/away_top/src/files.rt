@@ -163,7 +163,7 @@ pub(crate) fn bytes_of<F: Files>(
     files: &mut F,
 ) -> Result<Vec<u8>, Halt>
     ensures read { IsRead F.Files files.old name.now files.new }
-    ensures bytes { IfOk result (λ bytes. Holds (F.held files.old name.now) limit bytes.items) }
+    ensures bytes { IfOk result (λ bytes. Holds F.Files files.old name.now limit bytes.items) }
     ensures stops { IfErr result (IsHalt (StopsAt F.Files files.old name.now limit files.new)) }
 {
     match files.read(alloc, name, limit) {
