@@ -88,5 +88,5 @@ module _ (m : HeldFiles) (name : List ℕ) (none : held_at m.held name ≡ None)
   unread c begins before after result (inr (status, output, o, told)) =
       let is = absent_ends c begins status output o in
       inr (λ fits.
-          let so = told (subst (λ out. length out ≤ before.room) (sym is.1) fits) in
-          record { status_is = so.status_is ∙ is.0; bytes_are = so.bytes_are ∙ ap (λ out. before.bytes ++ out) is.1 })
+      let so = told (subst (λ out. length out ≤ before.room) (sym is.1) fits) in
+      record { status_is = so.status_is ∙ is.0; bytes_are = so.bytes_are ∙ ap (λ out. before.bytes ++ out) is.1 })
