@@ -4,20 +4,15 @@ use Rattle.std.specs.Prelude.{Option}
 use Rattle.stage_check.specs.declared.verdict.Verdict.{Verdict}
 use Rattle.away_top.specs.declared.status.Status.{Status}
 use Rattle.away_top.specs.CheckCourse.{TellsVerdict, check_course, with_function, with_query, with_schema}
-use Rattle.away_top.specs.Commands.{course, other_command}
+use Rattle.away_top.specs.Commands.{command_of, course, course_of}
 use Rattle.away_top.specs.Course.{Outcome}
-use Rattle.away_top.specs.Files.{callable_of}
+use Rattle.away_top.specs.Files.{asked_of, callable_of}
 use Rattle.away_top.specs.InMemory.{EndsIn, HasVerdict, Judged, MayCheck}
 use Rattle.away_top.specs.MemoryFiles.{HeldFiles, held_at}
 use Rattle.away_top.specs.MemorySink.{RoomySink}
 use Rattle.away_top.specs.Refusals.{IsFunction, IsQuery, IsSchema}
-use Rattle.away_top.specs.SqlCourse.{asked_of}
 use Rattle.away_top.proofs.EndsInMemory.{leads_on}
-
-outcome_of : (held : List ℕ → Option (List ℕ)) (schema func query cert text : List ℕ) (status : Status) (output : List ℕ)
-    → Outcome held (course (codes "check" ∷ schema ∷ func ∷ query ∷ cert ∷ []) text) status output → Outcome held (check_course schema func query cert) status output
-unfolding other_command
-outcome_of held schema func query cert text status output o = o
+use Rattle.away_top.proofs.Words.{asks_check}
 
 module _ (m : HeldFiles) (schema func query cert tables function asked forms : List ℕ) (may : MayCheck m schema func query cert tables function asked forms) where
   -- ---- files that are fit lead to a verdict
@@ -58,7 +53,7 @@ module _ (m : HeldFiles) (schema func query cert tables function asked forms : L
       → EndsIn before after result (Outcome (held_at m.held) (course words text)) → Judged before after result tables function asked forms
   judged before after words text result is (inl wants) = inl wants
   judged before after words text result is (inr (status, output, o, told)) =
-      let led = outcome_of (held_at m.held) schema func query cert text status output (subst (λ ws. Outcome (held_at m.held) (course ws text) status output) is o) in
+      let led = subst (λ c. Outcome (held_at m.held) (course_of c text) status output) (ap command_of is ∙ asks_check schema func query cert) o in
       let end = leads status output led in
       let tells = end.2 in
       inr (

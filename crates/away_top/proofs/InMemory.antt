@@ -1,12 +1,11 @@
 -- Over objects in memory that are to meet no failure, nothing but want of memory or of room is in the way of `compile` and `certify`.
-use Rattle.std.proofs.Common.{◌≡◌, inl, inr, sym, subst, ◌∙◌, ℕ, List, [], ◌∷◌, Some}
+use Rattle.std.proofs.Common.{◌≡◌, inl, inr, ap, sym, subst, ◌∙◌, ℕ, List, [], ◌∷◌, Some}
 use Rattle.std.specs.declared.option.Option.{Option}
 use Rattle.away_top.specs.declared.compile.Wanted.{Wanted}
-use Rattle.away_top.specs.declared.compile.Wanted.TheVariants.{Query, Certificate}
 use Rattle.away_top.specs.declared.status.Status.{Status}
 use Rattle.away_top.specs.declared.status.Status.TheVariants.{Done}
-use Rattle.away_top.specs.Commands.{course}
-use Rattle.away_top.specs.CompileCourse.{Compiles, command_of, compile_course}
+use Rattle.away_top.specs.Commands.{command_of, course, course_of}
+use Rattle.away_top.specs.CompileCourse.{Compiles, compile_course}
 use Rattle.away_top.specs.Course.{and_then, ends, Outcome}
 use Rattle.away_top.specs.Files.{callable_of, function_course}
 use Rattle.away_top.specs.InMemory.{EndsIn, IsFitFunction, IsFitSchema, MayCompile, Translated}
@@ -16,15 +15,11 @@ use Rattle.away_top.specs.Refusals.{IsFunction, IsSchema}
 use Rattle.away_top.specs.Translation.{IsTranslation}
 use Rattle.away_top.proofs.EndsInMemory.{leads_on}
 use Rattle.away_top.proofs.Headlines.{translation}
+use Rattle.away_top.proofs.Words.{asks_compile}
 
 compiled : (wanted : Wanted) (schema func : List ℕ) (s : IsSchema schema) (f : IsFunction s.schema func) (text output : List ℕ) (status : Status)
     → Compiles wanted s.schema (callable_of s.schema f.written) text status output → (status ≡ Done) × IsTranslation wanted schema func output
 compiled wanted schema func s f text output status (is, e) = (e.0, subst (IsTranslation wanted schema func) (sym e.1) (translation wanted schema func s f text is))
-
-outcome_of : (held : List ℕ → Option (List ℕ)) (wanted : Wanted) (schema func text : List ℕ) (status : Status) (output : List ℕ)
-    → Outcome held (course (command_of wanted ∷ schema ∷ func ∷ []) text) status output → Outcome held (compile_course wanted schema func text) status output
-outcome_of held Query schema func text status output o = o
-outcome_of held Certificate schema func text status output o = o
 
 module _ (held : List ℕ → Option (List ℕ)) (wanted : Wanted) (schema func tables function text : List ℕ) (fits : IsFitSchema tables) (fit : IsFitFunction tables function) where
   function_done : (s : IsSchema tables) → held func ≡ Some function → (status : Status) (output : List ℕ)
@@ -48,7 +43,7 @@ pub translated : (m : HeldFiles) (wanted : Wanted) (before after : RoomySink) (w
 translated m wanted before after words text tables function result p (inl wants) = inl wants
 translated m wanted before after words text tables function result p (inr (status, output, o, told)) =
     let leads = done (held_at m.held) wanted p.schema p.func tables function text p.fit_schema p.fit_function p.holds_schema p.holds_function status output
-    (outcome_of (held_at m.held) wanted p.schema p.func text status output (subst (λ ws. Outcome (held_at m.held) (course ws text) status output) p.words_are o)) in
+    (subst (λ c. Outcome (held_at m.held) (course_of c text) status output) (ap command_of p.words_are ∙ asks_compile wanted p.schema p.func) o) in
     inr (
       output,
       leads.1,

@@ -4,7 +4,7 @@ use Rattle.std.specs.Prelude.{Option, Some, None}
 use Rattle.away_top.specs.declared.outside.Files.{Ghosts as Files}
 use Rattle.away_top.specs.declared.status.Status.{Status}
 use Rattle.away_top.specs.Course.{AtFile, Course, ends, gives, judges, reads, Outcome}
-use Rattle.away_top.specs.QueryAnswers.{Held}
+use Rattle.away_top.specs.RunAnswers.{Held}
 use Rattle.away_top.specs.Runs.{ended, Follows, Holds, IsRead}
 
 -- files that hold this, of which none is safe, and whose count of faults stands at its last value

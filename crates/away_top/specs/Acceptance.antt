@@ -8,7 +8,7 @@ use Rattle.equivalence.specs.Accepted.{EquivalentWith}
 use Rattle.stage_check.specs.Verdicts.{AllHold, all_relations, between}
 use Rattle.away_top.specs.Certificates.{IsCert}
 use Rattle.away_top.specs.Lines.{line}
-use Rattle.away_top.specs.QueryAnswers.{AreBytesOf, Held}
+use Rattle.away_top.specs.RunAnswers.{AreBytesOf, Held}
 use Rattle.away_top.specs.Refusals.{IsFunction, IsQuery, IsSchema}
 
 -- The forms of the certificate that its file reads as stand between the function that its file reads as and the query that its file reads as, over the

@@ -15,9 +15,8 @@ use Rattle.away_top.specs.declared.status.Status.{Status}
 use Rattle.away_top.specs.declared.status.Status.TheVariants.{Done, NotAccepted}
 use Rattle.away_top.specs.Certificates.{cert_course}
 use Rattle.away_top.specs.Course.{Course, and_then, ends, Exactly}
-use Rattle.away_top.specs.Files.{Callable, function_course, schema_course}
+use Rattle.away_top.specs.Files.{Asked, Callable, function_course, query_course, schema_course}
 use Rattle.away_top.specs.Lines.{line}
-use Rattle.away_top.specs.SqlCourse.{Asked, query_course}
 
 -- the number of the stage that a relation belongs to
 abbrev pub stage_number : Relation → ℕ

@@ -41,9 +41,9 @@ abbrev pub Compiles : Wanted → Schema → Callable → List ℕ → Status →
 Compiles wanted s f made status output = IsWritten wanted s f made × Exactly Done made status output
 
 -- the command that asks for it
-abbrev pub command_of : Wanted → List ℕ
-command_of Query = codes "compile"
-command_of Certificate = codes "certify"
+abbrev pub word_of : Wanted → List ℕ
+word_of Query = codes "compile"
+word_of Certificate = codes "certify"
 
 abbrev pub compile_course : Wanted → List ℕ → List ℕ → List ℕ → Course ⊥
 compile_course wanted schema func made =

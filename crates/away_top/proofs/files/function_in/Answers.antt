@@ -4,7 +4,7 @@ use Rattle.away_types.specs.CheckedFunctions.{IsChecked}
 use Rattle.away_types.specs.FunctionChecks.{function_note}
 use Rattle.away_top.specs.Course.{RefusedBy}
 use Rattle.away_top.specs.Refusals.{BreaksRule, ReadsAsFunction, RefusesFunction}
-use Rattle.away_top.proofs.Calling.{callable_is}
+use Rattle.away_top.proofs.Judging.{callable_is}
 use Rattle.away_top.proofs.Compiling.{refused_so}
 use Rattle.away_top.proofs.Stretches.{judged_so}
 use Rattle.away_top.proofs.files.function_in.Goals as goal

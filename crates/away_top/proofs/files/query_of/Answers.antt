@@ -2,7 +2,7 @@ use Rattle.std.proofs.Common.{inr, subst, sym}
 use Rattle.away_top.specs.Course.{RefusedBy}
 use Rattle.away_top.specs.Refusals.{IsQuery, RefusesQuery}
 use Rattle.away_top.specs.Runs.{Holds}
-use Rattle.away_top.specs.SqlCourse.{as_asked, asked_of}
+use Rattle.away_top.specs.Files.{as_asked, asked_of}
 use Rattle.away_top.proofs.Stretches.{judged_here}
 use Rattle.away_top.proofs.files.query_of.Goals as goal
 

@@ -1,11 +1,10 @@
 use Rattle.std.proofs.Common.{map, string_bytes}
 use Rattle.away_top.specs.Commands.{course}
-use Rattle.away_top.proofs.CallsInMemory as calls
 use Rattle.away_top.proofs.ChecksInMemory as checks
 use Rattle.away_top.proofs.DemosInMemory as demos
 use Rattle.away_top.proofs.EndsInMemory.{absent_sure, each_sure, in_room, unread}
 use Rattle.away_top.proofs.InMemory.{translated}
-use Rattle.away_top.proofs.QueriesInMemory as queries
+use Rattle.away_top.proofs.RunsInMemory.{run_told}
 use Rattle.away_top.proofs.laws.away_in_memory.Goals as goal
 
 pub returns-clause-every : goal.returns-clause-every
@@ -41,12 +40,7 @@ returns-clause-demo c = λ word is spells none.
     (in_room c.args.out.now c.away.new.out c.away.result _ _ (λ status output whole. (whole.status_is, whole.written)) none
     (a.complete (demos.all_sure c.args.files.now (map string_bytes c.args.words.now) a.run.text word is)))
 
-pub returns-clause-query : goal.returns-clause-query
-returns-clause-query c = λ bound schema query dir args is may none.
+pub returns-clause-run : goal.returns-clause-run
+returns-clause-run c = λ what bound schema file dir args is may none.
     let ended = returns-clause-every c may.no_failure none in
-    queries.answered c.args.files.now c.args.out.now c.away.new.out (map string_bytes c.args.words.now) ended.0 bound schema query dir args c.away.result is may ended.1
-
-pub returns-clause-function : goal.returns-clause-function
-returns-clause-function c = λ bound schema func dir args is may none.
-    let ended = returns-clause-every c may.no_failure none in
-    calls.answered c.args.files.now c.args.out.now c.away.new.out (map string_bytes c.args.words.now) ended.0 bound schema func dir args c.away.result is may ended.1
+    run_told what c.args.files.now c.args.out.now c.away.new.out (map string_bytes c.args.words.now) ended.0 bound schema file dir args c.away.result is may ended.1
