@@ -1,7 +1,6 @@
 //! What the words ask for.
 
 ghost use Rattle.std.specs.Prelude.{◌≡◌, map, string_bytes};
-ghost use Rattle.away_top.specs.declared.command.Command.TheVariants as command;
 ghost use Rattle.away_top.specs.Commands.{as_command, asked_by, command_of, forms};
 ghost use Rattle.away_top.specs.Commands as form;
 
