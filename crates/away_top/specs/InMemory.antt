@@ -19,7 +19,8 @@ use Rattle.away_top.specs.CheckCourse.{IsVerdict, verdict_line, verdict_status}
 use Rattle.away_top.specs.Course.{Course, gives, ends, judges, reads, Outcome}
 use Rattle.away_top.specs.DemoCourse.{IsShown}
 use Rattle.away_top.specs.Files.{asked_of, callable_of}
-use Rattle.away_top.specs.Lines.{read_fault}
+use Rattle.cert_json.specs.Lines.{IsLine}
+use Rattle.away_top.specs.Lines.{line, read_fault}
 use Rattle.away_top.specs.Programs.{IsProgram, RefusesProgram, arguments_of, most_bytes, program_of}
 use Rattle.away_top.specs.Refusals.{IsFunction, IsQuery, IsSchema, RefusesFunction, RefusesQuery, RefusesSchema}
 use Rattle.away_top.specs.RunAnswers.{Held, IsAnswer, IsAnswered}
@@ -170,3 +171,17 @@ Judged before after result tables function asked forms =
     (result ≡ NoMemory)
     ⊎ ((v : Verdict) × HasVerdict tables function asked forms v
     × (length (verdict_line v) ≤ before.room → IsTold before after result (verdict_status v) (verdict_line v)))
+
+-- Memory was wanting, or the call accepts, where the room holds its line.
+abbrev pub AcceptedIn : RoomySink → RoomySink → Status → Type 0
+AcceptedIn before after result =
+    (result ≡ NoMemory)
+    ⊎ (length (line (codes "accepted")) ≤ before.room → IsTold before after result Done (line (codes "accepted")))
+
+-- What `certify` wrote of these bytes is this line and, behind its end, this text. The four files behind `check` hold the bytes, the text and the line.
+pub record HoldsCertified (written : List ℕ) (files : HeldFiles) (schema func query cert tables function : List ℕ) : Type 0 where
+  pub line : List ℕ
+  pub text : List ℕ
+  pub written_is : written ≡ line ++ (10 ∷ text)
+  pub is_line : IsLine line
+  pub may_check : MayCheck files schema func query cert tables function text line

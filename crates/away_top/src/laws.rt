@@ -1,11 +1,11 @@
 //! Runs over files and a sink in memory.
 
-ghost use Rattle.std.specs.Prelude.{◌≡◌, ℕ, IsSome, List, [], ◌∷◌, None, codes, map, string_bytes};
+ghost use Rattle.std.specs.Prelude.{◌≡◌, ◌++◌, ℕ, IsSome, List, [], ◌∷◌, None, Some, codes, map, string_bytes};
 ghost use Rattle.away_top.specs.declared.compile.Wanted.{Wanted};
 ghost use Rattle.away_top.specs.declared.over_tables.program.Runnable.{Runnable};
 ghost use Rattle.away_top.specs.Arguments.{bound_of};
 ghost use Rattle.away_top.specs.Commands.{course};
-ghost use Rattle.away_top.specs.InMemory.{Answered, BeginsWith, Ended, Judged, MayCheck, MayCompile, MayRun, Shown, Translated, Unread};
+ghost use Rattle.away_top.specs.InMemory.{AcceptedIn, Answered, BeginsWith, Ended, HoldsCertified, Judged, MayCheck, MayCompile, MayRun, Shown, Translated, Unread};
 ghost use Rattle.away_top.specs.MemoryFiles.{held_at};
 ghost use Rattle.away_top.specs.Programs.{word_of};
 
@@ -42,4 +42,28 @@ pub fn away_in_memory(
         → Answered what files.old out.old out.new result bound schema file dir args }
 {
     away(alloc, words, files, out)
+}
+
+/// Certifies a function, and has `check` judge what was written. Where the files of the second call hold the line, the text behind it, and the
+/// schema and the function of the first, it accepts: only want of memory or of room for its line is in the way.
+pub fn certified_is_accepted(
+    alloc: Global,
+    certify: &[String],
+    files: &mut MemoryFiles,
+    output: &mut MemorySink,
+    check: &[String],
+    others: &mut MemoryFiles,
+    verdict: &mut MemorySink,
+) -> (Status, Status)
+    ensures { (first second schema func query cert tables function written : List ℕ)
+        → map string_bytes certify.now ≡ codes "certify" ∷ first ∷ second ∷ []
+        → held_at files.old.held first ≡ Some tables → held_at files.old.held second ≡ Some function
+        → result.0 ≡ Status.Done → output.new.bytes ≡ output.old.bytes ++ written
+        → map string_bytes check.now ≡ codes "check" ∷ schema ∷ func ∷ query ∷ cert ∷ []
+        → HoldsCertified written others.old schema func query cert tables function → verdict.old.fails ≡ []
+        → AcceptedIn verdict.old verdict.new result.1 }
+{
+    let certified = away(alloc, certify, files, output);
+    let judged = away_in_memory(alloc, check, others, verdict);
+    (certified, judged)
 }
