@@ -11,6 +11,7 @@ use Rattle.away_trees.specs.declared.statements.Stmt.{Stmt}
 use Rattle.away_trees.specs.declared.statements.Stmt.TheVariants as stmt
 use Rattle.away_trees.specs.StatementAlgebra.{stmt_of, branch_of}
 use Rattle.away_trees.proofs.StatementEquations as e
+use Rattle.away_names.specs.declared.rule.Rule.TheVariants as rule
 use Rattle.away_names.specs.Notes.{joined, breaks, clean}
 use Rattle.away_names.specs.Lookups.{Name}
 use Rattle.away_names.proofs.NamingRules.{fold_map}
@@ -67,7 +68,7 @@ pub raise_asks : (a : Asked) (r : Raised) → asked_stmt a (stmt.Raise r) ≡ cl
 unfolding asked_stmt
 raise_asks a r = refl
 
-pub into_asks : (a : Asked) (strict : Bool) (targets : List (Name × Option ℕ)) (query : Select) → asked_stmt a (stmt.Into strict targets query) ≡ breaks 13 true
+pub into_asks : (a : Asked) (strict : Bool) (targets : List (Name × Option ℕ)) (query : Select) → asked_stmt a (stmt.Into strict targets query) ≡ breaks rule.Types true
 unfolding asked_stmt
 into_asks a strict targets query = refl
 

@@ -5,6 +5,7 @@ use Rattle.away_values.specs.declared.types.Ty.{Ty}
 use Rattle.away_trees.specs.declared.schemas.Schema.{Schema}
 use Rattle.away_trees.specs.declared.statements.Function.{Function}
 use Rattle.away_trees.specs.declared.statements.Stmt.{Stmt}
+use Rattle.away_names.specs.declared.rule.Rule.TheVariants as rule
 use Rattle.away_names.specs.declared.note.Note.{Note}
 use Rattle.away_names.specs.Notes.{joined, breaks, all_notes}
 use Rattle.away_names.specs.Lookups.{Name}
@@ -58,7 +59,7 @@ asked_in s slots result = record { places = record { slots = slot_types slots; f
 -- ---- rules
 
 abbrev pub params_note : List (Name × Ty) → Note
-params_note params = joined (breaks 6 (takes_twice params)) (all_notes (λ p. kept p.0) params)
+params_note params = joined (breaks rule.Duplicates (takes_twice params)) (all_notes (λ p. kept p.0) params)
 
 abbrev pub head_note : Function → Note
 head_note f = joined (kept f.name) (params_note f.params)

@@ -12,6 +12,7 @@ use Rattle.away_trees.specs.declared.statements.Stmt.TheOpen.{Stmt-F, Arm-F}
 use Rattle.away_trees.specs.declared.statements.Stmt.TheOpen as st
 use Rattle.away_trees.specs.StatementAlgebra.{StatementAlgebra, stmt_of, branch_of}
 use Rattle.away_trees.specs.StatementEquations.{statement_algebra}
+use Rattle.away_names.specs.declared.rule.Rule.TheVariants as rule
 use Rattle.away_names.specs.declared.note.Note.{Note}
 use Rattle.away_names.specs.Notes.{clean, joined, breaks, all_notes}
 use Rattle.away_typing.specs.Kinds.{fits}
@@ -25,14 +26,14 @@ pub record Asked : Type 0 where
   pub result : Ty
 
 unfoldable pub asked : Asked → Ty → Expr → Note
-asked a ty e = joined (breaks 13 (not (fits ty (kind_of e a.places)) || (uses_of e).limited)) (breaks 15 (outside (uses_of e)).misused)
+asked a ty e = joined (breaks rule.Types (not (fits ty (kind_of e a.places)) || (uses_of e).limited)) (breaks rule.Aggregates (outside (uses_of e)).misused)
 
 abbrev pub maybe_asked : Asked → Ty → Option Expr → Note
 maybe_asked a ty None = clean
 maybe_asked a ty (Some e) = asked a ty e
 
 unfoldable pub asked_of_slot : Asked → Option Ty → Expr → Note
-asked_of_slot a None e = breaks 13 true
+asked_of_slot a None e = breaks rule.Types true
 asked_of_slot a (Some ty) e = asked a ty e
 
 abbrev pub slot_of : Asked → Option ℕ → Option Ty
@@ -67,7 +68,7 @@ statement (st.Exit label when) a = maybe_asked a Boolean when
 statement (st.Continue label when) a = maybe_asked a Boolean when
 statement (st.Return e) a = asked a a.result e
 statement (st.Raise r) a = clean
-statement (st.Into strict targets query) a = breaks 13 true
+statement (st.Into strict targets query) a = breaks rule.Types true
 statement st.Nothing a = clean
 
 abbrev pub arm : Arm-F By By → By

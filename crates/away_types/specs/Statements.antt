@@ -15,6 +15,7 @@ use Rattle.away_trees.specs.declared.statements.Stmt.TheOpen.{Stmt-F, Arm-F}
 use Rattle.away_trees.specs.declared.statements.Stmt.TheOpen as st
 use Rattle.away_trees.specs.StatementAlgebra.{StatementAlgebra}
 use Rattle.away_trees.specs.StatementEquations.{statement_algebra}
+use Rattle.away_names.specs.declared.rule.Rule.TheVariants as rule
 use Rattle.away_names.specs.declared.note.Note.{Note}
 use Rattle.away_names.specs.declared.note.Named.{Named}
 use Rattle.away_names.specs.declared.scope.Variable.{Variable}
@@ -77,7 +78,7 @@ declared d scope =
     let default = held (λ e. named_expr e scope) d.default in
     record {
       it = record { name = d.name; ty = d.ty; constant = d.constant; not_null = d.not_null; default = default.it };
-      note = joined (written scope d.name) (joined (breaks 12 (lacks_default d)) default.note);
+      note = joined (written scope d.name) (joined (breaks rule.Defaults (lacks_default d)) default.note);
     }
 
 abbrev pub with_declared : Scope → Declared → Decl → Declared
@@ -92,13 +93,13 @@ abbrev pub declared_all : List Decl → Scope → Slots → Declared
 declared_all ds scope slots = fold (with_declared scope) (none_declared scope slots) ds
 
 unfoldable pub assigned : Name → Option Variable → Named Expr → Named Stmt
-assigned name None e = record { it = stmt.Assign name None e.it; note = joined (breaks 7 true) e.note }
-assigned name (Some v) e = record { it = stmt.Assign name (Some v.slot) e.it; note = joined (breaks 11 v.constant) e.note }
+assigned name None e = record { it = stmt.Assign name None e.it; note = joined (breaks rule.Names true) e.note }
+assigned name (Some v) e = record { it = stmt.Assign name (Some v.slot) e.it; note = joined (breaks rule.Constants v.constant) e.note }
 
 -- ---- labels
 
 abbrev pub labelled : Scope → Option Name → Option Name → Note
-labelled scope label closing = joined (maybe_written scope label) (joined (maybe_written scope closing) (breaks 10 (not (closes label closing))))
+labelled scope label closing = joined (maybe_written scope label) (joined (maybe_written scope closing) (breaks rule.Labels (not (closes label closing))))
 
 abbrev pub within : Option Name → Bool → List Variable → Spot → Spot
 within label is_loop variables spot = record { scope = seeing variables spot.scope; around = spot.around ++ record { label = label; is_loop = is_loop } ∷ [] }
@@ -108,7 +109,11 @@ within label is_loop variables spot = record { scope = seeing variables spot.sco
 abbrev pub jump : (Option Name → Option Expr → Stmt) → (Option Name → List Around → Bool) → Option Name → Option Expr → By Stmt
 jump form may label when spot slots =
     let test = held (λ e. named_expr e spot.scope) when in
-    record { it = form label test.it; note = joined (maybe_written spot.scope label) (joined (breaks 10 (not (may label spot.around))) test.note); slots = slots }
+    record {
+      it = form label test.it;
+      note = joined (maybe_written spot.scope label) (joined (breaks rule.Labels (not (may label spot.around))) test.note);
+      slots = slots;
+    }
 
 -- the loop's head
 abbrev pub headed : LoopKind → Scope → Slots → Headed
@@ -141,7 +146,7 @@ abbrev pub block_with : Spot → Option Name → List Decl → Option Name → L
 block_with spot label decls closing declarations found xs =
     record {
       it = stmt.Block label declarations xs.it closing;
-      note = joined (joined (labelled spot.scope label closing) (breaks 6 (declares_twice decls))) (joined found xs.note);
+      note = joined (joined (labelled spot.scope label closing) (breaks rule.Duplicates (declares_twice decls))) (joined found xs.note);
       slots = xs.slots;
     }
 
@@ -156,11 +161,11 @@ assign_with spot name e slots =
     record { it = x.it; note = joined (written spot.scope name) x.note; slots = slots }
 
 abbrev pub raise_with : Raised → Slots → Resolved Stmt
-raise_with r slots = record { it = stmt.Raise r; note = breaks 16 (not (may_raise r)); slots = slots }
+raise_with r slots = record { it = stmt.Raise r; note = breaks rule.Raises (not (may_raise r)); slots = slots }
 
 -- no reader gives INTO yet, and it has no type
 abbrev pub into_with : Bool → List (Name × Option ℕ) → Select → Slots → Resolved Stmt
-into_with strict targets query slots = record { it = stmt.Into strict targets query; note = breaks 13 true; slots = slots }
+into_with strict targets query slots = record { it = stmt.Into strict targets query; note = breaks rule.Types true; slots = slots }
 
 abbrev pub statement : Stmt-F (By Stmt) (By Arm) → By Stmt
 statement (st.Block label decls body closing) spot slots =

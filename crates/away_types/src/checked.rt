@@ -1,12 +1,13 @@
 //! Why a check refuses a tree.
 
+use away_names::rule::Rule;
 use thiserror::Error;
 
 /// The least rule that the tree breaks, or want of memory.
 #[derive(Clone, Copy, Debug, PartialEq, Eq, Error)]
 pub enum RuleRefusal {
-    #[error("rule X{0} is broken")]
-    Rule(u8),
+    #[error("rule X{} is broken", .0.number())]
+    Broken(Rule),
     #[error("no memory was left")]
     NoMemory,
 }

@@ -146,8 +146,8 @@ pub fn check_function(
     match judged(alloc, &s.schema, &f) {
         Err(NoMemory) => Err(RuleRefusal::NoMemory),
         Ok(Verdict { body, slots, note }) => {
-            if note.least == 255 {
-                Ok(CheckedFunction {
+            match note.least {
+                None => Ok(CheckedFunction {
                     function: Function {
                         name: f.name,
                         strict: f.strict,
@@ -156,9 +156,8 @@ pub fn check_function(
                         body: body.into_inner(),
                     },
                     slots,
-                })
-            } else {
-                Err(RuleRefusal::Rule(note.least))
+                }),
+                Some(rule) => Err(RuleRefusal::Broken(rule)),
             }
         }
     }

@@ -21,6 +21,7 @@ mod statement_types;
 mod steps;
 mod variables;
 
+pub use away_names::rule::Rule;
 pub use checked::RuleRefusal;
 pub use checked_function::CheckedFunction;
 pub use checked_query::CheckedQuery;

@@ -5,6 +5,7 @@ ghost use Rattle.away_types.specs.AskedBy.{asked_by};
 ghost use Rattle.away_types.specs.StatementTypes as spec;
 
 use away_names::note::{Note, breaks, clean, joined};
+use away_names::rule::Rule;
 use away_trees::{Arm, Decl, Expr, LoopKind, Stmt};
 use away_typing::kind::fits;
 use away_typing::types::{Places, kind};
@@ -26,8 +27,8 @@ fn asked(alloc: Global, a: &Asking<'_>, ty: Ty, e: &Expr) -> Result<Note, NoMemo
     let k = kind(alloc, e, &a.places)?;
     let u = used(e)?;
     Ok(joined(
-        breaks(13, !fits(ty, k) || u.limited),
-        breaks(15, outside(u).misused),
+        breaks(Rule::Types, !fits(ty, k) || u.limited),
+        breaks(Rule::Aggregates, outside(u).misused),
     ))
 }
 
@@ -54,7 +55,7 @@ fn asked_of_slot(alloc: Global, a: &Asking<'_>, ty: Option<Ty>, e: &Expr) -> Res
     ensures { IfOk result (λ n. n ≡ spec.asked_of_slot (asked_by a.now) ty e.now) }
 {
     match ty {
-        None => Ok(breaks(13, true)),
+        None => Ok(breaks(Rule::Types, true)),
         Some(ty) => asked(alloc, a, ty, e),
     }
 }
@@ -120,7 +121,7 @@ pub fn asked_stmt(alloc: Global, a: &Asking<'_>, s: &Stmt) -> Result<Note, NoMem
         Stmt::Exit(_, when) | Stmt::Continue(_, when) => maybe_asked(alloc, a, Ty::Boolean, when),
         Stmt::Return(e) => asked(alloc, a, a.result, e),
         Stmt::Raise(_) => Ok(clean()),
-        Stmt::Into { .. } => Ok(breaks(13, true)),
+        Stmt::Into { .. } => Ok(breaks(Rule::Types, true)),
         Stmt::Nothing => Ok(clean()),
     }
 }

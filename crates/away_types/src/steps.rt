@@ -21,6 +21,7 @@ use away_names::lookups::variable_named;
 use away_names::naming::{named_expr, named_maybe};
 use away_names::note::{Named, Note, breaks, clean, joined};
 use away_names::references::{maybe_written, written};
+use away_names::rule::Rule;
 use away_names::scope::{Scope, Variable};
 use away_trees::{Decl, Expr, LoopKind, Raised, Select, Stmt};
 use away_values::{Name, NoMemory, Ty};
@@ -40,11 +41,11 @@ fn assigned(
     match v {
         None => Ok(Named {
             it: Stmt::Assign(target, None, e.it),
-            note: joined(breaks(7, true), e.note),
+            note: joined(breaks(Rule::Names, true), e.note),
         }),
         Some(v) => Ok(Named {
             it: Stmt::Assign(target, Some(v.slot), e.it),
-            note: joined(breaks(11, v.constant), e.note),
+            note: joined(breaks(Rule::Constants, v.constant), e.note),
         }),
     }
 }
@@ -63,7 +64,7 @@ pub fn block_of(
 {
     let found = joined(
         labelled(&spot.scope, label, closing),
-        breaks(6, declares_twice(decls)),
+        breaks(Rule::Duplicates, declares_twice(decls)),
     );
     let Resolved {
         it: statements,
@@ -150,7 +151,10 @@ pub fn exit_of(
         it: Stmt::Exit(copy_alias(alloc, label)?, test.it),
         note: joined(
             maybe_written(&spot.scope, label),
-            joined(breaks(10, !may_exit(label, spot.around)), test.note),
+            joined(
+                breaks(Rule::Labels, !may_exit(label, spot.around)),
+                test.note,
+            ),
         ),
         slots,
     })
@@ -170,7 +174,10 @@ pub fn continue_of(
         it: Stmt::Continue(copy_alias(alloc, label)?, test.it),
         note: joined(
             maybe_written(&spot.scope, label),
-            joined(breaks(10, !may_continue(label, spot.around)), test.note),
+            joined(
+                breaks(Rule::Labels, !may_continue(label, spot.around)),
+                test.note,
+            ),
         ),
         slots,
     })
@@ -181,7 +188,7 @@ pub fn raise_of(alloc: Global, raised: &Raised, slots: Slots) -> Result<Resolved
 {
     Ok(Resolved {
         it: Stmt::Raise(raised.copy(alloc)?),
-        note: breaks(16, !may_raise(raised)),
+        note: breaks(Rule::Raises, !may_raise(raised)),
         slots,
     })
 }
@@ -216,7 +223,7 @@ pub fn into_of(
             targets,
             query: query.copy(alloc)?,
         },
-        note: breaks(13, true),
+        note: breaks(Rule::Types, true),
         slots,
     })
 }
