@@ -1,5 +1,5 @@
 -- What the files of a run read as and are judged to be, and which rules they are refused by.
-use Rattle.std.specs.Prelude.{◌≡◌, ◌≢◌, ◌⊎◌, ℕ, List, codes}
+use Rattle.std.specs.Prelude.{◌≡◌, ◌⊎◌, ℕ, List, Some, codes}
 use Rattle.away_trees.specs.declared.queries.Query.{Query}
 use Rattle.away_trees.specs.declared.schemas.Schema.{Schema}
 use Rattle.away_trees.specs.declared.statements.Function.{Function}
@@ -11,6 +11,8 @@ use Rattle.away_lex.specs.declared.refusals.ReadRefusal.TheVariants.{NotText, To
 use Rattle.sql_text.specs.Refusals as texts
 use Rattle.plsql_parse.specs.Refusals as functions
 use Rattle.away_names.specs.declared.note.Note.{Note}
+use Rattle.away_names.specs.declared.rule.Rule.{Rule}
+use Rattle.away_names.specs.Rules.{number}
 use Rattle.away_types.specs.CheckedQueries.{query_note}
 use Rattle.away_types.specs.FunctionChecks.{function_note}
 use Rattle.away_types.specs.Refusals.{IsUnbroken}
@@ -30,10 +32,11 @@ IsRule NoMemory rule = ⊥
 abbrev pub RefusesRead : (ReadRefusal → Type 0) → List ℕ → Type 0
 RefusesRead Refuses rule = (refusal : ReadRefusal) × Refuses refusal × IsRule refusal rule
 
--- the least rule of names, scopes and types that a tree breaks is this one; 255 is no rule
+-- the least rule of names, scopes and types that a tree breaks is printed so
 pub record BreaksRule (note : Note) (rule : List ℕ) : Type 0 where
-  pub broken : note.least ≢ 255
-  pub rule_is : rule ≡ numbered_rule note.least
+  pub broken : Rule
+  pub least : note.least ≡ Some broken
+  pub rule_is : rule ≡ numbered_rule (number broken)
 
 -- ---- the schema
 

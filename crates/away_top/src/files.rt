@@ -85,7 +85,7 @@ fn checked_schema(alloc: Global, name: &str, schema: Schema) -> Result<CheckedSc
 {
     match check_schema(alloc, schema) {
         Ok(checked) => Ok(checked),
-        Err(RuleRefusal::Rule(rule)) => Err(Halt::Ended(refused_rule(alloc, name, rule)?)),
+        Err(RuleRefusal::Broken(rule)) => Err(Halt::Ended(refused_rule(alloc, name, rule)?)),
         Err(RuleRefusal::NoMemory) => Err(Halt::NoMemory),
     }
 }
@@ -118,7 +118,7 @@ fn checked_function(
 {
     match check_function(alloc, tables, function) {
         Ok(checked) => Ok(Boxed::new(alloc, checked)?),
-        Err(RuleRefusal::Rule(rule)) => Err(Halt::Ended(refused_rule(alloc, name, rule)?)),
+        Err(RuleRefusal::Broken(rule)) => Err(Halt::Ended(refused_rule(alloc, name, rule)?)),
         Err(RuleRefusal::NoMemory) => Err(Halt::NoMemory),
     }
 }
@@ -150,7 +150,7 @@ fn checked_query(
 {
     match check_query(alloc, tables, query) {
         Ok(checked) => Ok(Boxed::new(alloc, checked)?),
-        Err(RuleRefusal::Rule(rule)) => Err(Halt::Ended(refused_rule(alloc, name, rule)?)),
+        Err(RuleRefusal::Broken(rule)) => Err(Halt::Ended(refused_rule(alloc, name, rule)?)),
         Err(RuleRefusal::NoMemory) => Err(Halt::NoMemory),
     }
 }

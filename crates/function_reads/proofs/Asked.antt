@@ -1,5 +1,5 @@
 -- In a function that breaks no rule of types, no aggregate stands in an expression outside a select's list.
-use Rattle.std.proofs.Common.{◌≡◌, Bool, true, false, not, ◌||◌, List, [], ◌∷◌, ◌++◌, fold, Option, Some, None, ◌∙◌, arith}
+use Rattle.std.proofs.Common.{◌≡◌, Bool, true, false, not, ◌||◌, List, [], ◌∷◌, ◌++◌, fold, Option, Some, None, ◌∙◌}
 use Rattle.away_values.specs.declared.types.Ty.{Ty}
 use Rattle.away_values.specs.declared.types.Ty.TheVariants.{Bigint, Boolean}
 use Rattle.away_trees.specs.declared.queries.Expr.{Expr}
@@ -9,6 +9,7 @@ use Rattle.away_trees.specs.declared.statements.LoopKind.TheVariants as kind
 use Rattle.away_trees.specs.declared.statements.Stmt.{Stmt}
 use Rattle.away_trees.specs.declared.statements.Stmt.TheBlock as b
 use Rattle.away_trees.specs.StatementAlgebra.{stmt_of, stmts_of, branches_of, else_of}
+use Rattle.away_names.specs.declared.rule.Rule.TheVariants as rule
 use Rattle.away_names.specs.declared.note.Note.{Note}
 use Rattle.away_names.specs.Notes.{clean, joined, breaks}
 use Rattle.away_typing.specs.declared.uses.Uses.{Uses}
@@ -42,8 +43,8 @@ module _ (a : Asked) where
   one_single : (t : Ty) (e : Expr) → Clean (asked a t e) → IsSingle e
   unfolding asked
   one_single t e c =
-      let both = clean_parts (breaks 13 (not (fits t (kind_of e a.places)) || (uses_of e).limited)) (breaks 15 (outside (uses_of e)).misused) c in
-      aggregates_are e ∙ outside_is (uses_of e) (test_fails 15 (outside (uses_of e)).misused (omega arith) both.1)
+      let both = clean_parts (breaks rule.Types (not (fits t (kind_of e a.places)) || (uses_of e).limited)) (breaks rule.Aggregates (outside (uses_of e)).misused) c in
+      aggregates_are e ∙ outside_is (uses_of e) (test_fails rule.Aggregates (outside (uses_of e)).misused both.1)
 
   maybe_single : (t : Ty) (o : Option Expr) → Clean (maybe_asked a t o) → AreSingle (if_there o)
   maybe_single t None c = tt
@@ -51,7 +52,7 @@ module _ (a : Asked) where
 
   slot_single : (o : Option Ty) (e : Expr) → Clean (asked_of_slot a o e) → IsSingle e
   unfolding asked_of_slot
-  slot_single None e c = absurd (not_broken 13 (omega arith) c)
+  slot_single None e c = absurd (not_broken rule.Types c)
   slot_single (Some t) e c = one_single t e c
 
   head_single : (k : LoopKind) → Clean (head_asked k a) → AreSingle (of_kind k)

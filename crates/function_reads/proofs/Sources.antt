@@ -16,7 +16,7 @@ use Rattle.block_forms.specs.Expressions.{Sources, sources, fixed_list, expressi
 use Rattle.block_forms.specs.OwnSlots.{named_slots}
 use Rattle.block_forms.specs.Places.{Each}
 use Rattle.typed_values.specs.Sorts.{Every}
-use Rattle.typed_values.proofs.CleanNotes.{Clean, clean_parts, unbroken_clean}
+use Rattle.typed_values.proofs.CleanNotes.{Clean, clean_parts}
 use Rattle.function_slots.proofs.Lookups as slot
 use Rattle.function_slots.proofs.Parameters.{of_written}
 use Rattle.function_slots.proofs.Taken as taken
@@ -71,7 +71,7 @@ written_over s f small c =
 pub over_their_tables : (s : Schema) (written f : Function) (slots : List Slot) → IsChecked s written f slots → length s.tables < 2 ^ 64
     → Each (IsOverTables (length s.tables)) (expressions f)
 over_their_tables s written f slots checked small =
-    let own = written_over s written small (unbroken_clean (function_note s written) checked.unbroken) in
+    let own = written_over s written small checked.unbroken in
     let here : AreOver (length s.tables) (sources f.body) = subst (λ (g : Function). AreOver (length s.tables) (sources g.body)) (sym checked.function) own in
     each_over (length s.tables) (expressions f)
     (both_over (length s.tables) (sources f.body) fixed_list here (fixed_over (length s.tables)))

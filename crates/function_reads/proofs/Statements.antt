@@ -11,6 +11,7 @@ use Rattle.away_trees.specs.declared.statements.Stmt.TheOpen as st
 use Rattle.away_trees.specs.declared.statements.Stmt.TheBlock as b
 use Rattle.away_trees.specs.StatementAlgebra.{stmt_of, stmts_of, branches_of, else_of, branch_of}
 use Rattle.away_trees.proofs.StatementEquations as eq
+use Rattle.away_names.specs.declared.rule.Rule.TheVariants as rule
 use Rattle.away_names.specs.declared.scope.Variable.{Variable}
 use Rattle.away_names.specs.Lookups.{Name, Scope, variable_named}
 use Rattle.away_names.specs.Notes.{joined, breaks, held}
@@ -171,8 +172,8 @@ module _ (tables : ℕ) where
   assign_fine : (name : Name) (e : Expr) (spot : Spot) → Placed spot.scope → (v : Option Variable)
       → Clean (assigned name v (named_expr e spot.scope)).note → AllBelow (of_stmt (assigned name v (named_expr e spot.scope)).it)
   unfolding assigned
-  assign_fine name e spot p None c = single_fine e spot.scope p (clean_parts (breaks 7 true) (named_expr e spot.scope).note c).1
-  assign_fine name e spot p (Some v) c = single_fine e spot.scope p (clean_parts (breaks 11 v.constant) (named_expr e spot.scope).note c).1
+  assign_fine name e spot p None c = single_fine e spot.scope p (clean_parts (breaks rule.Names true) (named_expr e spot.scope).note c).1
+  assign_fine name e spot p (Some v) c = single_fine e spot.scope p (clean_parts (breaks rule.Constants v.constant) (named_expr e spot.scope).note c).1
 
   -- ---- all statements
 

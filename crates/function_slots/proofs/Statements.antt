@@ -11,6 +11,7 @@ use Rattle.away_trees.specs.declared.statements.Stmt.TheVariants as stmt
 use Rattle.away_trees.specs.declared.statements.Stmt.TheOpen as st
 use Rattle.away_trees.specs.declared.statements.Stmt.TheBlock as b
 use Rattle.away_trees.specs.StatementAlgebra.{stmt_of, stmts_of, branches_of, else_of}
+use Rattle.away_names.specs.declared.rule.Rule.TheVariants as rule
 use Rattle.away_names.specs.declared.scope.Variable.{Variable}
 use Rattle.away_names.specs.Lookups.{Name, Scope, variable_named}
 use Rattle.away_names.specs.Notes.{joined, breaks, held}
@@ -134,10 +135,10 @@ maybe_takes o scope slots p c = takes_none [] (if_there (held (λ e. named_expr 
 
 assign_takes : (name : Name) (e : Expr) (spot : Spot) (slots : Slots) → Placed (length slots.shown) spot.scope → (v : Option Variable) → variable_named name spot.scope.variables ≡ v → Clean (assigned name v (named_expr e spot.scope)).note → Takes (found (assigned name v (named_expr e spot.scope)).it) slots slots
 unfolding assigned
-assign_takes name e spot slots p None is c = single_takes e spot.scope slots p (clean_parts (breaks 7 true) (named_expr e spot.scope).note c).1
+assign_takes name e spot slots p None is c = single_takes e spot.scope slots p (clean_parts (breaks rule.Names true) (named_expr e spot.scope).note c).1
 assign_takes name e spot slots p (Some v) is c =
     takes_none (v.slot ∷ []) ((named_expr e spot.scope).it ∷ []) slots (variable_below (length slots.shown) name spot.scope.variables v p.0.1 is, tt)
-    (expr_taken (length slots.shown) e spot.scope p (clean_parts (breaks 11 v.constant) (named_expr e spot.scope).note c).1, tt)
+    (expr_taken (length slots.shown) e spot.scope p (clean_parts (breaks rule.Constants v.constant) (named_expr e spot.scope).note c).1, tt)
 
 -- ---- all statements
 
@@ -155,7 +156,7 @@ mutual
   stmt_takes (b.Continue label when) = λ spot slots p c. maybe_takes when spot.scope slots p (clean_parts _ _ (clean_parts _ _ c).1).1
   stmt_takes (b.Return e) = λ spot slots p c. single_takes e spot.scope slots p c
   stmt_takes (b.Raise raised) = λ spot slots p c. takes_none [] [] slots tt tt
-  stmt_takes (b.Into strict targets query) = λ spot slots p c. absurd (not_broken 13 (omega arith) c)
+  stmt_takes (b.Into strict targets query) = λ spot slots p c. absurd (not_broken rule.Types c)
   stmt_takes b.Nothing = λ spot slots p c. takes_none [] [] slots tt tt
 
   stmts_take : {m : _} (body : b.Row_of-Stmt m) → Every (TakesBy found) (stmts_of resolving body)

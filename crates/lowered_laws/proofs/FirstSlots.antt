@@ -7,7 +7,7 @@ use Rattle.away_types.specs.CheckedFunctions.{IsChecked, IsCheckedOfSome}
 use Rattle.away_types.specs.FunctionChecks.{start, entry, body_of, slots_of, function_note, head_note, types_note}
 use Rattle.away_types.specs.ResolvedBodies.{resolved_stmt}
 use Rattle.away_names.specs.Notes.{joined}
-use Rattle.typed_values.proofs.CleanNotes.{Clean, clean_parts, unbroken_clean}
+use Rattle.typed_values.proofs.CleanNotes.{Clean, clean_parts}
 use Rattle.slots_in_sight.proofs.Names as seen
 use Rattle.slots_in_sight.proofs.Parameters.{started}
 use Rattle.slots_in_sight.proofs.Statements.{stmt_good}
@@ -32,7 +32,7 @@ of_checked : (s : Schema) (written checked : Function) (slots : List Slot) → I
     → length checked.params ≤ length slots
 of_checked s written checked slots h =
     let same : length checked.params ≡ length written.params = ap (λ (f : Function). length f.params) h.function in
-    omega (arith, same, ap (λ (xs : List Slot). length xs) h.slots_are, of_written s written (unbroken_clean (function_note s written) h.unbroken))
+    omega (arith, same, ap (λ (xs : List Slot). length xs) h.slots_are, of_written s written h.unbroken)
 
 pub parameters_first : (checked : Function) (slots : List Slot) → IsCheckedOfSome checked slots → length checked.params ≤ length slots
 parameters_first checked slots h = of_checked h.schema h.written checked slots h.checked_is

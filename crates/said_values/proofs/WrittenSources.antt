@@ -1,6 +1,6 @@
 -- Each source expression of a checked function stands for a written one: its names are resolved where the schema's tables are in sight alone, and break
 -- no rule. What holds of all written source expressions holds of that one.
-use Rattle.std.proofs.Common.{◌≡◌, refl, sym, subst, arith, true, false, List, [], ◌∷◌, ◌++◌, map, fold, Option, Some, None, option_map}
+use Rattle.std.proofs.Common.{◌≡◌, refl, sym, subst, true, false, List, [], ◌∷◌, ◌++◌, map, fold, Option, Some, None, option_map}
 use Rattle.away_trees.specs.declared.queries.Expr.{Expr}
 use Rattle.away_trees.specs.declared.schemas.Schema.{Schema}
 use Rattle.away_trees.specs.declared.statements.Arm.{Arm}
@@ -14,6 +14,7 @@ use Rattle.away_trees.specs.declared.statements.Stmt.TheOpen as st
 use Rattle.away_trees.specs.declared.statements.Stmt.TheBlock as b
 use Rattle.away_trees.specs.StatementAlgebra.{stmt_of, branch_of, stmts_of, branches_of, else_of}
 use Rattle.away_trees.proofs.StatementEquations as eq
+use Rattle.away_names.specs.declared.rule.Rule.TheVariants as rule
 use Rattle.away_names.specs.declared.scope.Variable.{Variable}
 use Rattle.away_names.specs.Lookups.{Name, Scope, variable_named}
 use Rattle.away_names.specs.Notes.{joined, breaks, held}
@@ -29,7 +30,7 @@ use Rattle.away_types.specs.Statements as n
 use Rattle.away_types.specs.Statements.{Spot, By, resolving, assigned}
 use Rattle.block_forms.specs.Expressions.{Sources, sourcing, sources, in_turn, if_there, defaults, of_kind, of_else}
 use Rattle.typed_values.specs.Sorts.{Every}
-use Rattle.typed_values.proofs.CleanNotes.{Clean, clean_parts, not_broken, unbroken_clean}
+use Rattle.typed_values.proofs.CleanNotes.{Clean, clean_parts, not_broken}
 use Rattle.typed_values.proofs.Lists.{every_append, every_left, every_right}
 use Rattle.placed_names.proofs.Sources.{Plain}
 
@@ -178,8 +179,8 @@ module _ (P : Expr → Type 0) (schema : Schema) where
   assign_resolved : (name : Name) (e : Expr) (spot : Spot) → P e → Plain schema spot.scope → (v : Option Variable)
       → Clean (assigned name v (named_expr e spot.scope)).note → All (of_stmt (assigned name v (named_expr e spot.scope)).it)
   unfolding assigned
-  assign_resolved name e spot q p None c = one_resolved e spot.scope q p (clean_parts (breaks 7 true) (named_expr e spot.scope).note c).1
-  assign_resolved name e spot q p (Some v) c = one_resolved e spot.scope q p (clean_parts (breaks 11 v.constant) (named_expr e spot.scope).note c).1
+  assign_resolved name e spot q p None c = one_resolved e spot.scope q p (clean_parts (breaks rule.Names true) (named_expr e spot.scope).note c).1
+  assign_resolved name e spot q p (Some v) c = one_resolved e spot.scope q p (clean_parts (breaks rule.Constants v.constant) (named_expr e spot.scope).note c).1
 
   -- ---- all statements
 
@@ -211,7 +212,7 @@ module _ (P : Expr → Type 0) (schema : Schema) where
     stmt_resolved (b.Continue label when) q = λ spot slots p c. maybe_resolved when spot.scope q p (clean_parts _ _ (clean_parts _ _ c).1).1
     stmt_resolved (b.Return e) q = λ spot slots p c. one_resolved e spot.scope q.0 p c
     stmt_resolved (b.Raise raised) q = λ spot slots p c. tt
-    stmt_resolved (b.Into strict targets query) q = λ spot slots p c. absurd (not_broken 13 (omega arith) c)
+    stmt_resolved (b.Into strict targets query) q = λ spot slots p c. absurd (not_broken rule.Types c)
     stmt_resolved b.Nothing q = λ spot slots p c. tt
 
     stmts_resolved : {m : _} (body : b.Row_of-Stmt m) → Every P (in_turn (stmts_of sourcing body)) → Every (ResolvesBy of_stmt) (stmts_of resolving body)
@@ -249,4 +250,4 @@ module _ (P : Expr → Type 0) where
       → Every (StandsFor P schema) (sources f.body)
   sources_stand schema written f slots h q =
       subst (λ (f : Function). Every (StandsFor P schema) (sources f.body)) (sym h.function)
-      (body_resolved schema written q (unbroken_clean (function_note schema written) h.unbroken))
+      (body_resolved schema written q h.unbroken)

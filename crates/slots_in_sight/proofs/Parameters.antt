@@ -13,7 +13,7 @@ use Rattle.away_types.specs.FunctionChecks.{start, with_param, entry, body_of, f
 use Rattle.away_types.specs.ResolvedBodies.{resolved_stmt}
 use Rattle.away_trees.specs.StatementAlgebra.{stmt_of}
 use Rattle.typed_values.specs.Sorts.{Every}
-use Rattle.typed_values.proofs.CleanNotes.{Clean, clean_parts, unbroken_clean}
+use Rattle.typed_values.proofs.CleanNotes.{Clean, clean_parts}
 use Rattle.slots_in_sight.specs.Sight.{walking}
 use Rattle.slots_in_sight.specs.InSight.{ReadsInSight, AllInSight}
 use Rattle.slots_in_sight.proofs.Names.{slots_of}
@@ -53,7 +53,7 @@ of_written s f c =
     (subst (λ k. Every ReadsInSight (stmt_of walking (body_of s f).it k (slots_of (start f.params).variables)).exprs) first.shown good.exprs)
 
 pub checked_in_sight : (s : Schema) (written checked : Function) (slots : List Slot) → IsChecked s written checked slots → AllInSight checked
-checked_in_sight s written checked slots h = subst AllInSight (sym h.function) (of_written s written (unbroken_clean (function_note s written) h.unbroken))
+checked_in_sight s written checked slots h = subst AllInSight (sym h.function) (of_written s written h.unbroken)
 
 pub of_some : (checked : Function) (slots : List Slot) → IsCheckedOfSome checked slots → AllInSight checked
 of_some checked slots h = checked_in_sight h.schema h.written checked slots h.checked_is

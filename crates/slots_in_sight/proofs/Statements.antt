@@ -1,5 +1,5 @@
 -- In a function whose names are resolved and break no rule, each expression reads slots in sight alone.
-use Rattle.std.proofs.Common.{◌≡◌, refl, sym, ap, subst, ◌∙◌, ℕ, ◌+◌, arith, true, false, List, [], ◌∷◌, ◌++◌, map, fold, length, Option, Some, None, option_map}
+use Rattle.std.proofs.Common.{◌≡◌, refl, sym, ap, subst, ◌∙◌, ℕ, ◌+◌, true, false, List, [], ◌∷◌, ◌++◌, map, fold, length, Option, Some, None, option_map}
 use Rattle.away_values.specs.declared.types.Ty.TheVariants.{Bigint}
 use Rattle.away_trees.specs.declared.queries.Expr.{Expr}
 use Rattle.away_trees.specs.declared.statements.Arm.{Arm}
@@ -12,6 +12,7 @@ use Rattle.away_trees.specs.declared.statements.Stmt.TheOpen as st
 use Rattle.away_trees.specs.declared.statements.Stmt.TheBlock as b
 use Rattle.away_trees.specs.StatementAlgebra.{stmt_of, stmts_of, branches_of, else_of, branch_of}
 use Rattle.away_trees.proofs.StatementEquations as eq
+use Rattle.away_names.specs.declared.rule.Rule.TheVariants as rule
 use Rattle.away_names.specs.declared.scope.Variable.{Variable}
 use Rattle.away_names.specs.Lookups.{Name, Scope, variable_named}
 use Rattle.away_names.specs.Notes.{joined, breaks, held}
@@ -148,8 +149,8 @@ maybe_good o scope slots c = record { exprs = maybe_read o scope (length slots.s
 
 assign_good : (name : Name) (e : Expr) (spot : Spot) (slots : Slots) (v : Option Variable) → Clean (assigned name v (named_expr e spot.scope)).note → Good (of_stmt (assigned name v (named_expr e spot.scope)).it (length slots.shown) (seen_at spot)) slots
 unfolding assigned
-assign_good name e spot slots None c = single_good e spot.scope slots (clean_parts (breaks 7 true) (named_expr e spot.scope).note c).1
-assign_good name e spot slots (Some v) c = single_good e spot.scope slots (clean_parts (breaks 11 v.constant) (named_expr e spot.scope).note c).1
+assign_good name e spot slots None c = single_good e spot.scope slots (clean_parts (breaks rule.Names true) (named_expr e spot.scope).note c).1
+assign_good name e spot slots (Some v) c = single_good e spot.scope slots (clean_parts (breaks rule.Constants v.constant) (named_expr e spot.scope).note c).1
 
 -- ---- all statements
 
@@ -167,7 +168,7 @@ mutual
   stmt_good (b.Continue label when) = λ spot slots c. maybe_good when spot.scope slots (clean_parts _ _ (clean_parts _ _ c).1).1
   stmt_good (b.Return e) = λ spot slots c. single_good e spot.scope slots c
   stmt_good (b.Raise raised) = λ spot slots c. good_none (length slots.shown) (seen_at spot) slots refl
-  stmt_good (b.Into strict targets query) = λ spot slots c. absurd (not_broken 13 (omega arith) c)
+  stmt_good (b.Into strict targets query) = λ spot slots c. absurd (not_broken rule.Types c)
   stmt_good b.Nothing = λ spot slots c. good_none (length slots.shown) (seen_at spot) slots refl
 
   stmts_good : {m : _} (body : b.Row_of-Stmt m) → Every (GoodBy of_stmt) (stmts_of resolving body)

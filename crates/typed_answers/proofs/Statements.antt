@@ -1,5 +1,5 @@
 -- Each expression of a checked function gives a value of the type that is asked of it.
-use Rattle.std.proofs.Common.{◌≡◌, refl, sym, subst, ℕ, zero, suc, arith, Bool, true, false, not, ◌||◌, List, [], ◌∷◌, ◌++◌, fold, Option, Some, None}
+use Rattle.std.proofs.Common.{◌≡◌, refl, sym, subst, ℕ, zero, suc, Bool, true, false, not, ◌||◌, List, [], ◌∷◌, ◌++◌, fold, Option, Some, None}
 use Rattle.std.specs.Prelude.{slice_get}
 use Rattle.away_values.specs.declared.types.Ty.{Ty}
 use Rattle.away_values.specs.declared.types.Ty.TheVariants.{Bigint, Boolean}
@@ -12,6 +12,7 @@ use Rattle.away_trees.specs.declared.statements.LoopKind.TheVariants as kind
 use Rattle.away_trees.specs.declared.statements.Stmt.{Stmt}
 use Rattle.away_trees.specs.declared.statements.Stmt.TheBlock as b
 use Rattle.away_trees.specs.StatementAlgebra.{stmt_of, stmts_of, branches_of, else_of}
+use Rattle.away_names.specs.declared.rule.Rule.TheVariants as rule
 use Rattle.away_names.specs.declared.note.Note.{Note}
 use Rattle.away_names.specs.Notes.{clean, joined, breaks}
 use Rattle.away_typing.specs.Aggregates.{outside}
@@ -25,7 +26,7 @@ use Rattle.away_types.specs.StatementTypes as checks
 use Rattle.away_types.specs.StatementTypes.{Asked, asked, maybe_asked, asked_of_slot, head_asked, asked_stmt}
 use Rattle.typed_values.specs.Arguments.{Params, Supplied, params_in}
 use Rattle.typed_values.specs.Sorts.{IsOf, Every}
-use Rattle.typed_values.proofs.CleanNotes.{Clean, clean_parts, not_broken, test_fails, unbroken_clean}
+use Rattle.typed_values.proofs.CleanNotes.{Clean, clean_parts, not_broken, test_fails}
 use Rattle.typed_values.proofs.KindRules.{fits_typed}
 use Rattle.typed_values.proofs.Lists.{every_append}
 use Rattle.typed_values.proofs.Trees.{expr_holds}
@@ -62,8 +63,8 @@ module _ (s : Schema) (slots : List Slot) (result : Ty) where
   one_typed : (t : Ty) (e : Expr) → Clean (asked a t e) → Gives (Some t, e)
   unfolding asked kind_of
   one_typed t e c =
-      let both = clean_parts (breaks 13 (not (fits t (kind_of e a.places)) || (uses_of e).limited)) (breaks 15 (outside (uses_of e)).misused) c in
-      let fails = neither (not (fits t (kind_of e a.places))) (uses_of e).limited (test_fails 13 (not (fits t (kind_of e a.places)) || (uses_of e).limited) (omega arith) both.0) in
+      let both = clean_parts (breaks rule.Types (not (fits t (kind_of e a.places)) || (uses_of e).limited)) (breaks rule.Aggregates (outside (uses_of e)).misused) c in
+      let fails = neither (not (fits t (kind_of e a.places))) (uses_of e).limited (test_fails rule.Types (not (fits t (kind_of e a.places)) || (uses_of e).limited) both.0) in
       λ cx v fit none d. fits_typed t (kind_of e a.places) v (not_false (fits t (kind_of e a.places)) fails.0)
       (expr_holds e a.places cx fit (subst (λ args. Supplied args (params_in e)) (sym none) (none_supplied (params_in e))) v d)
 
@@ -73,7 +74,7 @@ module _ (s : Schema) (slots : List Slot) (result : Ty) where
 
   slot_typed : (o : Option Ty) (e : Expr) → Clean (asked_of_slot a o e) → Gives (o, e)
   unfolding asked_of_slot
-  slot_typed None e c = not_broken 13 (omega arith) c
+  slot_typed None e c = not_broken rule.Types c
   slot_typed (Some t) e c = one_typed t e c
 
   assigned_typed : (slot : Option ℕ) (e : Expr) → Clean (asked_of_slot a (checks.slot_of a slot) e) → AllGive ((here.slot_type (slot_types slots) slot, e) ∷ [])
@@ -154,4 +155,4 @@ pub typed : (s : Schema) (written checked : Function) (slots : List Slot) → Is
 typed s written checked slots h =
     subst (λ f. Every (GivesItsType s slots f.result) (here.asked_of f slots)) (sym h.function)
     (subst (λ xs. Every (GivesItsType s xs written.result) (stmt_of here.asking (body_of s written).it (slot_types xs) written.result)) (sym h.slots_are)
-    (of_function s written (unbroken_clean (function_note s written) h.unbroken)))
+    (of_function s written h.unbroken))

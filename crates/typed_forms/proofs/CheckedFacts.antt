@@ -14,7 +14,7 @@ use Rattle.block_forms.specs.Laid.{laid}
 use Rattle.block_forms.specs.Lowered.{numbers_of}
 use Rattle.block_forms.specs.Slots.{slot, variables, own_slots}
 use Rattle.function_slots.proofs.Parameters.{of_written}
-use Rattle.typed_values.proofs.CleanNotes.{Clean, clean_parts, unbroken_clean}
+use Rattle.typed_values.proofs.CleanNotes.{Clean, clean_parts}
 use Rattle.typed_forms.proofs.Standing.{Row, row_right, row_left, row_same, SlotAt, slots_stand, type_at}
 
 pub record Facts (schema : Schema) (f : Function) (slots : List Slot) : Type 0 where
@@ -31,7 +31,7 @@ written_facts s f c =
 pub facts : (schema : Schema) (written f : Function) (slots : List Slot) → IsChecked schema written f slots → Facts schema f slots
 facts schema written f slots h =
     subst (λ f. Facts schema f slots) (sym h.function) (subst (Facts schema (resolved_function schema written)) (sym h.slots_are)
-    (written_facts schema written (unbroken_clean (function_note schema written) h.unbroken)))
+    (written_facts schema written h.unbroken))
 
 -- ---- the slots of the text
 
