@@ -13,9 +13,11 @@ use Rattle.plsql_parse.specs.Refusals as functions
 use Rattle.away_names.specs.declared.note.Note.{Note}
 use Rattle.away_names.specs.declared.rule.Rule.{Rule}
 use Rattle.away_names.specs.Rules.{number}
+use Rattle.away_types.specs.declared.finding.Finding.{Finding}
+use Rattle.away_types.specs.declared.finding.Report.{Report}
 use Rattle.away_types.specs.CheckedQueries.{query_note}
 use Rattle.away_types.specs.FunctionChecks.{function_note}
-use Rattle.away_types.specs.Refusals.{IsUnbroken}
+use Rattle.away_types.specs.Refusals.{HasNoFinding, IsUnbroken}
 use Rattle.away_names.specs.Schemas.{schema_note}
 use Rattle.away_top.specs.Lines.{bad_token, limit_rule, numbered_rule, outside_word}
 
@@ -37,6 +39,12 @@ pub record BreaksRule (note : Note) (rule : List ℕ) : Type 0 where
   pub broken : Rule
   pub least : note.least ≡ Some broken
   pub rule_is : rule ≡ numbered_rule (number broken)
+
+-- so is that of a function, in which the first finding has it
+pub record HasFinding (report : Report) (rule : List ℕ) : Type 0 where
+  pub finding : Finding
+  pub first : report.first ≡ Some finding
+  pub rule_is : rule ≡ numbered_rule (number finding.rule)
 
 -- ---- the schema
 
@@ -74,13 +82,13 @@ pub record ReadsAsFunction (bytes : List ℕ) (function : Function) : Type 0 whe
 pub record IsFunction (schema : Schema) (bytes : List ℕ) : Type 0 where
   pub written : Function
   pub reads_as : ReadsAsFunction bytes written
-  pub unbroken : IsUnbroken (function_note schema written)
+  pub unbroken : HasNoFinding (function_note schema written)
 
 -- it isn't read, or it breaks a rule
 abbrev pub RefusesFunction : Schema → List ℕ → List ℕ → Type 0
 RefusesFunction schema bytes rule =
     RefusesRead (functions.Refuses bytes) rule
-    ⊎ ((function : Function) × ReadsAsFunction bytes function × BreaksRule (function_note schema function) rule)
+    ⊎ ((function : Function) × ReadsAsFunction bytes function × HasFinding (function_note schema function) rule)
 
 -- ---- the query
 

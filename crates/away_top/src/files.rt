@@ -9,7 +9,7 @@ ghost use Rattle.away_names.specs.Schemas.{schema_note};
 ghost use Rattle.away_top.specs.Files.{as_callable, callable_of, function_course, schema_course};
 ghost use Rattle.away_top.specs.SqlCourse.{as_asked, asked_of, query_course};
 ghost use Rattle.away_top.specs.Course.{RefusedBy};
-ghost use Rattle.away_top.specs.Refusals.{BreaksRule, IsFunction, IsKept, IsQuery, IsSchema, RefusesFunction, RefusesQuery, RefusesSchema};
+ghost use Rattle.away_top.specs.Refusals.{BreaksRule, HasFinding, IsFunction, IsKept, IsQuery, IsSchema, RefusesFunction, RefusesQuery, RefusesSchema};
 ghost use Rattle.away_top.specs.Runs.{Follows, Holds, IsRead, StopsAt};
 ghost use Rattle.away_top.specs.Steps.{IsHalt, IsJudged, ReadRefused, stretch_end};
 
@@ -20,8 +20,8 @@ use crate::{Files, ReadError};
 use away_lex::ReadRefusal;
 use away_trees::{Function, Query, Schema};
 use away_types::{
-    CheckedFunction, CheckedQuery, CheckedSchema, RuleRefusal, check_function, check_query,
-    check_schema,
+    CheckedFunction, CheckedQuery, CheckedSchema, FunctionRefusal, RuleRefusal, check_function,
+    check_query, check_schema,
 };
 use plsql_parse::read_function;
 use sql_text::{read_query, read_schema};
@@ -113,13 +113,15 @@ fn checked_function(
     function: Function,
 ) -> Result<Boxed<CheckedFunction>, Halt>
     requires { KeepsLimits function }
-    ensures { IsJudged (RefusedBy name.now (BreaksRule (function_note tables.now.schema function)))
+    ensures { IsJudged (RefusedBy name.now (HasFinding (function_note tables.now.schema function)))
         (λ c. IsChecked tables.now.schema function c.function c.slots) result }
 {
     match check_function(alloc, tables, function) {
         Ok(checked) => Ok(Boxed::new(alloc, checked)?),
-        Err(RuleRefusal::Broken(rule)) => Err(Halt::Ended(refused_rule(alloc, name, rule)?)),
-        Err(RuleRefusal::NoMemory) => Err(Halt::NoMemory),
+        Err(FunctionRefusal::Broken(finding)) => {
+            Err(Halt::Ended(refused_rule(alloc, name, finding.rule)?))
+        }
+        Err(FunctionRefusal::NoMemory) => Err(Halt::NoMemory),
     }
 }
 

@@ -5,7 +5,6 @@ use Rattle.std.proofs.lemmas.Option.{same_Some}
 use Rattle.away_trees.specs.declared.queries.Expr.{Expr}
 use Rattle.away_trees.specs.declared.schemas.Schema.{Schema}
 use Rattle.away_trees.specs.declared.statements.Function.{Function}
-use Rattle.away_names.specs.Notes.{joined}
 use Rattle.away_types.specs.declared.slots.Slot.{Slot}
 use Rattle.away_types.specs.CheckedFunctions.{IsChecked}
 use Rattle.away_types.specs.FunctionChecks.{start, entry, body_of, function_note, head_note, types_note, resolved_function, slots_of, asked_in}
@@ -16,7 +15,7 @@ use Rattle.block_forms.specs.Expressions.{Sources, sources, fixed_list, expressi
 use Rattle.block_forms.specs.OwnSlots.{named_slots}
 use Rattle.block_forms.specs.Places.{Each}
 use Rattle.typed_values.specs.Sorts.{Every}
-use Rattle.typed_values.proofs.CleanNotes.{Clean, clean_parts}
+use Rattle.away_types.proofs.ClearReports.{Clear, clear_bodies}
 use Rattle.function_slots.proofs.Lookups as slot
 use Rattle.function_slots.proofs.Parameters.{of_written}
 use Rattle.function_slots.proofs.Taken as taken
@@ -52,19 +51,18 @@ each_over tables (e ∷ es) h (suc i) x at = each_over tables es h.1 i x at
 
 -- ---- a function
 
-body_below : (s : Schema) (f : Function) → length s.tables < 2 ^ 64 → Clean (body_of s f).note → AllBelow (length s.tables) (sources (body_of s f).it)
+body_below : (s : Schema) (f : Function) → length s.tables < 2 ^ 64 → Clear (body_of s f).note → AllBelow (length s.tables) (sources (body_of s f).it)
 unfolding resolved_stmt sources
 body_below s f small c = stmt_fine (length s.tables) f.body (entry s f.params) (start f.params).slots ((λ x. tables_below s small x), refl) c
 
-body_single : (s : Schema) (f : Function) → Clean (types_note s f) → AreSingle (sources (body_of s f).it)
+body_single : (s : Schema) (f : Function) → Clear (types_note s f) → AreSingle (sources (body_of s f).it)
 unfolding sources
 body_single s f c = asked_single (asked_in s (slots_of s f) f.result) (body_of s f).it c
 
-written_over : (s : Schema) (f : Function) → length s.tables < 2 ^ 64 → Clean (function_note s f)
+written_over : (s : Schema) (f : Function) → length s.tables < 2 ^ 64 → Clear (function_note s f)
     → AreOver (length s.tables) (sources (body_of s f).it)
 written_over s f small c =
-    let whole = clean_parts (head_note f) (joined (body_of s f).note (types_note s f)) c in
-    let body = clean_parts (body_of s f).note (types_note s f) whole.1 in
+    let body = clear_bodies (length f.params) (head_note f) (body_of s f).note (types_note s f) c in
     all_over (named_slots (resolved_function s f)) (length s.tables) (sources (body_of s f).it) (of_written s f c).reads (body_below s f small body.0)
     (body_single s f body.1)
 

@@ -6,8 +6,7 @@ use Rattle.away_types.specs.declared.slots.Slot.{Slot}
 use Rattle.away_types.specs.CheckedFunctions.{IsChecked, IsCheckedOfSome}
 use Rattle.away_types.specs.FunctionChecks.{start, entry, body_of, slots_of, function_note, head_note, types_note}
 use Rattle.away_types.specs.ResolvedBodies.{resolved_stmt}
-use Rattle.away_names.specs.Notes.{joined}
-use Rattle.typed_values.proofs.CleanNotes.{Clean, clean_parts}
+use Rattle.away_types.proofs.ClearReports.{Clear, clear_bodies}
 use Rattle.slots_in_sight.proofs.Names as seen
 use Rattle.slots_in_sight.proofs.Parameters.{started}
 use Rattle.slots_in_sight.proofs.Statements.{stmt_good}
@@ -19,11 +18,11 @@ use Rattle.lowered_laws.proofs.Statements.{statement_safe}
 no_form : Function → Setting
 no_form f = setting_of (record { entry = 0; finish = 0; nodes = []; blocks = [] }) [] (numbers_of f)
 
-of_written : (s : Schema) (f : Function) → Clean (function_note s f) → length f.params ≤ length (slots_of s f)
+of_written : (s : Schema) (f : Function) → Clear (function_note s f) → length f.params ≤ length (slots_of s f)
 unfolding resolved_stmt
 of_written s f c =
-    let whole = clean_parts (head_note f) (joined (body_of s f).note (types_note s f)) c in
-    let good = stmt_good f.body (entry s f.params) (start f.params).slots (clean_parts (body_of s f).note (types_note s f) whole.1).0 in
+    let body = clear_bodies (length f.params) (head_note f) (body_of s f).note (types_note s f) c in
+    let good = stmt_good f.body (entry s f.params) (start f.params).slots body.0 in
     let first = length (start f.params).slots.shown in
     let taken = (statement_safe (no_form f) (body_of s f).it).slots first (seen.slots_of (start f.params).variables) in
     omega (arith, good.next, taken, (started f.params).shown, length-append (body_of s f).slots.shown (body_of s f).slots.hidden)

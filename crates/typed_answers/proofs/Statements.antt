@@ -19,6 +19,8 @@ use Rattle.away_typing.specs.Aggregates.{outside}
 use Rattle.away_typing.specs.Kinds.{fits}
 use Rattle.away_typing.specs.Trees.{kind_of, uses_of}
 use Rattle.sql_meaning.specs.Context.{argument}
+use Rattle.away_types.specs.declared.finding.Report.{Report}
+use Rattle.away_types.specs.Findings.{own, nothing, followed, branched}
 use Rattle.away_types.specs.declared.slots.Slot.{Slot}
 use Rattle.away_types.specs.CheckedFunctions.{IsChecked}
 use Rattle.away_types.specs.FunctionChecks.{asked_in, slot_types, function_note, head_note, types_note, body_of, slots_of}
@@ -26,6 +28,7 @@ use Rattle.away_types.specs.StatementTypes as checks
 use Rattle.away_types.specs.StatementTypes.{Asked, asked, maybe_asked, asked_of_slot, head_asked, asked_stmt}
 use Rattle.typed_values.specs.Arguments.{Params, Supplied, params_in}
 use Rattle.typed_values.specs.Sorts.{IsOf, Every}
+use Rattle.away_types.proofs.ClearReports.{Clear, clear_own, clear_parts, clear_within, clear_branches}
 use Rattle.typed_values.proofs.CleanNotes.{Clean, clean_parts, not_broken, test_fails}
 use Rattle.typed_values.proofs.KindRules.{fits_typed}
 use Rattle.typed_values.proofs.Lists.{every_append}
@@ -96,53 +99,56 @@ module _ (s : Schema) (slots : List Slot) (result : Ty) where
       let both = clean_parts acc (maybe_asked a d.ty d.default) rest.0 in
       (both.0, every_append Gives (here.maybe d.ty d.default) (here.defaults ds) (maybe_typed d.ty d.default both.1) rest.1)
 
-  both_typed : (m n : Note) (xs ys : here.Asked) → (Clean m → AllGive xs) → (Clean n → AllGive ys) → Clean (joined m n) → AllGive (xs ++ ys)
-  both_typed m n xs ys h k c = let both = clean_parts m n c in every_append Gives xs ys (h both.0) (k both.1)
+  within_typed : (j : ℕ) (m : Note) (n : Report) (xs ys : here.Asked) → (Clean m → AllGive xs) → (Clear n → AllGive ys) → Clear (followed (own j m) n) → AllGive (xs ++ ys)
+  within_typed j m n xs ys h k c = let both = clear_within j m n c in every_append Gives xs ys (h both.0) (k both.1)
+
+  both_typed : (m n : Report) (xs ys : here.Asked) → (Clear m → AllGive xs) → (Clear n → AllGive ys) → Clear (branched m n) → AllGive (xs ++ ys)
+  both_typed m n xs ys h k c = let both = clear_branches m n c in every_append Gives xs ys (h both.0) (k both.1)
 
   mutual
-    stmt_typed : (x : Stmt) → Clean (stmt_of checks.asking x a) → AllGive (values (stmt_of here.asking x))
+    stmt_typed : (x : Stmt) → Clear (stmt_of checks.asking x a) → AllGive (values (stmt_of here.asking x))
     stmt_typed (b.Block' label decls n body closing) c =
-        both_typed (checks.defaults decls a) (checks.all_by (stmts_of checks.asking body) a) (here.defaults decls) (values (here.all (stmts_of here.asking body)))
-        (λ c. (defaults_typed decls clean c).1) (λ c. (stmts_typed body clean c).1) c
-    stmt_typed (b.Assign name slot e) c = assigned_typed slot e c
+        within_typed _ (checks.defaults decls a) (checks.all_by (stmts_of checks.asking body) a) (here.defaults decls) (values (here.all (stmts_of here.asking body)))
+        (λ c. (defaults_typed decls clean c).1) (λ c. (stmts_typed body nothing c).1) c
+    stmt_typed (b.Assign name slot e) c = assigned_typed slot e (clear_own 1 _ c)
     stmt_typed (b.If' n arms o) c =
         both_typed (checks.all_by (branches_of checks.asking arms) a) (checks.maybe_by (else_of checks.asking o) a) (values (here.all (branches_of here.asking arms))) (values (here.other (else_of here.asking o)))
-        (λ c. (branches_typed arms clean c).1) (λ c. else_typed o c) c
+        (λ c. (branches_typed arms nothing c).1) (λ c. else_typed o c) c
     stmt_typed (b.Cases' n arms o) c =
         both_typed (checks.all_by (branches_of checks.asking arms) a) (checks.maybe_by (else_of checks.asking o) a) (values (here.all (branches_of here.asking arms))) (values (here.other (else_of here.asking o)))
-        (λ c. (branches_typed arms clean c).1) (λ c. else_typed o c) c
+        (λ c. (branches_typed arms nothing c).1) (λ c. else_typed o c) c
     stmt_typed (b.Loop' label k n body closing) c =
-        both_typed (head_asked k a) (checks.all_by (stmts_of checks.asking body) a) (here.head k) (values (here.all (stmts_of here.asking body)))
-        (λ c. head_typed k c) (λ c. (stmts_typed body clean c).1) c
-    stmt_typed (b.Exit label when) c = maybe_typed Boolean when c
-    stmt_typed (b.Continue label when) c = maybe_typed Boolean when c
-    stmt_typed (b.Return e) c = (one_typed result e c, tt)
+        within_typed 1 (head_asked k a) (checks.all_by (stmts_of checks.asking body) a) (here.head k) (values (here.all (stmts_of here.asking body)))
+        (λ c. head_typed k c) (λ c. (stmts_typed body nothing c).1) c
+    stmt_typed (b.Exit label when) c = maybe_typed Boolean when (clear_own 1 _ c)
+    stmt_typed (b.Continue label when) c = maybe_typed Boolean when (clear_own 1 _ c)
+    stmt_typed (b.Return e) c = (one_typed result e (clear_own 1 _ c), tt)
     stmt_typed (b.Raise raised) c = tt
     stmt_typed (b.Into strict targets query) c = tt
     stmt_typed b.Nothing c = tt
 
-    stmts_typed : {m : _} (body : b.Row_of-Stmt m) (acc : Note) → Clean (fold (λ n (f : checks.By). joined n (f a)) acc (stmts_of checks.asking body)) → Clean acc × AllGive (values (here.all (stmts_of here.asking body)))
+    stmts_typed : {m : _} (body : b.Row_of-Stmt m) (acc : Report) → Clear (fold (λ r (f : checks.By). followed r (f a)) acc (stmts_of checks.asking body)) → Clear acc × AllGive (values (here.all (stmts_of here.asking body)))
     stmts_typed b.end_of-Stmt acc c = (c, tt)
     stmts_typed (b.more_of-Stmt x rest) acc c =
-        let more = stmts_typed rest (joined acc (stmt_of checks.asking x a)) c in
-        let both = clean_parts acc (stmt_of checks.asking x a) more.0 in
+        let more = stmts_typed rest (followed acc (stmt_of checks.asking x a)) c in
+        let both = clear_parts acc (stmt_of checks.asking x a) more.0 in
         (both.0, every_append Gives (values (stmt_of here.asking x)) (values (here.all (stmts_of here.asking rest))) (stmt_typed x both.1) more.1)
 
-    branches_typed : {m : _} (arms : b.Row_of-Arm m) (acc : Note) → Clean (fold (λ n (f : checks.By). joined n (f a)) acc (branches_of checks.asking arms)) → Clean acc × AllGive (values (here.all (branches_of here.asking arms)))
+    branches_typed : {m : _} (arms : b.Row_of-Arm m) (acc : Report) → Clear (fold (λ r (f : checks.By). followed r (f a)) acc (branches_of checks.asking arms)) → Clear acc × AllGive (values (here.all (branches_of here.asking arms)))
     branches_typed b.end_of-Arm acc c = (c, tt)
     branches_typed (b.more_of-Arm test n body rest) acc c =
-        let note = joined (asked a Boolean test) (checks.all_by (stmts_of checks.asking body) a) in
-        let more = branches_typed rest (joined acc note) c in
-        let both = clean_parts acc note more.0 in
-        let arm = clean_parts (asked a Boolean test) (checks.all_by (stmts_of checks.asking body) a) both.1 in (
+        let note = followed (own 1 (asked a Boolean test)) (checks.all_by (stmts_of checks.asking body) a) in
+        let more = branches_typed rest (followed acc note) c in
+        let both = clear_parts acc note more.0 in
+        let arm = clear_within 1 (asked a Boolean test) (checks.all_by (stmts_of checks.asking body) a) both.1 in (
           both.0,
           every_append Gives (here.one Boolean test ++ values (here.all (stmts_of here.asking body))) (values (here.all (branches_of here.asking rest)))
-              (one_typed Boolean test arm.0, (stmts_typed body clean arm.1).1) more.1,
+              (one_typed Boolean test arm.0, (stmts_typed body nothing arm.1).1) more.1,
         )
 
-    else_typed : (o : b.Held-Stmt-If-1) → Clean (checks.maybe_by (else_of checks.asking o) a) → AllGive (values (here.other (else_of here.asking o)))
+    else_typed : (o : b.Held-Stmt-If-1) → Clear (checks.maybe_by (else_of checks.asking o) a) → AllGive (values (here.other (else_of here.asking o)))
     else_typed b.None' c = tt
-    else_typed (b.Some' n body) c = (stmts_typed body clean c).1
+    else_typed (b.Some' n body) c = (stmts_typed body nothing (clear_within 1 clean (checks.all_by (stmts_of checks.asking body) a) c).1).1
 
 of_function : (s : Schema) (f : Function) → Clean (function_note s f) → Every (GivesItsType s (slots_of s f) f.result) (stmt_of here.asking (body_of s f).it (slot_types (slots_of s f)) f.result)
 unfolding asked_stmt

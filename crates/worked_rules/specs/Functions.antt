@@ -1,6 +1,6 @@
 -- Worked functions of type bigint without parameters, over the table t, and the least rule that each breaks: each rule broken once by a small text and
 -- kept by its nearest neighbour, and the lesser of two that are broken at once.
-use Rattle.std.specs.Prelude.{true, false, List, [], ◌∷◌, Option, Some, None, codes}
+use Rattle.std.specs.Prelude.{ℕ, true, false, List, [], ◌∷◌, Option, Some, None, option_map, codes}
 use Rattle.away_values.specs.declared.types.Ty.TheVariants as ty
 use Rattle.away_trees.specs.declared.queries.Expr.{Expr}
 use Rattle.away_trees.specs.declared.queries.Expr.TheVariants as expr
@@ -10,6 +10,7 @@ use Rattle.away_trees.specs.declared.statements.Stmt.{Stmt}
 use Rattle.away_trees.specs.declared.statements.Stmt.TheVariants as stmt
 use Rattle.away_names.specs.declared.rule.Rule.{Rule}
 use Rattle.away_names.specs.declared.rule.Rule.TheVariants as rule
+use Rattle.away_types.specs.declared.finding.Finding.{Finding}
 use Rattle.away_types.specs.FunctionChecks.{function_note}
 use Rattle.worked_rules.specs.Pieces.{Row, schema, n, named, k, t_k, called, count, sum_of, max_of, as_bigint, plus}
 use Rattle.worked_rules.specs.Pieces.{one, scalar, from, from_t, var, declared, block, loop, counting}
@@ -18,7 +19,7 @@ abbrev pub of_body : Stmt → Function
 of_body body = record { name = codes "f"; strict = false; params = []; result = ty.Bigint; body = body }
 
 abbrev pub broken : Row Stmt → Option Rule
-broken row = (function_note schema (of_body row.0)).least
+broken row = option_map (λ (f : Finding). f.rule) (function_note schema (of_body row.0)).first
 
 abbrev pub wanted : Row Stmt → Option Rule
 wanted row = row.1
@@ -133,4 +134,32 @@ types =
     ∷ (returns (scalar (plus (as_bigint (sum_of k)) count) from_t), None)
     -- text beside a number
     ∷ (returns (plus (expr.Str (codes "a")) (n 1)), Some rule.Types)
+    ∷ []
+
+-- ---- the statement that is told
+
+abbrev pub node_of : Stmt × ℕ → Option ℕ
+node_of row = option_map (λ (f : Finding). f.node) (function_note schema (of_body row.0)).first
+
+abbrev pub wanted_node : Stmt × ℕ → Option ℕ
+wanted_node row = Some row.1
+
+abbrev return_y : Stmt
+return_y = stmt.Return (named (codes "y"))
+
+abbrev pub nodes : List (Stmt × ℕ)
+nodes =
+    -- BEGIN RETURN y; RETURN y; END: of one rule the first statement
+    (block [] (return_y ∷ return_y ∷ []), 1)
+    -- RETURN TRUE before it breaks a greater rule
+    ∷ (block [] (stmt.Return (expr.Bool true) ∷ return_y ∷ []), 2)
+    ∷ (block [] (stmt.Return (expr.Bool true) ∷ return_1 ∷ stmt.Return (expr.Bool true) ∷ []), 1)
+    -- DECLARE x bigint; BEGIN IF TRUE THEN RETURN 1; ELSE RETURN y; END IF; END: a declaration, an arm and an ELSE are nodes
+    ∷ (block (var (codes "x") ty.Bigint ∷ []) (stmt.If (record { test = expr.Bool true; body = return_1 ∷ [] } ∷ []) (Some (return_y ∷ [])) ∷ []), 6)
+    -- the test of the second arm is told by that arm
+    ∷ (block [] (stmt.If (record { test = expr.Bool true; body = return_1 ∷ [] } ∷ record { test = n 1; body = [] } ∷ []) None ∷ []), 4)
+    -- a default is the block's, and so is a label
+    ∷ (block [] (return_1 ∷ block (declared (codes "x") false false (Some (named (codes "y"))) ∷ []) [] ∷ []), 2)
+    -- a statement inside loops
+    ∷ (block [] (loop None (loop None (return_y ∷ []) None ∷ []) None ∷ []), 3)
     ∷ []

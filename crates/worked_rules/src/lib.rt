@@ -3,4 +3,7 @@
 
 mod laws;
 
-pub use laws::{functions_break_their_rules, queries_break_their_rules, schemas_break_their_rules};
+pub use laws::{
+    functions_break_their_rules, queries_break_their_rules, schemas_break_their_rules,
+    the_first_statement_is_told,
+};
