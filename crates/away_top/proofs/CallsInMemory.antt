@@ -1,6 +1,6 @@
 -- Over objects in memory that are to meet no failure, nothing but want of memory or of room is in the way of `fn`.
 use Rattle.std.proofs.Common.{◌≡◌, ◌≤◌, ◌++◌, ◌⊎◌, inl, inr, sym, subst, ◌∙◌, ℕ, List, [], ◌∷◌, length, codes}
-use Rattle.std.specs.Prelude.{Option, Some, None}
+use Rattle.std.specs.Prelude.{Option, Some, None, IsSome}
 use Rattle.std.specs.List.{AllByRecursion}
 use Rattle.away_values.specs.declared.values.Value.{Value}
 use Rattle.away_trees.specs.declared.schemas.Schema.{Schema}
@@ -20,6 +20,7 @@ use Rattle.away_top.specs.QueryAnswers.{IsAnswer}
 use Rattle.away_top.specs.Refusals.{IsFunction, IsSchema}
 use Rattle.away_top.specs.SqlCourse.{Tells, spelled}
 use Rattle.away_top.proofs.AnsweringCalls as runs
+use Rattle.away_top.proofs.Fitting.{function_unrefused, same_function, schema_unrefused, tables_fit}
 use Rattle.away_top.proofs.InMemory.{leads_on, room_is_safe, safe_name}
 use Rattle.away_top.proofs.QueriesInMemory.{same_some, some_of, tables_lead, tables_safe}
 use Rattle.away_top.proofs.Telling.{runs_so, telling}
@@ -37,7 +38,7 @@ module _ (m : HeldFiles) (bound schema func dir : List ℕ) (args : List (List �
   over_safe n bytes is s = (
     safe_name m func may.called may.no_failure may.holds_function,
     λ more told fits f. arguments_safe m may.no_failure dir n s.schema (callable_of s.schema f.written) (values_for f.written.params args)
-        ((subst (λ b. (s : IsSchema b) → AllByRecursion (IsFitTable (held_at m.held) dir) s.schema.tables) (sym is) may.fit_tables) s),
+        (tables_fit (IsFitTable (held_at m.held) dir) is may.fit_schema.is s may.fit_tables),
   )
 
   bound_safe : (o : Option ℕ) → EachRead (IsSafeName m) (held_at m.held) (and_then (spelled o) (call_at_bound schema func dir args))
@@ -57,11 +58,11 @@ all_safe m words text bound schema func dir args is may =
 module _ (m : HeldFiles) (bound schema func dir : List ℕ) (args : List (List ℕ)) (may : MayCall m bound schema func dir args) (status : Status) (output : List ℕ) where
   function_leads : (n : ℕ) (s : IsSchema may.tables) → Outcome {A = ⊥} (held_at m.held) (call_over_schema n s.schema func dir args) status output → IsAnswer status
   function_leads n s o = elim (leads_on func 1048576 _ (held_at m.held func) may.called status output may.holds_function may.fit_call.short o) [
-    | inl (rule, refuses, e) ↦ absurd (may.fit_call.unrefused s rule refuses)
+    | inl (rule, refuses, e) ↦ absurd (function_unrefused may.fit_schema.is s may.fit_call.is rule refuses)
     | inr (f, rest) ↦ (
         let called = callable_of s.schema f.written in
-        let values = some_of (values_for called.function.params args) (may.fit_call.spelled s f) in
-        tables_lead (held_at m.held) dir status output (λ tables. answers called.function (not_nulls called.slots) tables values.0 n) s.schema.tables [] (may.fit_tables s)
+        let values = some_of (values_for called.function.params args) (same_function (λ written. IsSome (values_for written.params args)) may.fit_call.is f may.fit_call.spelled) in
+        tables_lead (held_at m.held) dir status output (λ tables. answers called.function (not_nulls called.slots) tables values.0 n) s.schema.tables [] (tables_fit (IsFitTable (held_at m.held) dir) refl may.fit_schema.is s may.fit_tables)
         (subst (λ o. Outcome {A = ⊥} (held_at m.held) (and_then (spelled o) (called_course n s.schema called dir)) status output) values.1 rest)
         )
   ]
@@ -71,7 +72,7 @@ module _ (m : HeldFiles) (bound schema func dir : List ℕ) (args : List (List �
       let n = some_of (bound_of bound) may.spells_bound in
       let from_bound = subst (λ o. Outcome {A = ⊥} (held_at m.held) (and_then (spelled o) (call_at_bound schema func dir args)) status output) n.1 o in
       elim (leads_on schema 67108864 _ (held_at m.held schema) may.tables status output may.holds_schema may.fit_schema.short from_bound) [
-        | inl (rule, refuses, e) ↦ absurd (may.fit_schema.unrefused rule refuses)
+        | inl (rule, refuses, e) ↦ absurd (schema_unrefused may.fit_schema.is rule refuses)
         | inr (s, rest) ↦ function_leads n.0 s rest
       ]
 

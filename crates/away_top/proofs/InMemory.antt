@@ -16,6 +16,7 @@ use Rattle.away_top.specs.MemorySink.{RoomySink, are_past, safe_room}
 use Rattle.away_top.specs.Outside.{next_count}
 use Rattle.away_top.specs.Refusals.{IsFunction, IsSchema}
 use Rattle.away_top.specs.Translation.{IsTranslation}
+use Rattle.away_top.proofs.Fitting.{function_unrefused, schema_unrefused}
 use Rattle.away_top.proofs.Headlines.{translation}
 
 nothing : (P : ℕ → Type 0) → All P []
@@ -60,11 +61,11 @@ outcome_of : (held : List ℕ → Option (List ℕ)) (wanted : Wanted) (schema f
 outcome_of held Query schema func text status output o = o
 outcome_of held Certificate schema func text status output o = o
 
-module _ (held : List ℕ → Option (List ℕ)) (wanted : Wanted) (schema func tables function text : List ℕ) (fits : IsFitSchema tables) (fit : IsFitFunction tables function) where
+module _ (held : List ℕ → Option (List ℕ)) (wanted : Wanted) (schema func tables function text : List ℕ) (fits : IsFitSchema tables) (fit : IsFitFunction fits.is.schema function) where
   function_done : (s : IsSchema tables) → held func ≡ Some function → (status : Status) (output : List ℕ)
       → Outcome {A = ⊥} held (and_then (function_course s.schema func) (λ f. ends (Compiles wanted s.schema f text))) status output → (status ≡ Done) × IsTranslation wanted tables function output
   function_done s told status output o = elim (leads_on func 1048576 _ (held func) function status output told fit.short o) [
-    | inl (rule, refuses, e) ↦ absurd (fit.unrefused s rule refuses)
+    | inl (rule, refuses, e) ↦ absurd (function_unrefused fits.is s fit.is rule refuses)
     | inr (f, compiles) ↦ compiled wanted tables function s f text output status compiles
   ]
 
@@ -72,7 +73,7 @@ module _ (held : List ℕ → Option (List ℕ)) (wanted : Wanted) (schema func 
   pub done : held schema ≡ Some tables → held func ≡ Some function → (status : Status) (output : List ℕ) → Outcome held (compile_course wanted schema func text) status output
       → (status ≡ Done) × IsTranslation wanted tables function output
   done told_schema told_function status output o = elim (leads_on schema 67108864 _ (held schema) tables status output told_schema fits.short o) [
-    | inl (rule, refuses, e) ↦ absurd (fits.unrefused rule refuses)
+    | inl (rule, refuses, e) ↦ absurd (schema_unrefused fits.is rule refuses)
     | inr (s, rest) ↦ function_done s told_function status output rest
   ]
 

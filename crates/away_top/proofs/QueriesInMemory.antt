@@ -25,6 +25,7 @@ use Rattle.away_top.specs.Refusals.{IsQuery, IsSchema}
 use Rattle.away_top.specs.SqlCourse.{Asked, Tells, answer_course, asked_course, asked_of, at_bound, over_schema, query_course, spelled, sql_course}
 use Rattle.away_top.specs.TableFiles.{holding, table_file, tables_behind}
 use Rattle.away_top.proofs.Answering as runs
+use Rattle.away_top.proofs.Fitting.{query_unrefused, same_query, schema_unrefused, tables_fit}
 use Rattle.away_top.proofs.InMemory.{leads_on, room_is_safe, safe_name}
 use Rattle.away_top.proofs.Telling.{runs_so, telling}
 
@@ -63,7 +64,7 @@ module _ (m : HeldFiles) (bound schema query dir : List ℕ) (args : List (List 
   over_safe n bytes is s = (
     safe_name m query may.asked may.no_failure may.holds_query,
     λ more told fits q. asked_safe m may.no_failure dir n s.schema (asked_of s.schema q.written) (values_of (judged_query s.schema q.written).params args)
-        ((subst (λ b. (s : IsSchema b) → AllByRecursion (IsFitTable (held_at m.held) dir) s.schema.tables) (sym is) may.fit_tables) s),
+        (tables_fit (IsFitTable (held_at m.held) dir) is may.fit_schema.is s may.fit_tables),
   )
 
   bound_safe : (o : Option ℕ) → EachRead (IsSafeName m) (held_at m.held) (and_then (spelled o) (at_bound schema query dir args))
@@ -99,11 +100,11 @@ module _ (held : Held) (dir : List ℕ) (status : Status) (output : List ℕ) (t
 module _ (m : HeldFiles) (bound schema query dir : List ℕ) (args : List (List ℕ)) (may : MayAnswer m bound schema query dir args) (status : Status) (output : List ℕ) where
   query_leads : (n : ℕ) (s : IsSchema may.tables) → Outcome {A = ⊥} (held_at m.held) (over_schema n s.schema query dir args) status output → IsAnswer status
   query_leads n s o = elim (leads_on query 67108864 _ (held_at m.held query) may.asked status output may.holds_query may.fit_query.short o) [
-    | inl (rule, refuses, e) ↦ absurd (may.fit_query.unrefused s rule refuses)
+    | inl (rule, refuses, e) ↦ absurd (query_unrefused may.fit_schema.is s may.fit_query.is rule refuses)
     | inr (q, rest) ↦ (
         let asked = asked_of s.schema q.written in
-        let values = some_of (values_of asked.params args) (may.fit_query.spelled s q) in
-        tables_lead (held_at m.held) dir status output (λ tables. sql asked.query tables values.0 n) s.schema.tables [] (may.fit_tables s)
+        let values = some_of (values_of asked.params args) (same_query (λ schema written. IsSome (values_of (judged_query schema written).params args)) may.fit_schema.is s may.fit_query.is q may.fit_query.spelled) in
+        tables_lead (held_at m.held) dir status output (λ tables. sql asked.query tables values.0 n) s.schema.tables [] (tables_fit (IsFitTable (held_at m.held) dir) refl may.fit_schema.is s may.fit_tables)
         (subst (λ o. Outcome {A = ⊥} (held_at m.held) (and_then (spelled o) (answer_course n s.schema asked dir)) status output) values.1 rest)
         )
   ]
@@ -113,7 +114,7 @@ module _ (m : HeldFiles) (bound schema query dir : List ℕ) (args : List (List 
       let n = some_of (bound_of bound) may.spells_bound in
       let from_bound = subst (λ o. Outcome {A = ⊥} (held_at m.held) (and_then (spelled o) (at_bound schema query dir args)) status output) n.1 o in
       elim (leads_on schema 67108864 _ (held_at m.held schema) may.tables status output may.holds_schema may.fit_schema.short from_bound) [
-        | inl (rule, refuses, e) ↦ absurd (may.fit_schema.unrefused rule refuses)
+        | inl (rule, refuses, e) ↦ absurd (schema_unrefused may.fit_schema.is rule refuses)
         | inr (s, rest) ↦ query_leads n.0 s rest
       ]
 

@@ -1,6 +1,7 @@
 -- What `compile`, `certify`, `check`, `demo`, `sql` and `fn` answer over files and a sink in memory that are to meet no failure.
 use Rattle.std.specs.Prelude.{◌≡◌, ◌⊎◌, ℕ, ◌≤◌, List, [], ◌∷◌, ◌++◌, length, codes, Ok, Some, IsSome}
 use Rattle.std.specs.List.{AllByRecursion}
+use Rattle.away_trees.specs.declared.schemas.Schema.{Schema}
 use Rattle.away_trees.specs.declared.schemas.TableSchema.{TableSchema}
 use Rattle.away_top.specs.declared.status.Status.{Status}
 use Rattle.away_top.specs.declared.status.Status.TheVariants.{Done, NoMemory}
@@ -13,26 +14,26 @@ use Rattle.away_top.specs.declared.compile.Wanted.{Wanted}
 use Rattle.away_top.specs.CompileCourse.{command_of}
 use Rattle.stage_check.specs.declared.verdict.Verdict.{Verdict}
 use Rattle.away_top.specs.Arguments.{bound_of, values_for, values_of}
-use Rattle.away_top.specs.Certificates.{IsCert, RefusesCert}
+use Rattle.away_top.specs.Certificates.{IsCert}
 use Rattle.away_top.specs.CheckCourse.{IsVerdict, verdict_line, verdict_status}
 use Rattle.away_top.specs.DemoCourse.{IsShown}
 use Rattle.away_top.specs.Files.{callable_of}
 use Rattle.away_top.specs.FunctionAnswers.{IsCalled}
 use Rattle.away_top.specs.QueryAnswers.{Held, IsAnswer, IsAnswered}
-use Rattle.away_top.specs.Refusals.{IsFunction, IsQuery, IsSchema, RefusesFunction, RefusesQuery, RefusesSchema}
+use Rattle.away_top.specs.Refusals.{IsFunction, IsQuery, IsSchema}
 use Rattle.away_top.specs.SqlCourse.{asked_of}
 use Rattle.away_top.specs.TableFiles.{table_file}
 use Rattle.away_top.specs.Translation.{IsTranslation}
 
--- a schema's file is within its limit, and no rule refuses it
+-- a schema's file is within its limit, and reads as a schema that breaks no rule
 pub record IsFitSchema (bytes : List ℕ) : Type 0 where
   pub short : length bytes ≤ 67108864
-  pub unrefused : (rule : List ℕ) → ¬ (RefusesSchema bytes rule)
+  pub is : IsSchema bytes
 
--- a function's file is within its limit, and over the schema of these bytes no rule refuses it
-pub record IsFitFunction (tables bytes : List ℕ) : Type 0 where
+-- a function's file is within its limit, and reads as a function that breaks no rule over the tables of the schema
+pub record IsFitFunction (schema : Schema) (bytes : List ℕ) : Type 0 where
   pub short : length bytes ≤ 1048576
-  pub unrefused : (s : IsSchema tables) (rule : List ℕ) → ¬ (RefusesFunction s.schema bytes rule)
+  pub is : IsFunction schema bytes
 
 -- The words are those of the command. The two files are held and fit, and no read is to fail.
 pub record MayCompile (files : HeldFiles) (wanted : Wanted) (words : List (List ℕ)) (tables function : List ℕ) : Type 0 where
@@ -42,7 +43,7 @@ pub record MayCompile (files : HeldFiles) (wanted : Wanted) (words : List (List 
   pub holds_schema : held_at files.held schema ≡ Some tables
   pub holds_function : held_at files.held func ≡ Some function
   pub fit_schema : IsFitSchema tables
-  pub fit_function : IsFitFunction tables function
+  pub fit_function : IsFitFunction fit_schema.is.schema function
   pub no_failure : files.fails ≡ []
 
 -- done, with exactly this text written
@@ -68,11 +69,11 @@ Shown before after result word =
 
 -- ---- sql
 
--- a query's file is within its limit, over the schema of these bytes no rule refuses it, and the words spell its arguments
-pub record IsFitQuery (tables bytes : List ℕ) (args : List (List ℕ)) : Type 0 where
+-- a query's file is within its limit, reads as a query that breaks no rule over the tables of the schema, and the words spell its arguments
+pub record IsFitQuery (schema : Schema) (bytes : List ℕ) (args : List (List ℕ)) : Type 0 where
   pub short : length bytes ≤ 67108864
-  pub unrefused : (s : IsSchema tables) (rule : List ℕ) → ¬ (RefusesQuery s.schema bytes rule)
-  pub spelled : (s : IsSchema tables) (q : IsQuery s.schema bytes) → IsSome (values_of (judged_query s.schema q.written).params args)
+  pub is : IsQuery schema bytes
+  pub spelled : IsSome (values_of (judged_query schema is.written).params args)
 
 -- a table's file is held, is within its limit, and holds rows
 pub record IsFitTable (held : Held) (dir : List ℕ) (t : TableSchema) : Type 0 where
@@ -90,8 +91,8 @@ pub record MayAnswer (files : HeldFiles) (bound schema query dir : List ℕ) (ar
   pub holds_schema : held_at files.held schema ≡ Some tables
   pub holds_query : held_at files.held query ≡ Some asked
   pub fit_schema : IsFitSchema tables
-  pub fit_query : IsFitQuery tables asked args
-  pub fit_tables : (s : IsSchema tables) → AllByRecursion (IsFitTable (held_at files.held) dir) s.schema.tables
+  pub fit_query : IsFitQuery fit_schema.is.schema asked args
+  pub fit_tables : AllByRecursion (IsFitTable (held_at files.held) dir) fit_schema.is.schema.tables
   pub no_failure : files.fails ≡ []
 
 -- the status is answered, with exactly this output written
@@ -109,11 +110,11 @@ Answered files before after result bound schema query dir args =
 
 -- ---- fn
 
--- a function's file is within its limit, over the schema of these bytes no rule refuses it, and the words spell its arguments
-pub record IsFitCall (tables bytes : List ℕ) (args : List (List ℕ)) : Type 0 where
+-- a function's file is within its limit, reads as a function that breaks no rule over the tables of the schema, and the words spell its arguments
+pub record IsFitCall (schema : Schema) (bytes : List ℕ) (args : List (List ℕ)) : Type 0 where
   pub short : length bytes ≤ 1048576
-  pub unrefused : (s : IsSchema tables) (rule : List ℕ) → ¬ (RefusesFunction s.schema bytes rule)
-  pub spelled : (s : IsSchema tables) (f : IsFunction s.schema bytes) → IsSome (values_for f.written.params args)
+  pub is : IsFunction schema bytes
+  pub spelled : IsSome (values_for is.written.params args)
 
 -- The words behind `fn` spell a bound, their files are held and fit, and no read is to fail.
 pub record MayCall (files : HeldFiles) (bound schema func dir : List ℕ) (args : List (List ℕ)) : Type 0 where
@@ -123,8 +124,8 @@ pub record MayCall (files : HeldFiles) (bound schema func dir : List ℕ) (args 
   pub holds_schema : held_at files.held schema ≡ Some tables
   pub holds_function : held_at files.held func ≡ Some called
   pub fit_schema : IsFitSchema tables
-  pub fit_call : IsFitCall tables called args
-  pub fit_tables : (s : IsSchema tables) → AllByRecursion (IsFitTable (held_at files.held) dir) s.schema.tables
+  pub fit_call : IsFitCall fit_schema.is.schema called args
+  pub fit_tables : AllByRecursion (IsFitTable (held_at files.held) dir) fit_schema.is.schema.tables
   pub no_failure : files.fails ≡ []
 
 -- Memory was wanting, or there is the answer of the function that the call tells, where the room holds it.
@@ -137,15 +138,15 @@ Called files before after result bound schema func dir args =
 
 -- ---- check
 
--- a query's file is within its limit, and over the schema of these bytes no rule refuses it
-pub record IsFitAsked (tables bytes : List ℕ) : Type 0 where
+-- a query's file is within its limit, and reads as a query that breaks no rule over the tables of the schema
+pub record IsFitAsked (schema : Schema) (bytes : List ℕ) : Type 0 where
   pub short : length bytes ≤ 67108864
-  pub unrefused : (s : IsSchema tables) (rule : List ℕ) → ¬ (RefusesQuery s.schema bytes rule)
+  pub is : IsQuery schema bytes
 
--- a certificate's file is within its limit, and no rule refuses it
+-- a certificate's file is within its limit, and reads as a certificate
 pub record IsFitCert (bytes : List ℕ) : Type 0 where
   pub short : length bytes ≤ 67108864
-  pub unrefused : (rule : List ℕ) → ¬ (RefusesCert bytes rule)
+  pub is : IsCert bytes
 
 -- The four files behind `check` are held and fit, and no read is to fail.
 pub record MayCheck (files : HeldFiles) (schema func query cert tables function asked forms : List ℕ) : Type 0 where
@@ -154,8 +155,8 @@ pub record MayCheck (files : HeldFiles) (schema func query cert tables function 
   pub holds_query : held_at files.held query ≡ Some asked
   pub holds_cert : held_at files.held cert ≡ Some forms
   pub fit_schema : IsFitSchema tables
-  pub fit_function : IsFitFunction tables function
-  pub fit_query : IsFitAsked tables asked
+  pub fit_function : IsFitFunction fit_schema.is.schema function
+  pub fit_query : IsFitAsked fit_schema.is.schema asked
   pub fit_cert : IsFitCert forms
   pub no_failure : files.fails ≡ []
 
