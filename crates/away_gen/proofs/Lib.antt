@@ -2,3 +2,14 @@ pub mod Steps
 pub mod Turns
 pub mod CaseOfSeven
 pub mod SmallCases
+pub mod Items
+pub mod Written
+pub mod Route
+pub mod CaseFile
+pub mod CaseNests
+pub mod CaseTree
+pub mod CaseReads
+pub mod CaseCounts
+pub mod CaseSchema
+pub mod CaseTable
+pub mod EveryCase

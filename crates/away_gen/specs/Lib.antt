@@ -4,3 +4,4 @@ pub mod Small
 pub mod Texts
 pub mod Valid
 pub mod Worked
+pub mod Readable

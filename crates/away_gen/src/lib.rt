@@ -9,4 +9,4 @@ mod parts;
 mod texts;
 
 pub use case::{DemoCase, make_case};
-pub use laws::{every_case_is_small, the_case_of_seven};
+pub use laws::{every_case_is_small, every_case_reads, the_case_of_seven};
