@@ -20,7 +20,6 @@ pub mod Emitting
 pub mod Walk
 pub mod WholeWalk
 pub mod BuildingRules
-pub mod FirstOccurrences
 pub mod ForTests
 pub mod BuiltKeys
 pub mod BuiltFound

@@ -1,5 +1,5 @@
 -- The slots that stand in a tree, in the order of its text, by the number of selects that enclose it.
-use Rattle.std.specs.Prelude.{ℕ, Bool, true, false, if◌then◌else◌, ◌==◌, List, [], ◌∷◌, ◌++◌, filter_map, flat_map, Option, Some, None}
+use Rattle.std.specs.Prelude.{ℕ, List, [], ◌++◌, filter_map, Option, Some, None}
 use Rattle.away_values.specs.declared.operators.ChainOp.{ChainOp}
 use Rattle.away_trees.specs.declared.queries.Expr.{Expr}
 use Rattle.away_trees.specs.declared.queries.Source.{Source}
@@ -42,11 +42,3 @@ from_slots_at d f = source_slots_at d (out-FromItem f).source
 
 abbrev pub key_slots_at : ℕ → Key → List ℕ
 key_slots_at d k = slots_at d (out-Key k).expr
-
-abbrev pub contains : ℕ → List ℕ → Bool
-contains k [] = false
-contains k (x ∷ xs) = if x == k then true else contains k xs
-
--- the list with a slot that stands in it once
-unfoldable pub kept_with : ℕ → List ℕ → List ℕ
-kept_with k xs = if contains k xs then xs else xs ++ k ∷ []

@@ -1,7 +1,6 @@
 mod ColumnNames
 pub mod ClassTexts
 pub mod Lists
-pub mod FirstOccurrences
 pub mod SlotsOfSigns
 pub mod ColumnRules
 pub mod PlacingRules

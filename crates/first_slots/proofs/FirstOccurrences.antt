@@ -4,7 +4,7 @@ use Rattle.std.specs.Prelude.{nat_eq, ◌==◌, if◌then◌else◌, filter}
 use Rattle.std.proofs.lemmas.Bool.{eqb-true, eq-eqb, ne_eqb}
 use Rattle.std.proofs.lemmas.List.{take_more}
 use Rattle.sql_meaning.specs.Reads.{first_occurrences}
-use Rattle.template_parts.specs.Occurrences.{contains, kept_with}
+use Rattle.first_slots.specs.Occurrences.{contains, kept_with}
 
 abbrev without : ℕ → List ℕ → List ℕ
 without x = filter (λ y. not (y == x))

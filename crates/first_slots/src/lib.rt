@@ -1,0 +1,6 @@
+//! The first occurrences of slots.
+#![tactic(auto)]
+
+mod occurrences;
+
+pub use occurrences::distinct;
