@@ -12,6 +12,7 @@ use crate::lookups::has_double;
 use crate::naming_queries::{named_select, named_selects};
 use crate::note::{File, Noted, Shown, Terms, breaks, clean, joined};
 use crate::origins::copy_names;
+use crate::rule::Rule;
 use crate::scope::{Listed, Scope, Tables, Working};
 use crate::tables::{digits, tables_of};
 use away_trees::{Query, Recursive, Schema, Select};
@@ -122,7 +123,7 @@ fn named_terms(alloc: Global, s: &Scope<'_>, r: &Recursive) -> Result<Terms, NoM
             first: selects,
             second: select,
         },
-        columns: breaks(6, has_double(r.columns.as_slice())),
+        columns: breaks(Rule::Duplicates, has_double(r.columns.as_slice())),
         first,
         second,
     })

@@ -11,6 +11,7 @@ ghost use Rattle.away_trees.specs.declared.queries.FromItem.{out-FromItem};
 use crate::lookups::{has_double, table_named};
 use crate::note::{Note, Noted, Origin, Part, Shown, Times, breaks, joined};
 use crate::references::{all_written, written};
+use crate::rule::Rule;
 use crate::scope::{Listed, Scope, Seen};
 use away_trees::{FromItem, Query, Source};
 use away_values::{Name, NoMemory};
@@ -45,7 +46,7 @@ fn once_where(recursive: bool) -> Note
     ensures { result ≡ spec.once_where recursive }
 {
     Note {
-        least: 255,
+        least: None,
         refers: if recursive { Times::Once } else { Times::Never },
     }
 }
@@ -70,7 +71,7 @@ fn of_table(alloc: Global, n: &Name, t: Option<&Listed>) -> Result<Noted<Origin>
                 columns: Items::new(alloc),
                 names: Items::new(alloc),
             },
-            note: breaks(9, true),
+            note: breaks(Rule::Tables, true),
         }),
         Some(t) => {
             let columns = copy_names(alloc, t.written.as_slice())?;
@@ -143,7 +144,10 @@ pub fn part_note(s: &Scope<'_>, alias: &Name, columns: &[Name]) -> Note
 {
     joined(
         written(s, alias),
-        joined(all_written(s, columns), breaks(6, has_double(columns))),
+        joined(
+            all_written(s, columns),
+            breaks(Rule::Duplicates, has_double(columns)),
+        ),
     )
 }
 

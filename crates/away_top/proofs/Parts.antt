@@ -5,7 +5,7 @@ use Rattle.away_top.specs.declared.status.Status.{Status}
 use Rattle.away_top.specs.declared.status.Status.TheVariants.{Refused, ReadFault, Usage}
 use Rattle.away_top.specs.Course.{Course, and_then, ends, gives, judges, reads, Exactly, RefusedBy}
 use Rattle.away_top.specs.Host.{Keeps}
-use Rattle.away_top.specs.QueryAnswers.{IsAnswer}
+use Rattle.away_top.specs.RunAnswers.{IsAnswer}
 use Rattle.away_top.specs.Runs.{End, wants_memory, ended, goes_on, Follows, Holds, IsEnd, IsRead, ReadsNoMore, StopsAt}
 
 -- none of these ends tells an answer

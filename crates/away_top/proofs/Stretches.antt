@@ -23,7 +23,7 @@ stops_there F before after name limit next NoMemory read stops = inr (after, rea
 
 -- it goes on with the file's bytes
 pub goes_on_there : {D A : Type 0} (F : Files D) (before middle after : D) (name : List ℕ) (limit : ℕ) (next : List ℕ → Course A) (bytes : List ℕ) (end : End A)
-    → IsRead F before name middle → Holds (F.held before name) limit bytes → Follows F middle (next bytes) after end → Follows F before (reads name limit next) after end
+    → IsRead F before name middle → Holds F before name limit bytes → Follows F middle (next bytes) after end → Follows F before (reads name limit next) after end
 goes_on_there F before middle after name limit next bytes end read holds rest = inr (middle, read, inr (bytes, holds, rest))
 
 -- where a first stretch ends the run, it is the run

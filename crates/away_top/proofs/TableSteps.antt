@@ -28,7 +28,7 @@ no_want (refusal.NullCell row column) rule is same = cc
 no_want refusal.NoMemory rule is same = is
 
 module _ {D : Type 0} (F : Files D) (before middle : D) (dir file : List ℕ) (t : TableSchema) (bytes : List ℕ)
-    (file_is : file ≡ table_file dir t.name) (read : IsRead F before file middle) (holds : Holds (F.held before file) 67108864 bytes) where
+    (file_is : file ≡ table_file dir t.name) (read : IsRead F before file middle) (holds : Holds F before file 67108864 bytes) where
   there : (end : End Rows) → Follows F middle (holding file (rows_in t bytes)) middle end → Follows F before (table_course dir t) middle end
   there end h =
       subst (λ f. Follows F before (Course.reads f 67108864 (λ bytes. holding f (rows_in t bytes))) middle end) file_is

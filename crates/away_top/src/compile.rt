@@ -6,7 +6,7 @@ ghost use Rattle.away_top.specs.declared.compile.Wanted.TheVariants as made;
 ghost use Rattle.away_top.specs.Files.{as_callable};
 ghost use Rattle.away_top.specs.Runs.{IsEnd, Runs};
 ghost use Rattle.away_top.specs.Steps.{run_end};
-ghost use Rattle.cert_json.specs.Writable.{HasSpelling};
+ghost use Rattle.call_forms.specs.Writable.{HasSpelling};
 ghost use Rattle.cte_prints.specs.Texts.{IsOfTexts};
 
 use crate::ending::{Ending, Halt};

@@ -1,12 +1,14 @@
 //! How a run ends: a status and all that it writes.
 
 ghost use Rattle.std.specs.Prelude.{◌≡◌, IfOk, codes};
+ghost use Rattle.away_names.specs.Rules.{number};
 ghost use Rattle.away_top.specs.Lines.{bad_token, limit_rule, limit_name, line, numbered_rule, outside_word, read_fault, refusal};
 ghost use Rattle.away_top.specs.Help.{help_text, version_text};
 ghost use Rattle.away_top.specs.Steps.{IsEnding};
 
 use crate::Status;
 use away_lex::LimitKind;
+use away_names::rule::Rule;
 use away_values::{Name, NoMemory};
 use itoa::Buffer;
 use std::alloc::{AllocError, Global};
@@ -134,13 +136,13 @@ pub fn refused_word(alloc: Global, name: &str, word: &Name) -> Result<Ending, Al
 }
 
 /// The file is refused for a rule of names, scopes or types.
-pub fn refused_rule(alloc: Global, name: &str, number: u8) -> Result<Ending, AllocError>
-    ensures { IfOk result (λ ending. IsEnding ending Status.Refused (refusal name.now (numbered_rule number))) }
+pub fn refused_rule(alloc: Global, name: &str, rule: Rule) -> Result<Ending, AllocError>
+    ensures { IfOk result (λ ending. IsEnding ending Status.Refused (refusal name.now (numbered_rule (number rule)))) }
 {
     let mut buffer = Buffer::new();
-    let mut rule = b"X".to_vec(alloc)?;
-    rule.extend_from_slice(buffer.format(number).as_bytes())?;
-    refused(alloc, name, &rule)
+    let mut word = b"X".to_vec(alloc)?;
+    word.extend_from_slice(buffer.format(rule.number()).as_bytes())?;
+    refused(alloc, name, &word)
 }
 
 /// The file is refused for a limit.

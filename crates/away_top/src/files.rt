@@ -6,10 +6,9 @@ ghost use Rattle.away_types.specs.CheckedFunctions.{IsChecked};
 ghost use Rattle.away_types.specs.CheckedQueries.{IsCheckedQuery, query_note};
 ghost use Rattle.away_types.specs.FunctionChecks.{function_note};
 ghost use Rattle.away_names.specs.Schemas.{schema_note};
-ghost use Rattle.away_top.specs.Files.{as_callable, callable_of, function_course, schema_course};
-ghost use Rattle.away_top.specs.SqlCourse.{as_asked, asked_of, query_course};
+ghost use Rattle.away_top.specs.Files.{as_asked, as_callable, asked_of, callable_of, function_course, query_course, schema_course};
 ghost use Rattle.away_top.specs.Course.{RefusedBy};
-ghost use Rattle.away_top.specs.Refusals.{BreaksRule, IsFunction, IsKept, IsQuery, IsSchema, RefusesFunction, RefusesQuery, RefusesSchema};
+ghost use Rattle.away_top.specs.Refusals.{BreaksRule, HasFinding, IsFunction, IsKept, IsQuery, IsSchema, RefusesFunction, RefusesQuery, RefusesSchema};
 ghost use Rattle.away_top.specs.Runs.{Follows, Holds, IsRead, StopsAt};
 ghost use Rattle.away_top.specs.Steps.{IsHalt, IsJudged, ReadRefused, stretch_end};
 
@@ -20,8 +19,8 @@ use crate::{Files, ReadError};
 use away_lex::ReadRefusal;
 use away_trees::{Function, Query, Schema};
 use away_types::{
-    CheckedFunction, CheckedQuery, CheckedSchema, RuleRefusal, check_function, check_query,
-    check_schema,
+    CheckedFunction, CheckedQuery, CheckedSchema, FunctionRefusal, RuleRefusal, check_function,
+    check_query, check_schema,
 };
 use plsql_parse::read_function;
 use sql_text::{read_query, read_schema};
@@ -85,7 +84,7 @@ fn checked_schema(alloc: Global, name: &str, schema: Schema) -> Result<CheckedSc
 {
     match check_schema(alloc, schema) {
         Ok(checked) => Ok(checked),
-        Err(RuleRefusal::Rule(rule)) => Err(Halt::Ended(refused_rule(alloc, name, rule)?)),
+        Err(RuleRefusal::Broken(rule)) => Err(Halt::Ended(refused_rule(alloc, name, rule)?)),
         Err(RuleRefusal::NoMemory) => Err(Halt::NoMemory),
     }
 }
@@ -113,13 +112,15 @@ fn checked_function(
     function: Function,
 ) -> Result<Boxed<CheckedFunction>, Halt>
     requires { KeepsLimits function }
-    ensures { IsJudged (RefusedBy name.now (BreaksRule (function_note tables.now.schema function)))
+    ensures { IsJudged (RefusedBy name.now (HasFinding (function_note tables.now.schema function)))
         (λ c. IsChecked tables.now.schema function c.function c.slots) result }
 {
     match check_function(alloc, tables, function) {
         Ok(checked) => Ok(Boxed::new(alloc, checked)?),
-        Err(RuleRefusal::Rule(rule)) => Err(Halt::Ended(refused_rule(alloc, name, rule)?)),
-        Err(RuleRefusal::NoMemory) => Err(Halt::NoMemory),
+        Err(FunctionRefusal::Broken(finding)) => {
+            Err(Halt::Ended(refused_rule(alloc, name, finding.rule)?))
+        }
+        Err(FunctionRefusal::NoMemory) => Err(Halt::NoMemory),
     }
 }
 
@@ -150,7 +151,7 @@ fn checked_query(
 {
     match check_query(alloc, tables, query) {
         Ok(checked) => Ok(Boxed::new(alloc, checked)?),
-        Err(RuleRefusal::Rule(rule)) => Err(Halt::Ended(refused_rule(alloc, name, rule)?)),
+        Err(RuleRefusal::Broken(rule)) => Err(Halt::Ended(refused_rule(alloc, name, rule)?)),
         Err(RuleRefusal::NoMemory) => Err(Halt::NoMemory),
     }
 }
@@ -163,7 +164,7 @@ pub(crate) fn bytes_of<F: Files>(
     files: &mut F,
 ) -> Result<Vec<u8>, Halt>
     ensures read { IsRead F.Files files.old name.now files.new }
-    ensures bytes { IfOk result (λ bytes. Holds (F.held files.old name.now) limit bytes.items) }
+    ensures bytes { IfOk result (λ bytes. Holds F.Files files.old name.now limit bytes.items) }
     ensures stops { IfErr result (IsHalt (StopsAt F.Files files.old name.now limit files.new)) }
 {
     match files.read(alloc, name, limit) {

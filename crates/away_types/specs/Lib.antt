@@ -1,3 +1,4 @@
+pub mod Findings
 pub mod StatementRules
 pub mod Statements
 pub mod ResolvedBodies

@@ -13,6 +13,7 @@ use crate::variables::{copy_variables, with_slot, with_variable};
 use away_names::naming::named_maybe;
 use away_names::note::{Noted, breaks, clean, joined};
 use away_names::references::written;
+use away_names::rule::Rule;
 use away_names::scope::Scope;
 use away_trees::Decl;
 use away_values::{Name, NoMemory};
@@ -42,7 +43,7 @@ fn declared(alloc: Global, d: &Decl, s: &Scope<'_>) -> Result<Noted<Decl>, NoMem
         },
         note: joined(
             written(s, &d.name),
-            joined(breaks(12, lacks_default(d)), default.note),
+            joined(breaks(Rule::Defaults, lacks_default(d)), default.note),
         ),
     })
 }

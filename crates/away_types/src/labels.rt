@@ -10,6 +10,7 @@ use crate::around::Around;
 use away_names::listings::copy_alias;
 use away_names::note::{Note, breaks, joined};
 use away_names::references::maybe_written;
+use away_names::rule::Rule;
 use away_names::scope::Scope;
 use away_values::{Name, NoMemory};
 use sqlite_items::Items;
@@ -98,7 +99,7 @@ pub fn labelled(s: &Scope<'_>, label: &Option<Name>, closing: &Option<Name>) -> 
         maybe_written(s, label),
         joined(
             maybe_written(s, closing),
-            breaks(10, !closes(label, closing)),
+            breaks(Rule::Labels, !closes(label, closing)),
         ),
     )
 }

@@ -10,6 +10,7 @@ ghost use Rattle.away_types.specs.Statements as spec;
 
 use crate::around::Spot;
 use crate::declarations::declares_twice;
+use crate::finding::{followed, own, own_with};
 use crate::labels::{labelled, may_continue, may_exit};
 use crate::raising::may_raise;
 use crate::resolved::{Headed, Resolved};
@@ -21,6 +22,7 @@ use away_names::lookups::variable_named;
 use away_names::naming::{named_expr, named_maybe};
 use away_names::note::{Note, Noted, breaks, clean, joined};
 use away_names::references::{maybe_written, written};
+use away_names::rule::Rule;
 use away_names::scope::{Scope, Variable};
 use away_trees::{Decl, Expr, LoopKind, Raised, Select, Stmt};
 use away_values::{Name, NoMemory, Ty};
@@ -40,11 +42,11 @@ fn assigned(
     match v {
         None => Ok(Noted {
             it: Stmt::Assign(target, None, e.it),
-            note: joined(breaks(7, true), e.note),
+            note: joined(breaks(Rule::Names, true), e.note),
         }),
         Some(v) => Ok(Noted {
             it: Stmt::Assign(target, Some(v.slot), e.it),
-            note: joined(breaks(11, v.constant), e.note),
+            note: joined(breaks(Rule::Constants, v.constant), e.note),
         }),
     }
 }
@@ -62,9 +64,13 @@ pub fn block_of(
     ensures { IfOk result (λ x. x ≡ spec.block_with (spot_of spot.now) label.now decls.now closing.now head note body) }
 {
     let found = joined(
-        labelled(&spot.scope, label, closing),
-        breaks(6, declares_twice(decls)),
+        joined(
+            labelled(&spot.scope, label, closing),
+            breaks(Rule::Duplicates, declares_twice(decls)),
+        ),
+        note,
     );
+    let note = own_with(decls.len(), found)?;
     let Resolved {
         it: statements,
         note: more,
@@ -77,7 +83,7 @@ pub fn block_of(
             body: statements,
             closing: copy_alias(alloc, closing)?,
         },
-        note: joined(found, joined(note, more)),
+        note: followed(note, more)?,
         slots,
     })
 }
@@ -93,7 +99,7 @@ pub fn loop_of(
 ) -> Result<Resolved<Stmt>, NoMemory>
     ensures { IfOk result (λ x. x ≡ spec.loop_with (spot_of spot.now) label.now closing.now head found body) }
 {
-    let note = labelled(&spot.scope, label, closing);
+    let note = own(1, joined(labelled(&spot.scope, label, closing), found));
     let label = copy_alias(alloc, label)?;
     let closing = copy_alias(alloc, closing)?;
     let Resolved {
@@ -108,7 +114,7 @@ pub fn loop_of(
             body: it,
             closing,
         },
-        note: joined(note, joined(found, more)),
+        note: followed(note, more)?,
         slots,
     })
 }
@@ -131,7 +137,7 @@ pub fn assign_of(
     )?;
     Ok(Resolved {
         it: x.it,
-        note: joined(written(&spot.scope, name), x.note),
+        note: own(1, joined(written(&spot.scope, name), x.note)),
         slots,
     })
 }
@@ -148,9 +154,15 @@ pub fn exit_of(
     let test = named_maybe(alloc, when, &spot.scope)?;
     Ok(Resolved {
         it: Stmt::Exit(copy_alias(alloc, label)?, test.it),
-        note: joined(
-            maybe_written(&spot.scope, label),
-            joined(breaks(10, !may_exit(label, spot.around)), test.note),
+        note: own(
+            1,
+            joined(
+                maybe_written(&spot.scope, label),
+                joined(
+                    breaks(Rule::Labels, !may_exit(label, spot.around)),
+                    test.note,
+                ),
+            ),
         ),
         slots,
     })
@@ -168,9 +180,15 @@ pub fn continue_of(
     let test = named_maybe(alloc, when, &spot.scope)?;
     Ok(Resolved {
         it: Stmt::Continue(copy_alias(alloc, label)?, test.it),
-        note: joined(
-            maybe_written(&spot.scope, label),
-            joined(breaks(10, !may_continue(label, spot.around)), test.note),
+        note: own(
+            1,
+            joined(
+                maybe_written(&spot.scope, label),
+                joined(
+                    breaks(Rule::Labels, !may_continue(label, spot.around)),
+                    test.note,
+                ),
+            ),
         ),
         slots,
     })
@@ -181,7 +199,7 @@ pub fn raise_of(alloc: Global, raised: &Raised, slots: Slots) -> Result<Resolved
 {
     Ok(Resolved {
         it: Stmt::Raise(raised.copy(alloc)?),
-        note: breaks(16, !may_raise(raised)),
+        note: own(1, breaks(Rule::Raises, !may_raise(raised))),
         slots,
     })
 }
@@ -209,6 +227,7 @@ pub fn into_of(
 ) -> Result<Resolved<Stmt>, NoMemory>
     ensures { IfOk result (λ x. x ≡ spec.into_with strict targets.now query.now slots) }
 {
+    let note = own_with(targets.len(), breaks(Rule::Types, true))?;
     let targets = copy_targets(alloc, targets.as_slice())?;
     Ok(Resolved {
         it: Stmt::Into {
@@ -216,7 +235,7 @@ pub fn into_of(
             targets,
             query: query.copy(alloc)?,
         },
-        note: breaks(13, true),
+        note,
         slots,
     })
 }

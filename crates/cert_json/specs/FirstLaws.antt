@@ -3,9 +3,9 @@ use Rattle.std.specs.Prelude.{◌≡◌, ℕ, Bool, true, false, List, [], ◌�
 use Rattle.std.specs.List.{AllByRecursion}
 use Rattle.serde_json.specs.Data.{Data}
 use Rattle.serde_json.specs.Find.{get}
-use Rattle.cert_json.specs.declared.cert.Cert.{Cert}
 use Rattle.cert_json.specs.declared.cert.CertField.{CertField}
 use Rattle.cert_json.specs.declared.cert.CertField.TheVariants as field
+use Rattle.cert_json.specs.Forms.{Cert}
 use Rattle.cert_json.specs.Spellings.{many, number_in, type_in}
 use Rattle.cert_json.specs.Blocks.{anf_block_in, block_in, ssa_block_in}
 use Rattle.cert_json.specs.Certificates.{cert_in, within}

@@ -12,4 +12,5 @@ mod worked_rules;
 
 pub use worked_rules::{
     functions_break_their_rules, queries_break_their_rules, schemas_break_their_rules,
+    the_first_statement_is_told,
 };

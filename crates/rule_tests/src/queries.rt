@@ -122,7 +122,7 @@ fn tables(rt: &(impl Abort + AllocGlobal), number: usize, last: Name) -> Schema 
 fn checked(rt: &(impl Abort + AllocGlobal), s: Schema) -> Result<CheckedSchema, u8> {
     match check_schema(rt.alloc(), s) {
         Ok(schema) => Ok(schema),
-        Err(RuleRefusal::Rule(rule)) => Err(rule),
+        Err(RuleRefusal::Broken(rule)) => Err(rule.number()),
         Err(RuleRefusal::NoMemory) => rt.abort(),
     }
 }
@@ -135,7 +135,7 @@ fn params_or_rule(
 ) -> Result<usize, u8> {
     match check_query(rt.alloc(), s, q) {
         Ok(query) => Ok(query.params.len()),
-        Err(RuleRefusal::Rule(rule)) => Err(rule),
+        Err(RuleRefusal::Broken(rule)) => Err(rule.number()),
         Err(RuleRefusal::NoMemory) => rt.abort(),
     }
 }

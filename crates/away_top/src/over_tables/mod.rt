@@ -2,6 +2,6 @@
 
 pub mod answer_lines;
 pub mod arguments;
-pub mod run_fn;
-pub mod sql;
+pub mod program;
+pub mod run;
 pub mod tables;

@@ -1,0 +1,100 @@
+-- Over objects in memory `check` accepts what `certify` wrote.
+use Rattle.std.proofs.Common.{◌≡◌, ◌≢◌, ◌≤◌, ◌++◌, inl, inr, refl, ap, sym, subst, ◌∙◌, ℕ, suc, List, [], ◌∷◌, length, codes}
+use Rattle.std.specs.Prelude.{Ok, Some}
+use Rattle.away_grammar.specs.Texts.{ReadsQuery}
+use Rattle.away_trees.specs.declared.queries.Query.{Query}
+use Rattle.away_trees.specs.declared.schemas.Schema.{Schema}
+use Rattle.away_trees.specs.declared.statements.Function.{Function}
+use Rattle.away_types.specs.CheckedQueries.{resolved_query}
+use Rattle.away_types.specs.FunctionChecks.{resolved_function, slots_of}
+use Rattle.cert_json.specs.Certificates.{Reads, cert_in}
+use Rattle.cert_json.specs.Lines.{IsLine}
+use Rattle.cert_json.specs.Forms.{Cert}
+use Rattle.equivalence.specs.Accepted.{AcceptedForms}
+use Rattle.plsql_parse.proofs.OneFile.{one_function}
+use Rattle.sql_text.proofs.OneTree.{one_text}
+use Rattle.stage_check.specs.declared.verdict.Relation.{Relation}
+use Rattle.stage_check.specs.declared.verdict.Relation.TheVariants.{Lowered, Named, Called, Merged, Columned, Templated}
+use Rattle.stage_check.specs.declared.verdict.Verdict.{Verdict}
+use Rattle.stage_check.specs.declared.verdict.Verdict.TheVariants.{Accepted, Fails}
+use Rattle.stage_check.specs.Verdicts.{AllHold, Between, Holds, all_relations, between}
+use Rattle.away_top.specs.declared.compile.Wanted.TheVariants.{Certificate}
+use Rattle.away_top.specs.declared.status.Status.{Status}
+use Rattle.away_top.specs.CheckCourse.{verdict_line, verdict_status}
+use Rattle.away_top.specs.InMemory.{AcceptedIn, HasVerdict, IsCompiledQuery, Judged}
+use Rattle.away_top.specs.MemorySink.{RoomySink}
+use Rattle.away_top.specs.Refusals.{IsSchema}
+use Rattle.away_top.specs.Translation.{IsTranslation}
+
+-- ---- a line, and what stands behind it
+
+behind_first : (b : ℕ) (bs : List ℕ) → IsLine (b ∷ bs) → IsLine bs
+behind_first b bs line = λ i x at. line (suc i) x at
+
+one_line : (a b c d : List ℕ) → IsLine a → IsLine c → a ++ (10 ∷ b) ≡ c ++ (10 ∷ d) → (a ≡ c) × (b ≡ d)
+one_line [] b [] d left right e = (refl, cc)
+one_line [] b (y ∷ c) d left right e = absurd (right 0 y refl (let same : 10 ≡ y = cc in sym same))
+one_line (x ∷ a) b [] d left right e = absurd (left 0 x refl (let same : x ≡ 10 = cc in same))
+one_line (x ∷ a) b (y ∷ c) d left right e =
+    let heads : x ≡ y = cc in
+    let tails : a ++ (10 ∷ b) ≡ c ++ (10 ∷ d) = cc in
+    let rest = one_line a b c d (behind_first x a left) (behind_first y c right) tails in
+    (ap (λ z. z ∷ a) heads ∙ ap (λ zs. y ∷ zs) rest.0, rest.1)
+
+-- what stands behind the same bytes
+pub same_end : (a b c : List ℕ) → a ++ b ≡ a ++ c → b ≡ c
+same_end [] b c e = e
+same_end (x ∷ a) b c e = same_end a b c (let tails : a ++ b ≡ a ++ c = cc in tails)
+
+-- ---- one reading
+
+one_cert : (bytes : List ℕ) (c d : Cert) → Reads bytes c → Reads bytes d → c ≡ d
+one_cert bytes c d (value, is, gives) (other, is_other, gives_other) =
+    let same : value ≡ other = (let first = is.1 in let second = is_other.1 in cc) in
+    let here : cert_in value ≡ Ok d = subst (λ v. cert_in v ≡ Ok d) (sym same) gives_other in
+    cc
+
+one_schema : (bytes : List ℕ) (s t : IsSchema bytes) → s.schema ≡ t.schema
+one_schema bytes s t = ap (λ tables. record { tables = tables }) (one_text s.reads_as.reads t.reads_as.reads)
+
+-- ---- the verdict
+
+all_of : (s t : Schema) (f g : Function) (q r : Query) (c d : Cert) → s ≡ t → f ≡ g → q ≡ r → c ≡ d
+    → AllHold (between s (resolved_function s f) (slots_of s f) c (resolved_query s q)) all_relations
+    → AllHold (between t (resolved_function t g) (slots_of t g) d (resolved_query t r)) all_relations
+all_of s t f g q r c d schemas functions queries certs h =
+    subst (λ t. AllHold (between t (resolved_function t g) (slots_of t g) d (resolved_query t r)) all_relations) schemas
+    (subst (λ g. AllHold (between s (resolved_function s g) (slots_of s g) d (resolved_query s r)) all_relations) functions
+    (subst (λ r. AllHold (between s (resolved_function s f) (slots_of s f) d (resolved_query s r)) all_relations) queries
+    (subst (λ d. AllHold (between s (resolved_function s f) (slots_of s f) d (resolved_query s q)) all_relations) certs h)))
+
+each_holds : (x : Between) (r : Relation) → AllHold x all_relations → Holds x r
+each_holds x Lowered h = h.0
+each_holds x Named h = h.1.0
+each_holds x Called h = h.1.1.0
+each_holds x Merged h = h.1.1.1.0
+each_holds x Columned h = h.1.1.1.1.0
+each_holds x Templated h = h.1.1.1.1.1.0
+
+module _ (tables function line text : List ℕ) (t : IsTranslation Certificate tables function (line ++ (10 ∷ text))) (is_line : IsLine line) where
+  good : (v : Verdict) → HasVerdict tables function text line v → v ≡ Accepted
+  good Accepted h = refl
+  good (Fails r) h =
+      let output = t.output_is in
+      let split = one_line line text output.0 t.text is_line output.1.1.0 output.1.1.1 in
+      let forms = t.compiled.accepted in
+      let all : AllHold (between t.tables.schema (resolved_function t.tables.schema t.function.written) (slots_of t.tables.schema t.function.written) t.forms
+      (resolved_query t.tables.schema t.query)) all_relations = (forms.lowered, forms.named, forms.called, forms.merged, forms.columned, forms.templated, tt) in
+      let certs = one_cert line t.forms h.certificate.cert (subst (λ l. Reads l t.forms) (sym split.0) output.1.0) h.certificate.reads_as in
+      let queries = one_text t.compiled.reads (subst (λ z. ReadsQuery z h.query.written) split.1 h.query.reads_as.reads) in
+      let here = all_of t.tables.schema h.schema.schema t.function.written h.called.written t.query h.query.written t.forms h.certificate.cert
+      (one_schema tables t.tables h.schema) (one_function t.function.reads_as.reads h.called.reads_as.reads) queries certs all in
+      absurd (h.verdict.judges.1 (each_holds _ r here))
+
+  pub accepted : (before after : RoomySink) (result : Status) → Judged before after result tables function text line → AcceptedIn before after result
+  accepted before after result (inl wants) = inl wants
+  accepted before after result (inr (v, h, told)) =
+      let is = good v h in
+      inr (λ fits.
+      let so = told (subst (λ v. length (verdict_line v) ≤ before.room) (sym is) fits) in
+      record { status_is = so.status_is ∙ ap verdict_status is; bytes_are = so.bytes_are ∙ ap (λ v. before.bytes ++ verdict_line v) is })
