@@ -188,7 +188,10 @@ origin (ex.Table n) columns s level = also (written s n) (of_table n (s.table n)
 origin (ex.Sub q lateral) columns s level = mapped (of_query lateral columns) (q (inside (before lateral level) s))
 
 abbrev pub shaped : Name → Origin → Part
-shaped alias x = record { item = roll-FromItem (record { source = x.source; alias = alias; columns = x.columns }); seen = record { alias = alias; columns = x.names } }
+shaped alias x = record {
+  item = roll-FromItem (record { source = x.source; alias = alias; columns = x.columns });
+  seen = record { alias = alias; columns = x.names };
+}
 
 -- the alias and the list of columns as they are written
 unfoldable pub part_note : Scope → Name → List Name → Note
@@ -249,7 +252,8 @@ select_of from list filter order limit =
 
 abbrev pub over : Select-F Term Rows Piece Entry Sort Whole Terms Listing → Scope → List FromItem → Noted (Shown Select)
 over s inner from =
-    select_of from (items inner s.list) (held (λ t. t.judge inner) s.filter) (each (λ k. k (map (λ i. i.alias) s.list) inner) s.order) (held (λ t. t.judge inner) s.limit)
+    select_of from (items inner s.list) (held (λ t. t.judge inner) s.filter) (each (λ k. k (map (λ i. i.alias) s.list) inner) s.order)
+    (held (λ t. t.judge inner) s.limit)
 
 abbrev pub listing : Select-F Term Rows Piece Entry Sort Whole Terms Listing → Listing
 listing s outer =

@@ -44,7 +44,12 @@ pub fn named_file(alloc: Global, s: &Schema, q: &Query) -> Result<File, NoMemory
 /// A place in sight of tables alone.
 #[tactic(auto, unfolding(crate::specs::Places::tables))]
 fn outermost<'a>(schema: &'a IndexMap<String, Listed>, working: Option<&'a Working>) -> Scope<'a>
-    ensures { scope result ≡ record { table = table_before (option_copied working.entry) (λ n. get_by_text schema.now n); levels = []; variables = []; in_function = false } }
+    ensures { scope result ≡ record {
+      table = table_before (option_copied working.entry) (λ n. get_by_text schema.now n);
+      levels = [];
+      variables = [];
+      in_function = false;
+    } }
 {
     Scope {
         tables: Tables { schema, working },
@@ -65,7 +70,10 @@ fn with_names(alloc: Global, names: &[Name], before: Items<Name>) -> Result<Item
 }
 
 fn working(alloc: Global, place: usize, r: &Recursive) -> Result<Working, NoMemory>
-    ensures { IfOk result (λ w. w ≡ record { name = (out-Recursive r.now).name; table = record { written = decimal place ∷ (out-Recursive r.now).columns; recursive = true } }) }
+    ensures { IfOk result (λ w. w ≡ record {
+      name = (out-Recursive r.now).name;
+      table = record { written = decimal place ∷ (out-Recursive r.now).columns; recursive = true };
+    }) }
 {
     let mut written = Items::new(alloc);
     written.push(digits(alloc, place)?)?;

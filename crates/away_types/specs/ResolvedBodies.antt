@@ -28,4 +28,5 @@ resolved_arms spot slots = fold (λ a x. with_resolved a (resolved_arm spot a.sl
 
 abbrev pub resolved_other : Spot → Slots → Option (List Stmt) → Resolved (Option (List Stmt))
 resolved_other spot slots None = record { it = None; note = nothing; slots = slots }
-resolved_other spot slots (Some body) = let x = resolved_body spot slots body in record { it = Some x.it; note = followed (own 1 clean) x.note; slots = x.slots }
+resolved_other spot slots (Some body) = let x = resolved_body spot slots body
+    in record { it = Some x.it; note = followed (own 1 clean) x.note; slots = x.slots }

@@ -83,7 +83,12 @@ declared d scope =
 abbrev pub with_declared : Scope → Declared → Decl → Declared
 with_declared scope a d =
     let x = declared d (seeing a.variables scope) in
-    record { it = a.it ++ x.it ∷ []; variables = with_variable d.name d.constant a.slots a.variables; note = joined a.note x.note; slots = with_slot d.ty d.not_null a.slots }
+    record {
+      it = a.it ++ x.it ∷ [];
+      variables = with_variable d.name d.constant a.slots a.variables;
+      note = joined a.note x.note;
+      slots = with_slot d.ty d.not_null a.slots;
+    }
 
 abbrev pub none_declared : Scope → Slots → Declared
 none_declared scope slots = record { it = []; variables = scope.variables; note = clean; slots = slots }
@@ -145,7 +150,8 @@ abbrev pub block_with : Spot → Option Name → List Decl → Option Name → L
 block_with spot label decls closing declarations found xs =
     record {
       it = stmt.Block label declarations xs.it closing;
-      note = followed (own_with (length decls) (joined (joined (labelled spot.scope label closing) (breaks rule.Duplicates (declares_twice decls))) found)) xs.note;
+      note = followed (own_with (length decls)
+          (joined (joined (labelled spot.scope label closing) (breaks rule.Duplicates (declares_twice decls))) found)) xs.note;
       slots = xs.slots;
     }
 

@@ -41,7 +41,15 @@ struct Verdict {
 /// What a function's statements see.
 #[tactic(auto, unfolding(away_names::specs::Places::tables))]
 fn entry<'a>(known: &'a IndexMap<String, Listed>, variables: &'a [Variable]) -> Spot<'a>
-    ensures { spot_of result ≡ record { scope = record { table = λ n. get_by_text known.now n; levels = []; variables = variables.now; in_function = true }; around = [] } }
+    ensures { spot_of result ≡ record {
+      scope = record {
+        table = λ n. get_by_text known.now n;
+        levels = [];
+        variables = variables.now;
+        in_function = true;
+      };
+      around = [];
+    } }
 {
     Spot {
         scope: Scope {

@@ -66,7 +66,8 @@ unfoldable pub is_once : Times → Bool
 is_once Once = true
 is_once _ = false
 
--- A column of the recursive table has the type of the first term's column at its place. Where the first term names the table or has no such column, it is bigint.
+-- A column of the recursive table has the type of the first term's column at its place. Where the first term names the table
+-- or has no such column, it is bigint.
 unfoldable pub recursive_types : Times → List Name → Shape → List Ty
 recursive_types first columns shape = padded columns (if is_never first then types_or_none shape else [])
 

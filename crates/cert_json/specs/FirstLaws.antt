@@ -22,8 +22,10 @@ within_ssa name d = within name (get (codes "ssa") d)
 -- for each field in order, whether it has its shape
 abbrev pub shapes : Data → List Bool
 shapes d =
-    has number_in (within_goto (codes "entry") d) ∷ has number_in (within_goto (codes "end") d) ∷ has (many number_in) (within_goto (codes "nodes") d) ∷ has (many block_in) (within_goto (codes "blocks") d)
-    ∷ has (many number_in) (within_ssa (codes "names") d) ∷ has (many ssa_block_in) (within_ssa (codes "blocks") d) ∷ has (many anf_block_in) (within (codes "blocks") (get (codes "anf") d))
+    has number_in (within_goto (codes "entry") d) ∷ has number_in (within_goto (codes "end") d) ∷ has (many number_in)
+    (within_goto (codes "nodes") d) ∷ has (many block_in) (within_goto (codes "blocks") d)
+    ∷ has (many number_in) (within_ssa (codes "names") d) ∷ has (many ssa_block_in) (within_ssa (codes "blocks") d)
+    ∷ has (many anf_block_in) (within (codes "blocks") (get (codes "anf") d))
     ∷ has (many number_in) (get (codes "labels") d) ∷ has (many type_in) (get (codes "columns") d) ∷ has (many (many number_in)) (get (codes "places") d) ∷ []
 
 -- the place of a field in the order

@@ -60,7 +60,8 @@ end_data (Fail c) = fail_data c
 abbrev pub call_end_data : CallEnd → Data
 call_end_data (calls.Go c) = headed_data (codes "call") (number_data c.target ∷ many_data number_data c.args ∷ [])
 call_end_data (calls.Pick t b c) =
-    headed_data (codes "if") (number_data t.expr ∷ many_data number_data t.names ∷ number_data b.target ∷ many_data number_data b.args ∷ number_data c.target ∷ many_data number_data c.args ∷ [])
+    headed_data (codes "if") (number_data t.expr ∷ many_data number_data t.names ∷ number_data b.target
+    ∷ many_data number_data b.args ∷ number_data c.target ∷ many_data number_data c.args ∷ [])
 call_end_data (calls.Return t) = return_data t
 call_end_data (calls.Fail c) = fail_data c
 
@@ -82,7 +83,9 @@ anf_block_data b = list_data (many_data number_data b.params ∷ set_data b.set 
 
 unfoldable pub goto_data : Goto → Data
 goto_data goto =
-    object (member (codes "blocks") (many_data block_data goto.blocks) (member (codes "end") (number_data goto.finish) (member (codes "entry") (number_data goto.entry) (member (codes "nodes") (many_data number_data goto.nodes) no_members))))
+    object (member (codes "blocks") (many_data block_data goto.blocks)
+    (member (codes "end") (number_data goto.finish)
+    (member (codes "entry") (number_data goto.entry) (member (codes "nodes") (many_data number_data goto.nodes) no_members))))
 
 unfoldable pub ssa_data : Ssa → Data
 ssa_data ssa = object (member (codes "blocks") (many_data ssa_block_data ssa.blocks) (member (codes "names") (many_data number_data ssa.names) no_members))
@@ -92,5 +95,7 @@ anf_data anf = object (member (codes "blocks") (many_data anf_block_data anf.blo
 
 unfoldable pub cert_data : Cert → Data
 cert_data c =
-    object (member (codes "anf") (anf_data c.anf) (member (codes "columns") (many_data type_data c.tail.columns) (member (codes "goto") (goto_data c.goto) (member (codes "labels") (many_data number_data c.tail.labels)
+    object (member (codes "anf") (anf_data c.anf)
+    (member (codes "columns") (many_data type_data c.tail.columns)
+    (member (codes "goto") (goto_data c.goto) (member (codes "labels") (many_data number_data c.tail.labels)
     (member (codes "places") (many_data (many_data number_data) c.tail.places) (member (codes "ssa") (ssa_data c.ssa) no_members))))))
