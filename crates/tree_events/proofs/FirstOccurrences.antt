@@ -1,16 +1,10 @@
 -- First occurrences of a list that grows at its end.
-use Rattle.std.proofs.Common.{◌≡◌, ℕ, ◌+◌, ◌<◌, Bool, true, false, not, cond, List, [], ◌∷◌, ◌++◌, length, get_or, take, Option, Some, None, refl, sym, ap, ◌∙◌, subst, append-nil}
+use Rattle.std.proofs.Common.{◌≡◌, ℕ, suc, ◌+◌, ◌<◌, Bool, true, false, not, cond, List, [], ◌∷◌, ◌++◌, length, get_or, take, refl, sym, ap, ◌∙◌, subst, append-nil, arith}
 use Rattle.std.specs.Prelude.{nat_eq, ◌==◌, if◌then◌else◌, filter}
 use Rattle.std.proofs.lemmas.Bool.{eqb-true, eq-eqb, ne_eqb}
 use Rattle.std.proofs.lemmas.List.{take_more}
 use Rattle.sql_meaning.specs.Reads.{first_occurrences}
-use Rattle.tree_events.specs.SlotsRead.{slot_of_kind, before, slots_in}
-use Rattle.tree_events.specs.Events.{Events}
-use Rattle.tree_events.specs.declared.events.Kind.{Kind}
-use Rattle.tree_events.specs.declared.events.Kind.TheVariants as kind
-use Rattle.tree_events.specs.declared.events.TreeEvent.{TreeEvent}
-use Rattle.tree_events.specs.declared.events.TreeEvent.TheVariants as event
-use Rattle.cte_reads.specs.Occurrences.{contains, kept_with, kept_from, slot_of_event}
+use Rattle.tree_events.specs.Occurrences.{contains, kept_with}
 
 abbrev without : ℕ → List ℕ → List ℕ
 without x = filter (λ y. not (y == x))
@@ -61,11 +55,6 @@ grown k (x ∷ xs) = by (nat_eq x k) (contains k (first_occurrences xs)) refl re
         ∙ ap (λ ys. x ∷ ys) (without_append x (first_occurrences xs) (k ∷ []) ∙ ap (λ ys. without x (first_occurrences xs) ++ ys) (alone x k false (same_way x k false e)))
         )
 
--- a node that is no slot
-pub no_slot : (k : Kind) → ((i : ℕ) → k ≡ kind.Slot i → ⊥) → slot_of_kind k ≡ None
-no_slot (kind.Slot i) other = absurd (other i refl)
-no_slot k other = refl
-
 pub kept_there : (k : ℕ) (xs : List ℕ) → contains k xs ≡ true → kept_with k xs ≡ xs
 unfolding kept_with
 kept_there k xs e = ap (λ b. if b then xs else xs ++ k ∷ []) e
@@ -83,31 +72,5 @@ one_more k xs = by (contains k (first_occurrences xs)) refl (grown k xs)
     by true e g = g ∙ sym (kept_there k (first_occurrences xs) e)
     by false e g = g ∙ sym (kept_new k (first_occurrences xs) e)
 
-before_append : (o : Option ℕ) (xs ys : List ℕ) → before o (xs ++ ys) ≡ before o xs ++ ys
-before_append None xs ys = refl
-before_append (Some i) xs ys = refl
-
--- a list's slots, with that of one more event
-slots_more : (xs : Events) (s : TreeEvent) → slots_in (xs ++ s ∷ []) ≡ slots_in xs ++ before (slot_of_event s) []
-slots_more [] (event.Open k) = refl
-slots_more [] event.Close = refl
-slots_more [] event.Enter = refl
-slots_more [] event.Leave = refl
-slots_more [] (event.Text t) = refl
-slots_more [] (event.Name n) = refl
-slots_more (event.Open k ∷ xs) s = ap (before (slot_of_kind k)) (slots_more xs s) ∙ before_append (slot_of_kind k) (slots_in xs) (before (slot_of_event s) [])
-slots_more (event.Close ∷ xs) s = slots_more xs s
-slots_more (event.Enter ∷ xs) s = slots_more xs s
-slots_more (event.Leave ∷ xs) s = slots_more xs s
-slots_more (event.Text t ∷ xs) s = slots_more xs s
-slots_more (event.Name n ∷ xs) s = slots_more xs s
-
-firsts_from : (o : Option ℕ) (xs : List ℕ) → first_occurrences (xs ++ before o []) ≡ kept_from o (first_occurrences xs)
-firsts_from None xs = ap first_occurrences (append-nil xs)
-firsts_from (Some k) xs = one_more k xs
-
-pub slot_step : (events : Events) (i : ℕ) (s : TreeEvent) → i < length events → s ≡ get_or events i s
-    → first_occurrences (slots_in (take (i + 1) events)) ≡ kept_from (slot_of_event s) (first_occurrences (slots_in (take i events)))
-slot_step events i s lt is =
-    ap (λ l. first_occurrences (slots_in l)) (take_more events i s lt ∙ ap (λ x. take i events ++ x ∷ []) (sym is))
-    ∙ (ap first_occurrences (slots_more (take i events) s) ∙ firsts_from (slot_of_event s) (slots_in (take i events)))
+pub occurrence_step : (xs : List ℕ) (i : ℕ) → i < length xs → first_occurrences (take (i + 1) xs) ≡ kept_with (get_or xs i 0) (first_occurrences (take i xs))
+occurrence_step xs i lt = ap first_occurrences (take_more xs i 0 lt) ∙ one_more (get_or xs i 0) (take i xs)

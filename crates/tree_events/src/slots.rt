@@ -2,14 +2,15 @@
 
 ghost use Rattle.std.specs.Prelude.{◌≡◌, IfOk, OnOk};
 ghost use Rattle.sql_meaning.specs.Reads as spec;
-ghost use Rattle.tree_events.specs.SlotsRead.{slot_of_kind, before, slots_in as slots_of_events};
-ghost use Rattle.cte_parts.specs.Occurrences.{contains, kept_with};
+ghost use Rattle.tree_events.specs.SlotsRead.{slot_of_kind, slots_in};
+ghost use Rattle.tree_events.specs.Occurrences.{contains, kept_with};
 
+use crate::events::{Kind, Manner, TreeEvent};
+use crate::push::expr_events;
 use away_trees::Expr;
 use away_values::NoMemory;
 use sqlite_items::Items;
 use std::alloc::Global;
-use tree_events::{Kind, Manner, TreeEvent, expr_events};
 
 fn slot_of(kind: Kind) -> Option<u32>
     ensures { result ≡ slot_of_kind kind }
@@ -22,7 +23,7 @@ fn slot_of(kind: Kind) -> Option<u32>
 
 /// The slots in events, in their order.
 fn slots_in(alloc: Global, events: &[TreeEvent]) -> Result<Items<u32>, NoMemory>
-    ensures { IfOk result (λ list. list ≡ slots_of_events events.now) }
+    ensures { IfOk result (λ list. list ≡ slots_in events.now) }
 {
     let mut list = Items::new(alloc);
     for event in events {
@@ -46,7 +47,7 @@ fn has(list: &[u32], slot: u32) -> bool
     false
 }
 
-/// Adds a slot that isn't there.
+/// Adds a slot, where it isn't there.
 #[tactic(auto, using(crate::proofs::FirstOccurrences::keeping_rules))]
 fn keep(list: &mut Items<u32>, slot: u32) -> Result<(), NoMemory>
     ensures { OnOk result (list.new ≡ kept_with slot list.old) }
@@ -70,11 +71,19 @@ fn distinct(alloc: Global, list: &[u32]) -> Result<Items<u32>, NoMemory>
     Ok(kept)
 }
 
-#[tactic(auto, using(crate::proofs::SlotsOfEvents::told))]
-pub(crate) fn slots_of(alloc: Global, e: &Expr) -> Result<Items<u32>, NoMemory>
+/// The slots in events, each once, in the order of their first occurrence. The time is in the number of events, and in that of slots times how many differ.
+pub fn slots_of_events(alloc: Global, events: &[TreeEvent]) -> Result<Items<u32>, NoMemory>
+    ensures { IfOk result (λ l. l ≡ spec.first_occurrences (slots_in events.now)) }
+{
+    let slots = slots_in(alloc, events)?;
+    distinct(alloc, slots.as_slice())
+}
+
+/// The slots that an expression reads, each once, in the order of their first occurrence.
+#[tactic(auto, using(crate::proofs::ReadSlots::slots_are))]
+pub fn slots_of(alloc: Global, e: &Expr) -> Result<Items<u32>, NoMemory>
     ensures { IfOk result (λ l. l ≡ spec.slots_of e.now) }
 {
     let events = expr_events(alloc, Manner::Reading, e)?;
-    let slots = slots_in(alloc, events.as_slice())?;
-    distinct(alloc, slots.as_slice())
+    slots_of_events(alloc, events.as_slice())
 }

@@ -1,6 +1,6 @@
 use Rattle.std.proofs.Common.{◌≡◌, drop}
-use Rattle.goto_lower.specs.Occurrences.{contains}
-use Rattle.goto_lower.proofs.occurrences.has.Given as goal
+use Rattle.tree_events.specs.Occurrences.{contains}
+use Rattle.tree_events.proofs.slots.has.Given as goal
 
 abbrev pub invariant-loop-s : goal.invariant-loop-s
 invariant-loop-s l = contains l.slot l.list ≡ contains l.slot (drop l.s-index l.list)
