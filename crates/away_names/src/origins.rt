@@ -99,6 +99,7 @@ pub fn table(alloc: Global, n: &Name, s: &Scope<'_>) -> Result<Noted<Origin>, No
     })
 }
 
+/// The manual: 7.2.1.2, Table and Column Aliases. A list of columns has to be whole, which is our own choice.
 #[tactic(auto, unfolding(crate::specs::Naming::names_or))]
 pub fn names_or(
     alloc: Global,
@@ -165,6 +166,7 @@ pub fn nested<'a>(
     Ok(all)
 }
 
+/// What a subquery sees of its own FROM. The manual: 7.2.1.5, LATERAL Subqueries.
 pub fn before<'a>(lateral: bool, level: &'a Items<Seen>, empty: &'a Items<Seen>) -> &'a Items<Seen>
     ensures { result.now ≡ (if lateral then level.now else empty.now) }
 {
@@ -182,7 +184,7 @@ fn alias_among(n: &Name, items: &[FromItem]) -> bool
     false
 }
 
-/// Whether two items have one alias.
+/// Whether two items have one alias. That is 42712, duplicate_alias.
 #[tactic(auto, unfolding(crate::specs::Lookups::has_double))]
 pub fn alias_doubled(items: &[FromItem]) -> bool
     ensures { result ≡ lookups.has_double (map (λ f. (out-FromItem f).alias) items.now) }

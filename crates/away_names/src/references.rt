@@ -80,6 +80,7 @@ fn named_by(
 }
 
 /// What a name alone stands for.
+/// The manual: 43.11.1, Variable Substitution, where a name that may be a variable or a column is an error unless a setting decides.
 #[tactic(auto, unfolding(crate::specs::Naming::named))]
 pub fn named(alloc: Global, n: &Name, s: &Scope<'_>) -> Result<Noted<Expr>, NoMemory>
     ensures { IfOk result (λ x. x ≡ spec.named n.now (scope s.now)) }
@@ -114,6 +115,7 @@ fn qualified_by(
 }
 
 /// What an alias with a column's name stands for.
+/// The manual: 4.2.1, Column References. That a label or the function's name qualifies no variable is our own choice.
 #[tactic(auto, unfolding(crate::specs::Naming::qualified))]
 pub fn qualified(alloc: Global, a: &Name, n: &Name, s: &Scope<'_>) -> Result<Noted<Expr>, NoMemory>
     ensures { IfOk result (λ x. x ≡ spec.qualified a.now n.now (scope s.now)) }
@@ -126,6 +128,7 @@ pub fn qualified(alloc: Global, a: &Name, n: &Name, s: &Scope<'_>) -> Result<Not
     })
 }
 
+/// A name that isn't known is 42883, undefined_function.
 #[tactic(auto, unfolding(crate::specs::Naming::called))]
 pub fn call_note(s: &Scope<'_>, name: &Name) -> Note
     ensures { result ≡ spec.called (scope s.now) name.now }

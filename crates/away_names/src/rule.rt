@@ -7,29 +7,29 @@ ghost use Rattle.away_names.specs.Rules as spec;
 /// has the rule, the condition of its manual's appendix A (PostgreSQL Error Codes) stands beside it; the others are our own.
 #[derive(Clone, Copy, Debug, PartialEq, Eq)]
 pub enum Rule {
-    /// X6: names that stand in one list are different (`duplicate_column`, `duplicate_alias`, `duplicate_table`).
+    /// X6: names that stand in one list are different (42701 `duplicate_column`, 42712 `duplicate_alias`, 42P07 `duplicate_table`).
     Duplicates,
-    /// X7: names stand for something (`undefined_column`, `undefined_function`).
+    /// X7: names stand for something (42703 `undefined_column`, 42883 `undefined_function`).
     Names,
-    /// X8: a name stands for one thing (`ambiguous_column`).
+    /// X8: a name stands for one thing (42702 `ambiguous_column`).
     Ambiguity,
-    /// X9: tables of FROM are known (`undefined_table`).
+    /// X9: tables of FROM are known (42P01 `undefined_table`).
     Tables,
-    /// X10: EXIT, CONTINUE and closing labels fit the blocks and loops around them.
+    /// X10: EXIT, CONTINUE and closing labels fit the blocks and loops around them (43.2 and 43.6.5).
     Labels,
-    /// X11: a CONSTANT is never assigned.
+    /// X11: a CONSTANT is never assigned (43.3, Declarations).
     Constants,
-    /// X12: what is NOT NULL has a default.
+    /// X12: what is NOT NULL has a default (43.3, Declarations).
     Defaults,
-    /// X13: types, and numbers of columns (`datatype_mismatch`).
+    /// X13: types, and numbers of columns (42804 `datatype_mismatch`).
     Types,
-    /// X14: no name begins as the query's own do (`reserved_name`).
+    /// X14: no name begins as the query's own do (42939 `reserved_name`).
     Reserved,
-    /// X15: where aggregates stand (`grouping_error`).
+    /// X15: where aggregates stand (42803 `grouping_error`; 4.2.7, Aggregate Expressions).
     Aggregates,
-    /// X16: the SQLSTATE or the message of RAISE.
+    /// X16: the SQLSTATE or the message of RAISE (43.9.1, Reporting Errors and Messages).
     Raises,
-    /// X17: the terms of a recursive table (`invalid_recursion`).
+    /// X17: the terms of a recursive table (42P19 `invalid_recursion`; 7.8.2, Recursive Queries).
     Recursion,
     /// X18: a query has two columns, and the second is a text.
     Answer,

@@ -48,7 +48,7 @@ fn declared(alloc: Global, d: &Decl, s: &Scope<'_>) -> Result<Noted<Decl>, NoMem
     })
 }
 
-/// Declarations, each of which sees those before it.
+/// Declarations, each of which sees those before it. The manual: 43.3, Declarations.
 pub fn declared_all(
     alloc: Global,
     decls: &[Decl],

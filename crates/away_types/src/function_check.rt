@@ -145,6 +145,7 @@ fn verdict_of(alloc: Global, s: &Schema, f: &Function) -> Result<Verdict, NoMemo
 }
 
 /// The function with what its names stand for, where it breaks no rule; else the first finding of the least rule that it breaks.
+/// The manual: 43.2, Structure of PL/pgSQL, 43.3, Declarations, and 43.6, Control Structures.
 pub fn check_function(
     alloc: Global,
     s: &CheckedSchema,

@@ -223,6 +223,7 @@ fn recursion_by(
 }
 
 /// The tables for what stands behind WITH, and what was found in its terms.
+/// The manual: 7.8.2, Recursive Queries. 42P19 is invalid_recursion.
 pub fn recursion_found(
     alloc: Global,
     s: &Schema,

@@ -115,6 +115,7 @@ pub fn leaves_have_their_values()
 {}
 
 /// An operator takes its operands from left to right, and stops as its definition says.
+/// The manual: 4.2.14, Expression Evaluation Rules, leaves the order open: this one is our own choice.
 pub fn operators_take_their_operands()
     ensures neg { (e : Expr) (cx : Context) → value (expr.Neg e) cx ≡ and_then (value e cx) negated }
     ensures neg_small { (e : Expr) (cx : Context) → value (expr.NegSmall e) cx ≡ and_then (value e cx) (λ v. and_then (negated v) small) }
@@ -144,6 +145,7 @@ pub fn small_operations_are_those_of_bigint()
 {}
 
 /// COALESCE stops at its first value, an aggregate takes its argument at each row of the group, and the other functions take all arguments.
+/// The manual: 4.2.7, Aggregate Expressions, and 9.18.2, COALESCE.
 pub fn calls_take_their_arguments()
     ensures coalesce { (name : List ℕ) (es : List Expr) (cx : Context) → function name ≡ Coalesce
         → value (expr.Call name es) cx ≡ first_known (map (λ e. value e cx) es) }
@@ -156,6 +158,7 @@ pub fn calls_take_their_arguments()
 {}
 
 /// A scalar subquery is the one value of its rows, and EXISTS asks whether there is a row.
+/// The manual: 4.2.11, Scalar Subqueries, and 9.23.1, EXISTS.
 pub fn subqueries_take_their_rows()
     ensures scalar { (q : Query) (cx : Context) → value (expr.Scalar q) cx ≡ and_then (rows_of_query q cx) only }
     ensures exists { (q : Query) (cx : Context) → value (expr.Exists q) cx ≡ mapped (λ rows. val.Bool (has_row rows)) (rows_of_query q cx) }
@@ -195,6 +198,7 @@ pub fn aggregates_stand_outside_subqueries()
 {}
 
 /// The rows of a table stand at its place, and those of a subquery are the query's, one select further in; a LATERAL one sees the row so far.
+/// The manual: 7.2.1, The FROM Clause, and 7.2.1.5, LATERAL Subqueries.
 pub fn items_give_rows()
     ensures table { (name : List ℕ) (columns : List (List ℕ)) (cx : Context) (frame : Frame)
         → rows_of_source (source.Table name) columns cx frame ≡ Ok (slice_index_or cx.tables (place_of columns) []) }
@@ -210,6 +214,7 @@ pub fn items_give_rows()
 {}
 
 /// The rows of a select come from FROM by WHERE, the list, ORDER BY and LIMIT, and UNION ALL joins those of several.
+/// The manual: 7.2.2 to 7.6, the clauses of a select, and 7.4, Combining Queries. The order of the steps is our own choice.
 pub fn selects_give_rows()
     ensures select { (s : Select) (cx : Context) → rows_of_select s cx
         ≡ and_then (product cx (map (λ f. rows_of_item f) (out-Select s).from) ([] ∷ []))

@@ -84,6 +84,7 @@ pub fn a_query_is_asked_for_one_row()
 {}
 
 /// A scalar subquery of two rows is a fault and of none is NULL. An item beside no row isn't evaluated. EXISTS evaluates its list.
+/// 21000 is cardinality_violation (the manual: 4.2.11); the evaluation of EXISTS is our own choice, as 9.23.1 leaves it open.
 pub fn a_subquery_is_evaluated_whole()
     ensures two { over (whole (scalar None ∷ []) None [] None) (three ∷ []) ≡ fails (codes "21000") }
     ensures none { over (whole (scalar (Some (expr.Bool false)) ∷ []) None [] (Some (n 1))) (three ∷ []) ≡ Ok ((val.Null ∷ []) ∷ []) }
@@ -108,6 +109,7 @@ pub fn parts_of_a_select_come_in_order()
 {}
 
 /// NULLs come last where the order rises and first where it falls, and rows with equal keys keep their order.
+/// The manual: 7.5, Sorting Rows. The order of equal keys is our own choice.
 pub fn rows_are_put_in_order()
     ensures rising { over (texts None ((col 0 0 0, false) ∷ []) None) (with_null ∷ [])
         ≡ Ok ((text (codes "a") ∷ []) ∷ (text (codes "b") ∷ []) ∷ (text (codes "c") ∷ []) ∷ []) }
@@ -144,6 +146,7 @@ pub fn operators_stop_where_decided()
 {}
 
 /// Aggregates skip NULLs and are NULL over nothing, except the counts. A sum is tested for its range at its end alone, and adds numbers alone.
+/// The manual: 4.2.7 and 9.21. That the range is tested at the end alone is our own choice.
 pub fn aggregates_skip_null()
     ensures some { over aggregated (with_null ∷ []) ≡ Ok ((int 3 ∷ int 2 ∷ int 2 ∷ int 5 ∷ int 7 ∷ val.Bool false ∷ val.Bool true ∷ []) ∷ []) }
     ensures none { over aggregated ([] ∷ []) ≡ Ok ((int 0 ∷ int 0 ∷ val.Null ∷ val.Null ∷ val.Null ∷ val.Null ∷ val.Null ∷ []) ∷ []) }
