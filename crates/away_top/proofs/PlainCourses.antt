@@ -31,7 +31,7 @@ use Rattle.away_top.specs.TableFiles.{IsTableRule, holding, table_course, table_
 use Rattle.away_top.specs.Help.{help_text, version_text}
 use Rattle.away_top.specs.Lines.{line}
 use Rattle.away_top.specs.Host.{Rose}
-use Rattle.away_top.specs.Refusals.{RefusesFunction, RefusesQuery, RefusesSchema}
+use Rattle.away_top.specs.Refusals.{RefusesFunction, RefusesQuery, RefusesRowQuery, RefusesSchema}
 use Rattle.away_top.specs.Runs.{ended, Follows}
 
 -- a status that a command ends with by itself
@@ -132,6 +132,7 @@ plain_told (answer.Shape n) = plain_end Shape (answer_end (answer.Shape n)).1 tt
 
 plain_program : (what : Runnable) (s : Schema) (name : List ℕ) → IsPlainCourse (program_course what s name)
 plain_program run.Query s name = λ bytes. (plain_refusal name (RefusesQuery s bytes), λ q. tt)
+plain_program run.Rows s name = λ bytes. (plain_refusal name (RefusesRowQuery s bytes), λ q. tt)
 plain_program run.Function s name = λ bytes. (plain_refusal name (RefusesFunction s bytes), λ f. tt)
 
 plain_values : (bound : ℕ) (s : Schema) (p : Program) (dir : List ℕ) (values : List Value) → IsPlainCourse (with_values bound s p dir values)

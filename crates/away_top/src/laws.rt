@@ -17,7 +17,7 @@ use std::alloc::Global;
 ///
 /// Where the words are those of `compile` or `certify`, and the files that they name are held and fit, that end is a translation.
 /// Where they are those of `check`, it is the verdict on its files, where they are those of `sql` or `fn`, the answer of the query or
-/// the function, and where they are `demo` and a number, a summary of that case.
+/// the function, where they are those of `rows`, the rows of the query, and where they are `demo` and a number, a summary of that case.
 pub fn away_in_memory(
     alloc: Global,
     words: &[String],
