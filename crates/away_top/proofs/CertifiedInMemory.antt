@@ -1,6 +1,6 @@
 -- Over objects in memory `check` accepts what `certify` wrote.
-use Rattle.std.proofs.Common.{◌≡◌, ◌≢◌, ◌≤◌, ◌++◌, inl, inr, refl, ap, sym, subst, ◌∙◌, ℕ, suc, List, [], ◌∷◌, length, codes}
-use Rattle.std.specs.Prelude.{Ok, Some}
+use Rattle.std.proofs.Common.{◌≡◌, ◌≤◌, ◌++◌, inl, inr, refl, ap, sym, subst, ◌∙◌, ℕ, suc, List, [], ◌∷◌, length}
+use Rattle.std.specs.Prelude.{Ok}
 use Rattle.away_grammar.specs.Texts.{ReadsQuery}
 use Rattle.away_trees.specs.declared.queries.Query.{Query}
 use Rattle.away_trees.specs.declared.schemas.Schema.{Schema}
@@ -21,7 +21,7 @@ use Rattle.stage_check.specs.declared.verdict.Verdict.TheVariants.{Accepted, Fai
 use Rattle.away_top.specs.declared.compile.Wanted.TheVariants.{Certificate}
 use Rattle.away_top.specs.declared.status.Status.{Status}
 use Rattle.away_top.specs.CheckCourse.{verdict_line, verdict_status}
-use Rattle.away_top.specs.InMemory.{AcceptedIn, HasVerdict, IsCompiledQuery, Judged}
+use Rattle.away_top.specs.InMemory.{AcceptedIn, HasVerdict, Judged}
 use Rattle.away_top.specs.MemorySink.{RoomySink}
 use Rattle.away_top.specs.Refusals.{IsSchema}
 use Rattle.away_top.specs.Translation.{IsTranslation}
