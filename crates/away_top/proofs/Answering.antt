@@ -1,5 +1,5 @@
 -- A run of `sql`, `rows` or `fn` that ends by an answer or by rows tells what its program gives.
-use Rattle.std.proofs.Common.{◌≡◌, inl, inr, sym, ◌∙◌, ap, subst, ℕ, List, [], ◌∷◌}
+use Rattle.std.proofs.Common.{◌≡◌, inl, inr, sym, ◌∙◌, ap, subst, ℕ, List, []}
 use Rattle.std.specs.Prelude.{Some}
 use Rattle.std.specs.List.{AllZip}
 use Rattle.away_values.specs.declared.values.Value.{Value}
@@ -14,7 +14,7 @@ use Rattle.away_top.specs.Arguments.{bound_of}
 use Rattle.away_top.specs.Commands.{command_of, course, course_of}
 use Rattle.away_top.specs.Course.{ends}
 use Rattle.away_top.specs.Files.{schema_course}
-use Rattle.away_top.specs.Programs.{Program, arguments_of, program_course, program_of, reply_of, word_of}
+use Rattle.away_top.specs.Programs.{Program, arguments_of, program_course, program_of, reply_of}
 use Rattle.away_top.specs.RunAnswers.{AnswersRun, Held, HoldsRows, IsAnswer, IsAnswered}
 use Rattle.away_top.specs.RunCourse.{Tells, run_course, spelled, with_bound, with_program, with_schema, with_values}
 use Rattle.away_top.specs.Runs.{End, wants_memory, ended, goes_on, Follows}

@@ -10,7 +10,6 @@ use Rattle.sql_meaning.specs.Context.{Rows}
 use Rattle.away_top.specs.declared.host.Files.{Ghosts as Files}
 use Rattle.away_top.specs.declared.over_tables.program.Runnable.{Runnable}
 use Rattle.away_top.specs.declared.over_tables.program.Runnable.TheVariants as run
-use Rattle.away_top.specs.Course.{Course, and_then, ends}
 use Rattle.away_top.specs.Files.{Asked, Callable, asked_of, callable_of, function_course, query_course, schema_course}
 use Rattle.away_top.specs.Lines.{line}
 use Rattle.away_top.specs.Host.{Keeps}

@@ -1,6 +1,6 @@
 -- The stretches of `sql`, `rows` and `fn` make their run.
 use Rattle.std.proofs.Common.{◌≡◌, ℕ, List, Err, subst}
-use Rattle.std.specs.Prelude.{Option, Some}
+use Rattle.std.specs.Prelude.{Some}
 use Rattle.away_values.specs.declared.values.Value.{Value}
 use Rattle.away_trees.specs.declared.schemas.Schema.{Schema}
 use Rattle.sql_meaning.specs.Context.{Rows}

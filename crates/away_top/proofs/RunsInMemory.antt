@@ -14,11 +14,10 @@ use Rattle.away_top.specs.declared.status.Status.{Status}
 use Rattle.away_top.specs.Arguments.{bound_of}
 use Rattle.away_top.specs.Commands.{command_of, course, course_of}
 use Rattle.away_top.specs.Course.{and_then, ends, Outcome}
-use Rattle.away_top.specs.Files.{asked_of, callable_of}
-use Rattle.away_top.specs.InMemory.{Answered, EndsIn, IsFitProgram, IsFitTable, MayRun}
+use Rattle.away_top.specs.InMemory.{Answered, EndsIn, IsFitTable, MayRun}
 use Rattle.away_top.specs.MemoryFiles.{HeldFiles, held_at}
 use Rattle.away_top.specs.MemorySink.{RoomySink}
-use Rattle.away_top.specs.Programs.{IsProgram, Program, arguments_of, program_course, program_of, reply_of, word_of}
+use Rattle.away_top.specs.Programs.{IsProgram, arguments_of, program_of, reply_of, word_of}
 use Rattle.away_top.specs.Refusals.{IsSchema}
 use Rattle.away_top.specs.RunAnswers.{Held, IsAnswer}
 use Rattle.away_top.specs.RunCourse.{Tells, run_course, spelled, with_bound, with_program, with_schema, with_values}

@@ -1,5 +1,5 @@
 -- What `sql`, `rows` and `fn` answer, in the words of their files.
-use Rattle.std.specs.Prelude.{◌≡◌, ℕ, List, [], ◌∷◌, Ok, Some, IfSome}
+use Rattle.std.specs.Prelude.{◌≡◌, ℕ, List, ◌∷◌, Ok, Some, IfSome}
 use Rattle.std.specs.List.{AllZip}
 use Rattle.std.specs.declared.option.Option.{Option}
 use Rattle.std.specs.Io.KnownBytes.{Appends}
@@ -11,7 +11,7 @@ use Rattle.away_top.specs.declared.over_tables.program.Runnable.{Runnable}
 use Rattle.away_top.specs.declared.status.Status.{Status}
 use Rattle.away_top.specs.declared.status.Status.TheVariants.{Done, Refused, Usage, ReadFault, WriteFault, NoMemory, More, Fault, NotAccepted, Shape}
 use Rattle.away_top.specs.Arguments.{bound_of}
-use Rattle.away_top.specs.Programs.{IsProgram, Program, arguments_of, program_of, reply_of, word_of}
+use Rattle.away_top.specs.Programs.{IsProgram, arguments_of, program_of, reply_of, word_of}
 use Rattle.away_top.specs.Refusals.{IsSchema}
 use Rattle.away_top.specs.RunCourse.{Tells}
 use Rattle.away_top.specs.TableFiles.{table_file}

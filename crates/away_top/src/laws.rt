@@ -5,7 +5,20 @@ ghost use Rattle.away_top.specs.declared.compile.Wanted.{Wanted};
 ghost use Rattle.away_top.specs.declared.over_tables.program.Runnable.{Runnable};
 ghost use Rattle.away_top.specs.Arguments.{bound_of};
 ghost use Rattle.away_top.specs.Commands.{course};
-ghost use Rattle.away_top.specs.InMemory.{AcceptedIn, Answered, BeginsWith, Ended, HoldsCertified, Judged, MayCheck, MayCompile, MayRun, Shown, Translated, Unread};
+ghost use Rattle.away_top.specs.InMemory.{
+  AcceptedIn,
+  Answered,
+  BeginsWith,
+  Ended,
+  HoldsCertified,
+  Judged,
+  MayCheck,
+  MayCompile,
+  MayRun,
+  Shown,
+  Translated,
+  Unread,
+};
 ghost use Rattle.away_top.specs.MemoryFiles.{held_at};
 ghost use Rattle.away_top.specs.Programs.{word_of};
 
