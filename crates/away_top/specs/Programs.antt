@@ -15,7 +15,8 @@ use Rattle.away_top.specs.declared.over_tables.program.Runnable.{Runnable}
 use Rattle.away_top.specs.declared.over_tables.program.Runnable.TheVariants as run
 use Rattle.away_top.specs.Arguments.{values_for, values_of}
 use Rattle.away_top.specs.Course.{Course, and_then, gives}
-use Rattle.away_top.specs.Files.{Asked, Callable, as_asked, as_callable, as_row_query, asked_of, callable_of, function_course, query_course, row_query_course, row_query_of}
+use Rattle.away_top.specs.Files.{Asked, Callable, as_asked, as_callable, as_row_query, asked_of, callable_of, row_query_of}
+use Rattle.away_top.specs.Files.{function_course, query_course, row_query_course}
 use Rattle.away_top.specs.Refusals.{IsFunction, IsQuery, IsRowQuery, RefusesFunction, RefusesQuery, RefusesRowQuery}
 
 -- the command that asks for it
