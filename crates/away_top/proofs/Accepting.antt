@@ -1,10 +1,7 @@
 -- A run of `check` that is done has accepted its files.
-use Rattle.std.proofs.Common.{◌≡◌, inl, inr, refl, sym, ◌∙◌, ap, subst, ℕ, List, [], ◌∷◌, codes}
+use Rattle.std.proofs.Common.{◌≡◌, inl, inr, refl, sym, ◌∙◌, ap, subst, ℕ, List, codes}
 use Rattle.std.specs.Io.KnownBytes.{Appends}
 use Rattle.away_trees.specs.declared.schemas.Schema.{Schema}
-use Rattle.away_types.specs.CheckedFunctions.{IsChecked}
-use Rattle.away_types.specs.CheckedQueries.{resolved_query}
-use Rattle.away_types.specs.FunctionChecks.{resolved_function, slots_of}
 use Rattle.cert_json.specs.Forms.{Cert}
 use Rattle.equivalence.specs.Accepted.{AcceptedForms, EquivalentWith}
 use Rattle.stage_check.specs.declared.verdict.Verdict.TheVariants.{Accepted, Fails}

@@ -1,5 +1,5 @@
--- A run of `sql` or `fn` that ends by an answer tells that of its program.
-use Rattle.std.proofs.Common.{◌≡◌, inl, inr, sym, ◌∙◌, ap, subst, ℕ, List, [], ◌∷◌}
+-- A run of `sql`, `rows` or `fn` that ends by an answer or by rows tells what its program gives.
+use Rattle.std.proofs.Common.{◌≡◌, inl, inr, sym, ◌∙◌, ap, subst, ℕ, List, []}
 use Rattle.std.specs.Prelude.{Some}
 use Rattle.std.specs.List.{AllZip}
 use Rattle.away_values.specs.declared.values.Value.{Value}
@@ -14,7 +14,7 @@ use Rattle.away_top.specs.Arguments.{bound_of}
 use Rattle.away_top.specs.Commands.{command_of, course, course_of}
 use Rattle.away_top.specs.Course.{ends}
 use Rattle.away_top.specs.Files.{schema_course}
-use Rattle.away_top.specs.Programs.{Program, answer_of, arguments_of, program_course, program_of, word_of}
+use Rattle.away_top.specs.Programs.{Program, arguments_of, program_course, program_of, reply_of}
 use Rattle.away_top.specs.RunAnswers.{AnswersRun, Held, HoldsRows, IsAnswer, IsAnswered}
 use Rattle.away_top.specs.RunCourse.{Tells, run_course, spelled, with_bound, with_program, with_schema, with_values}
 use Rattle.away_top.specs.Runs.{End, wants_memory, ended, goes_on, Follows}
@@ -28,7 +28,7 @@ record CompiledQuery (held : Held) (dir : List ℕ) (s : Schema) (p : Program) (
   pub arguments_are : arguments_of p args ≡ Some values
   pub rows : List Rows
   pub hold : AllZip (HoldsRows held dir) s.tables rows
-  pub tells : Tells (answer_of p rows values most) status output
+  pub tells : Tells (reply_of p rows values most) status output
 
 module _ {D : Type 0} (F : Files D) where
   told : (now after : D) (dir : List ℕ) (s : Schema) (p : Program) (args : List (List ℕ)) (most : ℕ) (status : Status) (output : List ℕ) → IsAnswer status
@@ -37,7 +37,7 @@ module _ {D : Type 0} (F : Files D) where
       let g = gone F now after (spelled (arguments_of p args)) (with_values most s p dir) (ended status output) late (silent_spelled (arguments_of p args)) h in
       let spelt = was_spelled F now g.middle (arguments_of p args) g.given g.first in
       let rest = subst (λ d. Follows F d (with_values most s p dir g.given) after (ended status output)) spelt.same g.rest in
-      let t = gone F now after (tables_course dir s.tables) (λ tables. ends (Tells (answer_of p tables g.given most))) (ended status output) late (silent_tables dir [] s.tables) rest in
+      let t = gone F now after (tables_course dir s.tables) (λ tables. ends (Tells (reply_of p tables g.given most))) (ended status output) late (silent_tables dir [] s.tables) rest in
       let were = tables_read F now t.middle dir [] s.tables t.given t.first in
       record {
         values = g.given;

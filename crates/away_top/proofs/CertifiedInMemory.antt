@@ -1,27 +1,27 @@
 -- Over objects in memory `check` accepts what `certify` wrote.
-use Rattle.std.proofs.Common.{◌≡◌, ◌≢◌, ◌≤◌, ◌++◌, inl, inr, refl, ap, sym, subst, ◌∙◌, ℕ, suc, List, [], ◌∷◌, length, codes}
-use Rattle.std.specs.Prelude.{Ok, Some}
+use Rattle.std.proofs.Common.{◌≡◌, ◌≤◌, ◌++◌, inl, inr, refl, ap, sym, subst, ◌∙◌, ℕ, suc, List, [], ◌∷◌, length}
+use Rattle.std.specs.Prelude.{Ok}
 use Rattle.away_grammar.specs.Texts.{ReadsQuery}
 use Rattle.away_trees.specs.declared.queries.Query.{Query}
 use Rattle.away_trees.specs.declared.schemas.Schema.{Schema}
 use Rattle.away_trees.specs.declared.statements.Function.{Function}
 use Rattle.away_types.specs.CheckedQueries.{resolved_query}
 use Rattle.away_types.specs.FunctionChecks.{resolved_function, slots_of}
+use Rattle.away_types.specs.declared.slots.Slot.{Slot}
 use Rattle.cert_json.specs.Certificates.{Reads, cert_in}
 use Rattle.cert_json.specs.Lines.{IsLine}
 use Rattle.cert_json.specs.Forms.{Cert}
-use Rattle.equivalence.specs.Accepted.{AcceptedForms}
+use Rattle.equivalence.specs.Accepted.{AcceptedForms, Holds}
+use Rattle.equivalence.specs.declared.relation.Relation.{Relation}
+use Rattle.equivalence.specs.declared.relation.Relation.TheVariants.{Lowered, Named, Called, Merged, Columned, Templated}
 use Rattle.plsql_parse.proofs.OneFile.{one_function}
 use Rattle.sql_text.proofs.OneTree.{one_text}
-use Rattle.stage_check.specs.declared.verdict.Relation.{Relation}
-use Rattle.stage_check.specs.declared.verdict.Relation.TheVariants.{Lowered, Named, Called, Merged, Columned, Templated}
 use Rattle.stage_check.specs.declared.verdict.Verdict.{Verdict}
 use Rattle.stage_check.specs.declared.verdict.Verdict.TheVariants.{Accepted, Fails}
-use Rattle.stage_check.specs.Verdicts.{AllHold, Between, Holds, all_relations, between}
 use Rattle.away_top.specs.declared.compile.Wanted.TheVariants.{Certificate}
 use Rattle.away_top.specs.declared.status.Status.{Status}
 use Rattle.away_top.specs.CheckCourse.{verdict_line, verdict_status}
-use Rattle.away_top.specs.InMemory.{AcceptedIn, HasVerdict, IsCompiledQuery, Judged}
+use Rattle.away_top.specs.InMemory.{AcceptedIn, HasVerdict, Judged}
 use Rattle.away_top.specs.MemorySink.{RoomySink}
 use Rattle.away_top.specs.Refusals.{IsSchema}
 use Rattle.away_top.specs.Translation.{IsTranslation}
@@ -60,21 +60,20 @@ one_schema bytes s t = ap (λ tables. record { tables = tables }) (one_text s.re
 -- ---- the verdict
 
 all_of : (s t : Schema) (f g : Function) (q r : Query) (c d : Cert) → s ≡ t → f ≡ g → q ≡ r → c ≡ d
-    → AllHold (between s (resolved_function s f) (slots_of s f) c (resolved_query s q)) all_relations
-    → AllHold (between t (resolved_function t g) (slots_of t g) d (resolved_query t r)) all_relations
+    → AcceptedForms s (resolved_function s f) (slots_of s f) c (resolved_query s q) → AcceptedForms t (resolved_function t g) (slots_of t g) d (resolved_query t r)
 all_of s t f g q r c d schemas functions queries certs h =
-    subst (λ t. AllHold (between t (resolved_function t g) (slots_of t g) d (resolved_query t r)) all_relations) schemas
-    (subst (λ g. AllHold (between s (resolved_function s g) (slots_of s g) d (resolved_query s r)) all_relations) functions
-    (subst (λ r. AllHold (between s (resolved_function s f) (slots_of s f) d (resolved_query s r)) all_relations) queries
-    (subst (λ d. AllHold (between s (resolved_function s f) (slots_of s f) d (resolved_query s q)) all_relations) certs h)))
+    subst (λ t. AcceptedForms t (resolved_function t g) (slots_of t g) d (resolved_query t r)) schemas
+    (subst (λ g. AcceptedForms s (resolved_function s g) (slots_of s g) d (resolved_query s r)) functions
+    (subst (λ r. AcceptedForms s (resolved_function s f) (slots_of s f) d (resolved_query s r)) queries
+    (subst (λ d. AcceptedForms s (resolved_function s f) (slots_of s f) d (resolved_query s q)) certs h)))
 
-each_holds : (x : Between) (r : Relation) → AllHold x all_relations → Holds x r
-each_holds x Lowered h = h.0
-each_holds x Named h = h.1.0
-each_holds x Called h = h.1.1.0
-each_holds x Merged h = h.1.1.1.0
-each_holds x Columned h = h.1.1.1.1.0
-each_holds x Templated h = h.1.1.1.1.1.0
+each_holds : {s : Schema} {f : Function} {slots : List Slot} {forms : Cert} {q : Query} (r : Relation) → AcceptedForms s f slots forms q → Holds s f slots forms q r
+each_holds Lowered h = h.lowered
+each_holds Named h = h.named
+each_holds Called h = h.called
+each_holds Merged h = h.merged
+each_holds Columned h = h.columned
+each_holds Templated h = h.templated
 
 module _ (tables function line text : List ℕ) (t : IsTranslation Certificate tables function (line ++ (10 ∷ text))) (is_line : IsLine line) where
   good : (v : Verdict) → HasVerdict tables function text line v → v ≡ Accepted
@@ -82,14 +81,11 @@ module _ (tables function line text : List ℕ) (t : IsTranslation Certificate t
   good (Fails r) h =
       let output = t.output_is in
       let split = one_line line text output.0 t.text is_line output.1.1.0 output.1.1.1 in
-      let forms = t.compiled.accepted in
-      let all : AllHold (between t.tables.schema (resolved_function t.tables.schema t.function.written) (slots_of t.tables.schema t.function.written) t.forms
-      (resolved_query t.tables.schema t.query)) all_relations = (forms.lowered, forms.named, forms.called, forms.merged, forms.columned, forms.templated, tt) in
       let certs = one_cert line t.forms h.certificate.cert (subst (λ l. Reads l t.forms) (sym split.0) output.1.0) h.certificate.reads_as in
       let queries = one_text t.compiled.reads (subst (λ z. ReadsQuery z h.query.written) split.1 h.query.reads_as.reads) in
       let here = all_of t.tables.schema h.schema.schema t.function.written h.called.written t.query h.query.written t.forms h.certificate.cert
-      (one_schema tables t.tables h.schema) (one_function t.function.reads_as.reads h.called.reads_as.reads) queries certs all in
-      absurd (h.verdict.judges.1 (each_holds _ r here))
+      (one_schema tables t.tables h.schema) (one_function t.function.reads_as.reads h.called.reads_as.reads) queries certs t.compiled.accepted in
+      absurd (h.verdict.judges.1 (each_holds r here))
 
   pub accepted : (before after : RoomySink) (result : Status) → Judged before after result tables function text line → AcceptedIn before after result
   accepted before after result (inl wants) = inl wants

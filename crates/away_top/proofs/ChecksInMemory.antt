@@ -1,6 +1,5 @@
 -- Over objects in memory that are to meet no failure, nothing but want of memory or of room is in the way of `check`.
 use Rattle.std.proofs.Common.{◌≡◌, ◌≤◌, ◌++◌, inl, inr, ap, sym, subst, ◌∙◌, ℕ, List, [], ◌∷◌, length, codes}
-use Rattle.std.specs.Prelude.{Option}
 use Rattle.stage_check.specs.declared.verdict.Verdict.{Verdict}
 use Rattle.away_top.specs.declared.status.Status.{Status}
 use Rattle.away_top.specs.CheckCourse.{TellsVerdict, check_course, with_function, with_query, with_schema}

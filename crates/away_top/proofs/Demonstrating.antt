@@ -1,5 +1,5 @@
 -- A run of `demo` reads no file, and tells of its case where it is done.
-use Rattle.std.proofs.Common.{◌≡◌, ◌∙◌, inl, inr, refl, ap, subst, sym, ℕ, List, [], ◌∷◌, codes}
+use Rattle.std.proofs.Common.{◌≡◌, ◌∙◌, inl, inr, refl, ap, subst, sym, ℕ, List}
 use Rattle.std.specs.Prelude.{Option, Some, None}
 use Rattle.away_top.specs.declared.host.Files.{Ghosts as Files}
 use Rattle.away_top.specs.declared.host.Sink.{Ghosts as Sink}

@@ -6,7 +6,7 @@ use Rattle.away_top.specs.declared.status.Status.TheVariants.{Done}
 use Rattle.away_top.specs.Arguments.{bound_of}
 use Rattle.away_top.specs.Commands.{command_of, course, course_of}
 use Rattle.away_top.specs.Course.{EachRead, Outcome}
-use Rattle.away_top.specs.DemoCourse.{IsShown, ShowsWord}
+use Rattle.away_top.specs.DemoCourse.{ShowsWord}
 use Rattle.away_top.specs.InMemory.{EndsIn, Shown}
 use Rattle.away_top.specs.MemoryFiles.{HeldFiles, held_at}
 use Rattle.away_top.specs.MemorySink.{RoomySink}

@@ -5,7 +5,7 @@ use Rattle.std.specs.List.{All}
 use Rattle.away_top.specs.declared.status.Status.{Status}
 use Rattle.away_top.specs.declared.status.Status.TheVariants.{NoMemory, ReadFault}
 use Rattle.away_top.specs.Course.{AtFile, Course, gives, ends, judges, reads, EachRead, Exactly, Outcome}
-use Rattle.away_top.specs.InMemory.{BeginsWith, EndsIn, IsCompiledQuery, Unread}
+use Rattle.away_top.specs.InMemory.{BeginsWith, EndsIn, Unread}
 use Rattle.away_top.specs.Lines.{read_fault}
 use Rattle.away_top.specs.MemoryFiles.{HeldFiles, IsAbsentName, IsSafeName, held_at}
 use Rattle.away_top.specs.MemorySink.{RoomySink, are_past, safe_room}

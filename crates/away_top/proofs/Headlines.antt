@@ -1,6 +1,5 @@
 -- What was written by a run of `compile` or `certify` that is done.
-use Rattle.std.proofs.Common.{◌≡◌, inl, inr, ℕ, List, [], ◌∷◌, Some, IfSome, refl, ap, subst, sym, ◌∙◌}
-use Rattle.std.specs.declared.option.Option.{Option}
+use Rattle.std.proofs.Common.{◌≡◌, inl, inr, ℕ, List, Some, IfSome, refl, ap, subst, sym, ◌∙◌}
 use Rattle.away_top.specs.declared.compile.Wanted.{Wanted}
 use Rattle.away_top.specs.declared.host.Files.{Ghosts as Files}
 use Rattle.away_top.specs.declared.host.Sink.{Ghosts as Sink}
@@ -8,7 +7,7 @@ use Rattle.away_top.specs.declared.status.Status.{Status}
 use Rattle.away_top.specs.declared.status.Status.TheVariants.{Done, NoMemory, Refused, ReadFault, WriteFault}
 use Rattle.away_top.specs.Answer.{Delivers}
 use Rattle.away_top.specs.Commands.{command_of, course, course_of}
-use Rattle.away_top.specs.CompileCourse.{Compiles, IsWritten, compile_course, word_of}
+use Rattle.away_top.specs.CompileCourse.{Compiles, IsWritten, compile_course}
 use Rattle.away_top.specs.Course.{RefusedBy}
 use Rattle.away_top.specs.Files.{callable_of}
 use Rattle.away_top.specs.Refusals.{IsFunction, IsSchema}

@@ -1,8 +1,7 @@
 -- No command ends by itself in a read fault, in a write fault or for want of memory.
-use Rattle.std.proofs.Common.{◌≡◌, ◌≢◌, inl, inr, ℕ, ◌≤◌, List, [], ◌∷◌, ◌++◌, Bool, true, false, cond, codes, subst, sym, ◌∙◌, arith}
+use Rattle.std.proofs.Common.{◌≡◌, ◌≢◌, inl, inr, ℕ, ◌≤◌, List, [], ◌∷◌, ◌++◌, codes, subst, sym, ◌∙◌, arith}
 use Rattle.std.specs.Prelude.{Option, Some, None, Ok, Err}
 use Rattle.away_values.specs.declared.values.Value.{Value}
-use Rattle.away_values.specs.declared.values.Answer.{Answer}
 use Rattle.away_values.specs.declared.values.Answer.TheVariants as answer
 use Rattle.away_trees.specs.declared.schemas.Schema.{Schema}
 use Rattle.away_trees.specs.declared.schemas.TableSchema.{TableSchema}
@@ -14,7 +13,11 @@ use Rattle.away_top.specs.declared.status.Status.{Status}
 use Rattle.away_top.specs.declared.status.Status.TheVariants.{Done, Refused, Usage, ReadFault, WriteFault, NoMemory, More, Fault, NotAccepted, Shape}
 use Rattle.csv_tables.specs.Files.{Or, rows_in}
 use Rattle.sql_meaning.specs.Context.{Rows}
+use Rattle.sql_eval.specs.declared.rows_answer.RowsAnswer.TheVariants as rows
+use Rattle.away_top.specs.declared.over_tables.program.Reply.{Reply}
+use Rattle.away_top.specs.declared.over_tables.program.Reply.TheVariants as reply
 use Rattle.away_top.specs.AnswerLines.{answer_end, value_line}
+use Rattle.away_top.specs.RowRecords.{records_text, rows_end}
 use Rattle.away_top.specs.Arguments.{bound_of}
 use Rattle.away_top.specs.Commands.{Command, check, command_of, compile, course, course_of, demo, help, no_form, over_tables, version}
 use Rattle.cert_json.specs.Forms.{Cert}
@@ -25,13 +28,13 @@ use Rattle.away_top.specs.CompileCourse.{Compiles, compile_course}
 use Rattle.away_top.specs.Course.{Course, and_then, ends, gives, judges, reads, Exactly, RefusedBy}
 use Rattle.away_top.specs.DemoCourse.{ShowsWord}
 use Rattle.away_top.specs.Files.{Asked, Callable, callable_of, function_course, query_course, schema_course}
-use Rattle.away_top.specs.Programs.{Program, answer_of, arguments_of, program_course}
+use Rattle.away_top.specs.Programs.{Program, arguments_of, program_course, reply_of}
 use Rattle.away_top.specs.RunCourse.{Tells, run_course, spelled, with_bound, with_program, with_schema, with_values}
 use Rattle.away_top.specs.TableFiles.{IsTableRule, holding, table_course, table_file, tables_behind, tables_course}
 use Rattle.away_top.specs.Help.{help_text, version_text}
 use Rattle.away_top.specs.Lines.{line}
 use Rattle.away_top.specs.Host.{Rose}
-use Rattle.away_top.specs.Refusals.{RefusesFunction, RefusesQuery, RefusesSchema}
+use Rattle.away_top.specs.Refusals.{RefusesFunction, RefusesQuery, RefusesRowQuery, RefusesSchema}
 use Rattle.away_top.specs.Runs.{ended, Follows}
 
 -- a status that a command ends with by itself
@@ -124,19 +127,23 @@ plain_tables dir done [] = tt
 plain_tables dir done (t ∷ left) =
     plain_then (table_course dir t) (λ rows. tables_behind dir (done ++ rows ∷ []) left) (λ bytes. plain_holding (table_file dir t.name) (rows_in t bytes)) (λ rows. plain_tables dir (done ++ rows ∷ []) left)
 
-plain_told : (a : Answer) → ArePlain (Tells a)
-plain_told (answer.Value v) = plain_end Done (value_line v) tt
-plain_told (answer.Fault c) = plain_end Fault (answer_end (answer.Fault c)).1 tt
-plain_told answer.More = plain_end More (answer_end answer.More).1 tt
-plain_told (answer.Shape n) = plain_end Shape (answer_end (answer.Shape n)).1 tt
+plain_told : (r : Reply) → ArePlain (Tells r)
+plain_told (reply.Answer (answer.Value v)) = plain_end Done (value_line v) tt
+plain_told (reply.Answer (answer.Fault c)) = plain_end Fault (answer_end (answer.Fault c)).1 tt
+plain_told (reply.Answer answer.More) = plain_end More (answer_end answer.More).1 tt
+plain_told (reply.Answer (answer.Shape n)) = plain_end Shape (answer_end (answer.Shape n)).1 tt
+plain_told (reply.Rows (rows.Rows found)) = plain_end Done (records_text found) tt
+plain_told (reply.Rows (rows.Fault c)) = plain_end Fault (rows_end (rows.Fault c)).1 tt
+plain_told (reply.Rows rows.More) = plain_end More (rows_end rows.More).1 tt
 
 plain_program : (what : Runnable) (s : Schema) (name : List ℕ) → IsPlainCourse (program_course what s name)
 plain_program run.Query s name = λ bytes. (plain_refusal name (RefusesQuery s bytes), λ q. tt)
+plain_program run.Rows s name = λ bytes. (plain_refusal name (RefusesRowQuery s bytes), λ q. tt)
 plain_program run.Function s name = λ bytes. (plain_refusal name (RefusesFunction s bytes), λ f. tt)
 
 plain_values : (bound : ℕ) (s : Schema) (p : Program) (dir : List ℕ) (values : List Value) → IsPlainCourse (with_values bound s p dir values)
 plain_values bound s p dir values =
-    plain_then (tables_course dir s.tables) (λ tables. ends (Tells (answer_of p tables values bound))) (plain_tables dir [] s.tables) (λ tables. plain_told (answer_of p tables values bound))
+    plain_then (tables_course dir s.tables) (λ tables. ends (Tells (reply_of p tables values bound))) (plain_tables dir [] s.tables) (λ tables. plain_told (reply_of p tables values bound))
 
 plain_arguments : (bound : ℕ) (s : Schema) (dir : List ℕ) (args : List (List ℕ)) (p : Program) → IsPlainCourse (with_program bound s dir args p)
 plain_arguments bound s dir args p = plain_then (spelled (arguments_of p args)) (with_values bound s p dir) (plain_spelled (arguments_of p args)) (plain_values bound s p dir)

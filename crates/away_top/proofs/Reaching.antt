@@ -1,11 +1,11 @@
 -- How a run that is under way goes on along its course.
-use Rattle.std.proofs.Common.{◌≡◌, refl, sym, subst, ℕ, List, Result, Err, codes}
-use Rattle.std.specs.Prelude.{Option, Some, None}
+use Rattle.std.proofs.Common.{◌≡◌, refl, sym, subst, ℕ, List, Err}
+use Rattle.std.specs.Prelude.{Option, Some}
 use Rattle.away_top.specs.declared.host.Files.{Ghosts as Files}
 use Rattle.away_top.specs.declared.status.Status.{Status}
 use Rattle.away_top.specs.declared.ending.Halt.{Halt}
 use Rattle.away_top.specs.declared.ending.Halt.TheVariants.{Ended, NoMemory}
-use Rattle.away_top.specs.Course.{Course, and_then, ends, gives}
+use Rattle.away_top.specs.Course.{Course, and_then, ends}
 use Rattle.away_top.specs.RunCourse.{spelled}
 use Rattle.away_top.specs.Runs.{End, wants_memory, ended, goes_on, Follows, IsEnd}
 use Rattle.away_top.specs.Steps.{IsSpelled, halt_end}

@@ -9,13 +9,12 @@ use Rattle.csv_tables.specs.Files.{Or, rows_in}
 use Rattle.sql_meaning.specs.Context.{Rows}
 use Rattle.away_top.specs.declared.host.Files.{Ghosts as Files}
 use Rattle.away_top.specs.declared.over_tables.program.Runnable.{Runnable}
-use Rattle.away_top.specs.declared.over_tables.program.Runnable.TheVariants.{Query, Function}
-use Rattle.away_top.specs.Course.{Course, and_then, ends}
+use Rattle.away_top.specs.declared.over_tables.program.Runnable.TheVariants as run
 use Rattle.away_top.specs.Files.{Asked, Callable, asked_of, callable_of, function_course, query_course, schema_course}
 use Rattle.away_top.specs.Lines.{line}
 use Rattle.away_top.specs.Host.{Keeps}
 use Rattle.away_top.specs.Programs.{IsProgram, Program, program_course, program_of}
-use Rattle.away_top.specs.Refusals.{IsFunction, IsQuery, IsSchema, RefusesFunction, RefusesQuery, RefusesSchema}
+use Rattle.away_top.specs.Refusals.{IsFunction, IsQuery, IsSchema, RefusesFunction, RefusesQuery, RefusesRowQuery, RefusesSchema}
 use Rattle.away_top.specs.RunAnswers.{AreBytesOf, Held, HoldsRows}
 use Rattle.away_top.specs.RunCourse.{spelled}
 use Rattle.away_top.specs.Runs.{goes_on, Follows}
@@ -97,8 +96,9 @@ pub silent_function : (s : Schema) (name : List ℕ) → IsSilent (function_cour
 silent_function s name = λ bytes. (silent_refusal name (RefusesFunction s bytes), λ f. tt)
 
 pub silent_program : (what : Runnable) (s : Schema) (name : List ℕ) → IsSilent (program_course what s name)
-silent_program Query s name = λ bytes. (silent_refusal name (RefusesQuery s bytes), λ q. tt)
-silent_program Function s name = λ bytes. (silent_refusal name (RefusesFunction s bytes), λ f. tt)
+silent_program run.Query s name = λ bytes. (silent_refusal name (RefusesQuery s bytes), λ q. tt)
+silent_program run.Rows s name = λ bytes. (silent_refusal name (RefusesRowQuery s bytes), λ q. tt)
+silent_program run.Function s name = λ bytes. (silent_refusal name (RefusesFunction s bytes), λ f. tt)
 
 module _ {D : Type 0} (F : Files D) where
   pub was_spelled : {A : Type 0} (now after : D) (o : Option A) (a : A) → Follows F now (spelled o) after (goes_on a) → WasSpelled now after o a
@@ -145,11 +145,15 @@ module _ {D : Type 0} (F : Files D) where
 
   pub program_read : (what : Runnable) (now after : D) (s : Schema) (name : List ℕ) (p : Program) → Follows F now (program_course what s name) after (goes_on p)
       → ProgramRead what (F.held now) s name p
-  program_read Query now after s name p (inl h) = absurd h.how
-  program_read Query now after s name p (inr (middle, read, inl h)) = absurd h.how
-  program_read Query now after s name p (inr (middle, read, inr (bytes, holds, inl h))) = absurd h.how
-  program_read Query now after s name p (inr (middle, read, inr (bytes, holds, inr (w, h)))) = record { bytes = bytes; are_its = holds.same; program = w; is = h.how }
-  program_read Function now after s name p (inl h) = absurd h.how
-  program_read Function now after s name p (inr (middle, read, inl h)) = absurd h.how
-  program_read Function now after s name p (inr (middle, read, inr (bytes, holds, inl h))) = absurd h.how
-  program_read Function now after s name p (inr (middle, read, inr (bytes, holds, inr (w, h)))) = record { bytes = bytes; are_its = holds.same; program = w; is = h.how }
+  program_read run.Query now after s name p (inl h) = absurd h.how
+  program_read run.Query now after s name p (inr (middle, read, inl h)) = absurd h.how
+  program_read run.Query now after s name p (inr (middle, read, inr (bytes, holds, inl h))) = absurd h.how
+  program_read run.Query now after s name p (inr (middle, read, inr (bytes, holds, inr (w, h)))) = record { bytes = bytes; are_its = holds.same; program = w; is = h.how }
+  program_read run.Rows now after s name p (inl h) = absurd h.how
+  program_read run.Rows now after s name p (inr (middle, read, inl h)) = absurd h.how
+  program_read run.Rows now after s name p (inr (middle, read, inr (bytes, holds, inl h))) = absurd h.how
+  program_read run.Rows now after s name p (inr (middle, read, inr (bytes, holds, inr (w, h)))) = record { bytes = bytes; are_its = holds.same; program = w; is = h.how }
+  program_read run.Function now after s name p (inl h) = absurd h.how
+  program_read run.Function now after s name p (inr (middle, read, inl h)) = absurd h.how
+  program_read run.Function now after s name p (inr (middle, read, inr (bytes, holds, inl h))) = absurd h.how
+  program_read run.Function now after s name p (inr (middle, read, inr (bytes, holds, inr (w, h)))) = record { bytes = bytes; are_its = holds.same; program = w; is = h.how }

@@ -1,19 +1,19 @@
--- The stretches of `sql` and `fn` make their run.
+-- The stretches of `sql`, `rows` and `fn` make their run.
 use Rattle.std.proofs.Common.{◌≡◌, ℕ, List, Err, subst}
-use Rattle.std.specs.Prelude.{Option, Some}
-use Rattle.away_values.specs.declared.values.Answer.{Answer}
+use Rattle.std.specs.Prelude.{Some}
 use Rattle.away_values.specs.declared.values.Value.{Value}
 use Rattle.away_trees.specs.declared.schemas.Schema.{Schema}
 use Rattle.sql_meaning.specs.Context.{Rows}
 use Rattle.away_top.specs.declared.host.Files.{Ghosts as Files}
 use Rattle.away_top.specs.declared.ending.Ending.{Ending}
 use Rattle.away_top.specs.declared.ending.Halt.{Halt}
+use Rattle.away_top.specs.declared.over_tables.program.Reply.{Reply}
 use Rattle.away_top.specs.declared.over_tables.program.Runnable.{Runnable}
-use Rattle.away_top.specs.AnswerLines.{answer_end}
 use Rattle.away_top.specs.Arguments.{bound_of}
 use Rattle.away_top.specs.Course.{Course, ends}
 use Rattle.away_top.specs.Files.{schema_course}
-use Rattle.away_top.specs.Programs.{Program, answer_of, arguments_of, program_course}
+use Rattle.away_top.specs.Programs.{Program, arguments_of, program_course, reply_of}
+use Rattle.away_top.specs.Replies.{reply_end}
 use Rattle.away_top.specs.RunCourse.{Tells, run_course, with_bound, with_program, with_schema, with_values}
 use Rattle.away_top.specs.Runs.{ended, goes_on, wants_memory, Follows}
 use Rattle.away_top.specs.Steps.{IsEnding, IsSpelled, halt_end}
@@ -41,7 +41,7 @@ module _ {D : Type 0} (F : Files D) (old : D) (what : Runnable) (bound schema fi
   at_values now n s p values is r = with_spelled F old now whole (arguments_of p args) (with_values n s p dir) values is r
 
   abbrev told_over : ℕ → Program → List Value → List Rows → Course ⊥
-  told_over n p values tables = ends (Tells (answer_of p tables values n))
+  told_over n p values tables = ends (Tells (reply_of p tables values n))
 
   pub at_tables : (now later : D) (n : ℕ) (s : Schema) (p : Program) (values : List Value) (tables : List Rows) → Reached F old now whole (with_values n s p dir values)
       → Follows F now (tables_course dir s.tables) later (goes_on tables) → Reached F old later whole (told_over n p values tables)
@@ -71,12 +71,12 @@ module _ {D : Type 0} (F : Files D) (old : D) (what : Runnable) (bound schema fi
   pub values_want : (now : D) (n : ℕ) (s : Schema) (p : Program) → Reached F old now whole (with_program n s dir args p) → Follows F old whole now wants_memory
   values_want now n s p r = wants F old now whole (with_program n s dir args p) r
 
-  pub answer_wants : (now : D) (n : ℕ) (p : Program) (values : List Value) (tables : List Rows) → Reached F old now whole (told_over n p values tables) → Follows F old whole now wants_memory
-  answer_wants now n p values tables r = wants F old now whole (told_over n p values tables) r
+  pub reply_wants : (now : D) (n : ℕ) (p : Program) (values : List Value) (tables : List Rows) → Reached F old now whole (told_over n p values tables) → Follows F old whole now wants_memory
+  reply_wants now n p values tables r = wants F old now whole (told_over n p values tables) r
 
-  -- the answer is told
-  pub answer_told : (now : D) (n : ℕ) (p : Program) (values : List Value) (tables : List Rows) (answer : Answer) (ending : Ending) → Reached F old now whole (told_over n p values tables)
-      → answer ≡ answer_of p tables values n → IsEnding ending (answer_end answer).0 (answer_end answer).1 → Follows F old whole now (ended ending.status ending.output.items)
-  answer_told now n p values tables answer ending r is e =
-      ends_here F old now whole (Tells (answer_of p tables values n)) (ended ending.status ending.output.items) r
+  -- what the program gives is told
+  pub reply_told : (now : D) (n : ℕ) (p : Program) (values : List Value) (tables : List Rows) (reply : Reply) (ending : Ending) → Reached F old now whole (told_over n p values tables)
+      → reply ≡ reply_of p tables values n → IsEnding ending (reply_end reply).0 (reply_end reply).1 → Follows F old whole now (ended ending.status ending.output.items)
+  reply_told now n p values tables reply ending r is e =
+      ends_here F old now whole (Tells (reply_of p tables values n)) (ended ending.status ending.output.items) r
       (subst (λ a. Tells a ending.status ending.output.items) is (e.status_is, e.output_is))

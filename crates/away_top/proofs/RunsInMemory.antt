@@ -1,22 +1,23 @@
--- Over objects in memory that are to meet no failure, nothing but want of memory or of room is in the way of `sql` and `fn`.
+-- Over objects in memory that are to meet no failure, nothing but want of memory or of room is in the way of `sql`, `rows` and `fn`.
 use Rattle.std.proofs.Common.{◌≡◌, ◌++◌, inl, inr, refl, sym, ◌∙◌, ap, subst, ℕ, List, [], ◌∷◌}
 use Rattle.std.specs.Prelude.{Option, Some, None, IsSome}
 use Rattle.std.specs.List.{AllByRecursion}
-use Rattle.away_values.specs.declared.values.Answer.{Answer}
 use Rattle.away_values.specs.declared.values.Answer.TheVariants as answer
 use Rattle.away_trees.specs.declared.schemas.TableSchema.{TableSchema}
 use Rattle.sql_meaning.specs.Context.{Rows}
+use Rattle.sql_eval.specs.declared.rows_answer.RowsAnswer.TheVariants as rows
+use Rattle.away_top.specs.declared.over_tables.program.Reply.{Reply}
+use Rattle.away_top.specs.declared.over_tables.program.Reply.TheVariants as reply
 use Rattle.away_top.specs.declared.over_tables.program.Runnable.{Runnable}
-use Rattle.away_top.specs.declared.over_tables.program.Runnable.TheVariants.{Query, Function}
+use Rattle.away_top.specs.declared.over_tables.program.Runnable.TheVariants as run
 use Rattle.away_top.specs.declared.status.Status.{Status}
 use Rattle.away_top.specs.Arguments.{bound_of}
 use Rattle.away_top.specs.Commands.{command_of, course, course_of}
 use Rattle.away_top.specs.Course.{and_then, ends, Outcome}
-use Rattle.away_top.specs.Files.{asked_of, callable_of}
-use Rattle.away_top.specs.InMemory.{Answered, EndsIn, IsFitProgram, IsFitTable, MayRun}
+use Rattle.away_top.specs.InMemory.{Answered, EndsIn, IsFitTable, MayRun}
 use Rattle.away_top.specs.MemoryFiles.{HeldFiles, held_at}
 use Rattle.away_top.specs.MemorySink.{RoomySink}
-use Rattle.away_top.specs.Programs.{IsProgram, Program, answer_of, arguments_of, program_course, program_of, word_of}
+use Rattle.away_top.specs.Programs.{IsProgram, arguments_of, program_of, reply_of, word_of}
 use Rattle.away_top.specs.Refusals.{IsSchema}
 use Rattle.away_top.specs.RunAnswers.{Held, IsAnswer}
 use Rattle.away_top.specs.RunCourse.{Tells, run_course, spelled, with_bound, with_program, with_schema, with_values}
@@ -32,16 +33,19 @@ some_of (Some a) s = (a, refl)
 
 -- ---- files that are fit lead to an answer
 
-tells_answer : (a : Answer) (status : Status) (output : List ℕ) → Tells a status output → IsAnswer status
-tells_answer (answer.Value v) status output e = subst IsAnswer (sym e.0) tt
-tells_answer (answer.Fault c) status output e = subst IsAnswer (sym e.0) tt
-tells_answer answer.More status output e = subst IsAnswer (sym e.0) tt
-tells_answer (answer.Shape n) status output e = subst IsAnswer (sym e.0) tt
+tells_reply : (r : Reply) (status : Status) (output : List ℕ) → Tells r status output → IsAnswer status
+tells_reply (reply.Answer (answer.Value v)) status output e = subst IsAnswer (sym e.0) tt
+tells_reply (reply.Answer (answer.Fault c)) status output e = subst IsAnswer (sym e.0) tt
+tells_reply (reply.Answer answer.More) status output e = subst IsAnswer (sym e.0) tt
+tells_reply (reply.Answer (answer.Shape n)) status output e = subst IsAnswer (sym e.0) tt
+tells_reply (reply.Rows (rows.Rows found)) status output e = subst IsAnswer (sym e.0) tt
+tells_reply (reply.Rows (rows.Fault c)) status output e = subst IsAnswer (sym e.0) tt
+tells_reply (reply.Rows rows.More) status output e = subst IsAnswer (sym e.0) tt
 
-module _ (held : Held) (dir : List ℕ) (status : Status) (output : List ℕ) (tell : List Rows → Answer) where
+module _ (held : Held) (dir : List ℕ) (status : Status) (output : List ℕ) (tell : List Rows → Reply) where
   tables_lead : (left : List TableSchema) (done : List Rows) → AllByRecursion (IsFitTable held dir) left
       → Outcome {A = ⊥} held (and_then (tables_behind dir done left) (λ tables. ends (Tells (tell tables)))) status output → IsAnswer status
-  tables_lead [] done fit o = tells_answer (tell done) status output o
+  tables_lead [] done fit o = tells_reply (tell done) status output o
   tables_lead (t ∷ left) done fit o =
       let file = table_file dir t.name in
       let led = leads_on file 67108864 _ (held file) fit.0.bytes status output fit.0.holds fit.0.short o in
@@ -52,11 +56,15 @@ module _ (m : HeldFiles) (bound schema file dir : List ℕ) (args : List (List �
   program_leads : (what : Runnable) (may : MayRun what m bound schema file dir args) (n : ℕ) (s : IsSchema may.tables)
       → Outcome {A = ⊥} (held_at m.held) (with_schema what file dir args n s.schema) status output
       → (p : IsProgram what s.schema may.program) × Outcome {A = ⊥} (held_at m.held) (with_program n s.schema dir args (program_of what s.schema may.program p)) status output
-  program_leads Query may n s o = elim (leads_on file 67108864 _ (held_at m.held file) may.program status output may.holds_program may.fit_program.short o) [
+  program_leads run.Query may n s o = elim (leads_on file 67108864 _ (held_at m.held file) may.program status output may.holds_program may.fit_program.short o) [
     | inl (rule, refuses, e) ↦ absurd (may.fit_program.unrefused s rule refuses)
     | inr (q, rest) ↦ (q, rest)
   ]
-  program_leads Function may n s o = elim (leads_on file 1048576 _ (held_at m.held file) may.program status output may.holds_program may.fit_program.short o) [
+  program_leads run.Rows may n s o = elim (leads_on file 67108864 _ (held_at m.held file) may.program status output may.holds_program may.fit_program.short o) [
+    | inl (rule, refuses, e) ↦ absurd (may.fit_program.unrefused s rule refuses)
+    | inr (q, rest) ↦ (q, rest)
+  ]
+  program_leads run.Function may n s o = elim (leads_on file 1048576 _ (held_at m.held file) may.program status output may.holds_program may.fit_program.short o) [
     | inl (rule, refuses, e) ↦ absurd (may.fit_program.unrefused s rule refuses)
     | inr (f, rest) ↦ (f, rest)
   ]
@@ -67,7 +75,7 @@ module _ (m : HeldFiles) (bound schema file dir : List ℕ) (args : List (List �
         let led = program_leads what may n s o in
         let program = program_of what s.schema may.program led.0 in
         let values = some_of (arguments_of program args) (may.fit_program.spelled s led.0) in
-        tables_lead (held_at m.held) dir status output (λ tables. answer_of program tables values.0 n) s.schema.tables [] (may.fit_tables s)
+        tables_lead (held_at m.held) dir status output (λ tables. reply_of program tables values.0 n) s.schema.tables [] (may.fit_tables s)
         (subst (λ o. Outcome {A = ⊥} (held_at m.held) (and_then (spelled o) (with_values n s.schema program dir)) status output) values.1 led.1)
 
     leads : Outcome {A = ⊥} (held_at m.held) (run_course what bound schema file dir args) status output → IsAnswer status

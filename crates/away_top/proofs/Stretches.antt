@@ -1,11 +1,11 @@
 -- How stretches of a run make the run.
-use Rattle.std.proofs.Common.{◌≡◌, inl, inr, ℕ, List, refl, sym, subst, IfOk, Result, Ok, Err}
+use Rattle.std.proofs.Common.{◌≡◌, inl, inr, ℕ, List, refl, sym, subst, Result, Ok, Err}
 use Rattle.away_top.specs.declared.host.Files.{Ghosts as Files}
 use Rattle.away_top.specs.declared.status.Status.{Status}
 use Rattle.away_top.specs.declared.ending.Halt.{Halt}
 use Rattle.away_top.specs.declared.ending.Halt.TheVariants.{Ended, NoMemory}
 use Rattle.away_top.specs.Course.{Course, and_then, ends, gives, judges, reads}
-use Rattle.away_top.specs.Runs.{End, wants_memory, ended, goes_on, Follows, Holds, IsEnd, IsGiven, IsRead, ReadsNoMore, StopsAt}
+use Rattle.away_top.specs.Runs.{End, wants_memory, goes_on, Follows, Holds, IsRead, StopsAt}
 use Rattle.away_top.specs.Steps.{halt_end, stretch_end, IsHalt, IsJudged}
 
 -- memory may be wanting before anything else

@@ -1,9 +1,9 @@
 -- How the tables of a folder grow by one file.
-use Rattle.std.proofs.Common.{◌≡◌, ◌≢◌, refl, sym, ◌∙◌, ap, subst, inl, inr, ℕ, ◌+◌, ◌<◌, ◌≤◌, get_or, drop, List, [], ◌∷◌, ◌++◌, length, map}
-use Rattle.std.specs.Prelude.{Ok, Err}
+use Rattle.std.proofs.Common.{◌≡◌, ◌≢◌, refl, sym, ◌∙◌, ap, subst, ℕ, ◌+◌, ◌<◌, ◌≤◌, get_or, drop, List, [], ◌∷◌, ◌++◌, length}
+use Rattle.std.specs.Prelude.{Ok}
 use Rattle.away_values.specs.declared.values.Table.{Table}
 use Rattle.away_trees.specs.declared.schemas.TableSchema.{TableSchema}
-use Rattle.csv_tables.specs.Files.{Or, Refuses, rows_in}
+use Rattle.csv_tables.specs.Files.{Refuses, rows_in}
 use Rattle.csv_tables.specs.declared.refusal.TableRefusal.{TableRefusal}
 use Rattle.csv_tables.specs.declared.refusal.TableRefusal.TheVariants as refusal
 use Rattle.sql_meaning.specs.AtBound.{rows_of_tables}

@@ -1,11 +1,11 @@
 -- An end that files lead to is the end of a run over files that tell what they hold.
-use Rattle.std.proofs.Common.{◌≡◌, inl, inr, refl, sym, ◌≤◌, ◌^◌, ◌-◌, ℕ, List, arith}
+use Rattle.std.proofs.Common.{◌≡◌, inl, inr, refl, ◌^◌, ◌-◌, ℕ, List, arith}
 use Rattle.std.specs.Prelude.{Option, Some, None}
 use Rattle.away_top.specs.declared.host.Files.{Ghosts as Files}
 use Rattle.away_top.specs.declared.status.Status.{Status}
 use Rattle.away_top.specs.Course.{AtFile, Course, ends, gives, judges, reads, Outcome}
 use Rattle.away_top.specs.RunAnswers.{Held}
-use Rattle.away_top.specs.Runs.{ended, Follows, Holds, IsRead}
+use Rattle.away_top.specs.Runs.{ended, Follows, IsRead}
 
 -- files that hold this, of which none is safe, and whose count of faults stands at its last value
 abbrev pub telling : Held → Files (Unit {0})

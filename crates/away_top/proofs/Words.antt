@@ -25,4 +25,5 @@ pub asks_run : (what : Runnable) (bound schema file dir : List ℕ) (args : List
     → command_of (word_of what ∷ bound ∷ schema ∷ file ∷ dir ∷ args) ≡ over_tables what bound schema file dir args
 unfolding command_of
 asks_run runnable.Query bound schema file dir args = refl
+asks_run runnable.Rows bound schema file dir args = refl
 asks_run runnable.Function bound schema file dir args = refl

@@ -6,11 +6,13 @@ use Rattle.away_trees.specs.declared.schemas.Schema.{Schema}
 use Rattle.away_trees.specs.declared.statements.Function.{Function}
 use Rattle.away_types.specs.declared.checked_function.CheckedFunction.{CheckedFunction}
 use Rattle.away_types.specs.declared.checked_query.CheckedQuery.{CheckedQuery}
+use Rattle.away_types.specs.declared.checked_rows.CheckedRows.{CheckedRows}
 use Rattle.away_types.specs.declared.slots.Slot.{Slot}
 use Rattle.away_types.specs.CheckedQueries.{judged_query, resolved_query}
+use Rattle.away_types.specs.CheckedRows.{rows_judged}
 use Rattle.away_types.specs.FunctionChecks.{resolved_function, slots_of}
 use Rattle.away_top.specs.Course.{Course, gives, judges, reads, RefusedBy}
-use Rattle.away_top.specs.Refusals.{IsFunction, IsQuery, IsSchema, RefusesFunction, RefusesQuery, RefusesSchema}
+use Rattle.away_top.specs.Refusals.{IsFunction, IsQuery, IsRowQuery, IsSchema, RefusesFunction, RefusesQuery, RefusesRowQuery, RefusesSchema}
 
 -- a schema's file is read and judged
 abbrev pub schema_course : List ℕ → Course Schema
@@ -52,3 +54,15 @@ abbrev pub query_course : Schema → List ℕ → Course Asked
 query_course schema name =
     reads name 67108864
     (λ bytes. judges (RefusedBy name (RefusesQuery schema bytes)) (IsQuery schema bytes) (λ q. gives (asked_of schema q.written)))
+
+-- the same, for all of its rows
+abbrev pub as_row_query : CheckedRows → Asked
+as_row_query c = record { query = c.query; params = c.params }
+
+abbrev pub row_query_of : Schema → Query → Asked
+row_query_of schema written = record { query = resolved_query schema written; params = (rows_judged schema written).params }
+
+abbrev pub row_query_course : Schema → List ℕ → Course Asked
+row_query_course schema name =
+    reads name 67108864
+    (λ bytes. judges (RefusedBy name (RefusesRowQuery schema bytes)) (IsRowQuery schema bytes) (λ q. gives (row_query_of schema q.written)))

@@ -100,7 +100,7 @@ Shown before after result word =
     ⊎ ((output : List ℕ) × IsShown word output
     × (length output ≤ before.room → IsWritten before after result output))
 
--- ---- sql and fn
+-- ---- sql, rows and fn
 
 -- a program's file is within its limit, over the schema of these bytes no rule refuses it, and the words spell its arguments
 pub record IsFitProgram (what : Runnable) (tables bytes : List ℕ) (args : List (List ℕ)) : Type 0 where
@@ -128,7 +128,7 @@ pub record MayRun (what : Runnable) (files : HeldFiles) (bound schema file dir :
   pub fit_tables : (s : IsSchema tables) → AllByRecursion (IsFitTable (held_at files.held) dir) s.schema.tables
   pub no_failure : files.fails ≡ []
 
--- Memory was wanting, or there is the answer of the program that the call tells, where the room holds it.
+-- Memory was wanting, or there is what the program gives that the call tells, where the room holds it.
 abbrev pub Answered : Runnable → HeldFiles → RoomySink → RoomySink → Status → List ℕ → List ℕ → List ℕ → List ℕ → List (List ℕ) → Type 0
 Answered what files before after result bound schema file dir args =
     EndsIn before after result (λ status output. IsAnswer status × IsAnswered what (held_at files.held) bound schema file dir args status output)

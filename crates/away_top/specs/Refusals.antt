@@ -16,6 +16,7 @@ use Rattle.away_names.specs.Rules.{number}
 use Rattle.away_types.specs.declared.finding.Finding.{Finding}
 use Rattle.away_types.specs.declared.finding.Report.{Report}
 use Rattle.away_types.specs.CheckedQueries.{query_note}
+use Rattle.away_types.specs.CheckedRows.{rows_note}
 use Rattle.away_types.specs.FunctionChecks.{function_note}
 use Rattle.away_types.specs.Refusals.{HasNoFinding, IsUnbroken}
 use Rattle.away_names.specs.Schemas.{schema_note}
@@ -108,3 +109,17 @@ abbrev pub RefusesQuery : Schema → List ℕ → List ℕ → Type 0
 RefusesQuery schema bytes rule =
     RefusesRead (texts.Refuses (ReadsQuery bytes) bytes) rule
     ⊎ ((query : Query) × ReadsAsQuery bytes query × BreaksRule (query_note schema query) rule)
+
+-- ---- the query, by all of its rows
+
+-- the query that the bytes read as, which breaks no rule over the tables of the schema but perhaps the one on answers
+pub record IsRowQuery (schema : Schema) (bytes : List ℕ) : Type 0 where
+  pub written : Query
+  pub reads_as : ReadsAsQuery bytes written
+  pub unbroken : IsUnbroken (rows_note schema written)
+
+-- it isn't read, or it breaks a rule that isn't the one on answers
+abbrev pub RefusesRowQuery : Schema → List ℕ → List ℕ → Type 0
+RefusesRowQuery schema bytes rule =
+    RefusesRead (texts.Refuses (ReadsQuery bytes) bytes) rule
+    ⊎ ((query : Query) × ReadsAsQuery bytes query × BreaksRule (rows_note schema query) rule)

@@ -1,5 +1,5 @@
--- What `sql` and `fn` answer, in the words of their files.
-use Rattle.std.specs.Prelude.{◌≡◌, ℕ, List, [], ◌∷◌, Ok, Some, IfSome}
+-- What `sql`, `rows` and `fn` answer, in the words of their files.
+use Rattle.std.specs.Prelude.{◌≡◌, ℕ, List, ◌∷◌, Ok, Some, IfSome}
 use Rattle.std.specs.List.{AllZip}
 use Rattle.std.specs.declared.option.Option.{Option}
 use Rattle.std.specs.Io.KnownBytes.{Appends}
@@ -11,12 +11,12 @@ use Rattle.away_top.specs.declared.over_tables.program.Runnable.{Runnable}
 use Rattle.away_top.specs.declared.status.Status.{Status}
 use Rattle.away_top.specs.declared.status.Status.TheVariants.{Done, Refused, Usage, ReadFault, WriteFault, NoMemory, More, Fault, NotAccepted, Shape}
 use Rattle.away_top.specs.Arguments.{bound_of}
-use Rattle.away_top.specs.Programs.{IsProgram, Program, answer_of, arguments_of, program_of, word_of}
+use Rattle.away_top.specs.Programs.{IsProgram, arguments_of, program_of, reply_of, word_of}
 use Rattle.away_top.specs.Refusals.{IsSchema}
 use Rattle.away_top.specs.RunCourse.{Tells}
 use Rattle.away_top.specs.TableFiles.{table_file}
 
--- a status by which an answer is told
+-- a status by which an answer is told, or rows
 abbrev pub IsAnswer : Status → Type 0
 IsAnswer Done = Unit {0}
 IsAnswer Refused = ⊥
@@ -43,7 +43,7 @@ pub record HoldsRows (held : Held) (dir : List ℕ) (t : TableSchema) (rows : Ro
   pub are_its : AreBytesOf held (table_file dir t.name) bytes
   pub rows_are : rows_in t bytes ≡ Ok rows
 
--- The status and the output tell the answer, within the bound, of the program that its file reads as, with the arguments that the words
+-- The status and the output tell what the program gives, within the bound, that its file reads as, with the arguments that the words
 -- spell, over the tables that their files hold.
 pub record IsAnswered (what : Runnable) (held : Held) (bound schema file dir : List ℕ) (args : List (List ℕ)) (status : Status) (output : List ℕ) : Type 0 where
   pub most : ℕ
@@ -58,7 +58,7 @@ pub record IsAnswered (what : Runnable) (held : Held) (bound schema file dir : L
   pub arguments_are : arguments_of (program_of what tables.schema file_bytes program) args ≡ Some values
   pub rows : List Rows
   pub holds_tables : AllZip (HoldsRows held dir) tables.schema.tables rows
-  pub tells : Tells (answer_of (program_of what tables.schema file_bytes program) rows values most) status output
+  pub tells : Tells (reply_of (program_of what tables.schema file_bytes program) rows values most) status output
 
 -- Where the words are those of its command, its answer was told.
 abbrev pub AnswersRun : Runnable → Held → Option (List ℕ) → Option (List ℕ) → List (List ℕ) → Status → Type 0

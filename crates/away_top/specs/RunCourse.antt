@@ -1,17 +1,17 @@
--- `sql BOUND SCHEMA QUERY DIR ARG..` and `fn BOUND SCHEMA FUNC DIR ARG..`: a program is run over the tables of a schema.
+-- `sql BOUND SCHEMA QUERY DIR ARG..`, `rows BOUND SCHEMA QUERY DIR ARG..` and `fn BOUND SCHEMA FUNC DIR ARG..`: a program is run over the tables of a schema.
 use Rattle.std.specs.Prelude.{ℕ, List, Option, Some, None, codes}
-use Rattle.away_values.specs.declared.values.Answer.{Answer}
 use Rattle.away_values.specs.declared.values.Value.{Value}
 use Rattle.away_trees.specs.declared.schemas.Schema.{Schema}
+use Rattle.away_top.specs.declared.over_tables.program.Reply.{Reply}
 use Rattle.away_top.specs.declared.over_tables.program.Runnable.{Runnable}
 use Rattle.away_top.specs.declared.status.Status.{Status}
 use Rattle.away_top.specs.declared.status.Status.TheVariants.{Usage}
-use Rattle.away_top.specs.AnswerLines.{answer_end}
 use Rattle.away_top.specs.Arguments.{bound_of}
 use Rattle.away_top.specs.Course.{Course, and_then, ends, gives, Exactly}
 use Rattle.away_top.specs.Files.{schema_course}
 use Rattle.away_top.specs.Lines.{line}
-use Rattle.away_top.specs.Programs.{Program, answer_of, arguments_of, program_course}
+use Rattle.away_top.specs.Programs.{Program, arguments_of, program_course, reply_of}
+use Rattle.away_top.specs.Replies.{reply_end}
 use Rattle.away_top.specs.TableFiles.{tables_course}
 
 -- the run goes on with what words spell, if they spell one
@@ -19,13 +19,13 @@ abbrev pub spelled : {A : Type 0} → Option A → Course A
 spelled None = ends (Exactly Usage (line (codes "usage")))
 spelled (Some a) = gives a
 
--- the end of a run that has this answer
-abbrev pub Tells : Answer → Status → List ℕ → Type 0
-Tells answer = Exactly (answer_end answer).0 (answer_end answer).1
+-- the end of a run that gives this
+abbrev pub Tells : Reply → Status → List ℕ → Type 0
+Tells reply = Exactly (reply_end reply).0 (reply_end reply).1
 
 -- the tables are read, and the program is run over them
 abbrev pub with_values : ℕ → Schema → Program → List ℕ → List Value → Course ⊥
-with_values bound schema p dir values = and_then (tables_course dir schema.tables) (λ tables. ends (Tells (answer_of p tables values bound)))
+with_values bound schema p dir values = and_then (tables_course dir schema.tables) (λ tables. ends (Tells (reply_of p tables values bound)))
 
 -- the arguments are judged before any table is read
 abbrev pub with_program : ℕ → Schema → List ℕ → List (List ℕ) → Program → Course ⊥

@@ -1,6 +1,5 @@
 -- How a run goes along its course, from the state of the files before it to the state that it leaves.
 use Rattle.std.specs.Prelude.{◌≡◌, ◌⊎◌, ℕ, ◌<◌, ◌≤◌, List, length, codes, IfSome}
-use Rattle.std.specs.declared.option.Option.{Option}
 use Rattle.away_top.specs.declared.host.Files.{Ghosts as Files}
 use Rattle.away_top.specs.declared.status.Status.{Status}
 use Rattle.away_top.specs.declared.status.Status.TheVariants.{Refused, ReadFault}

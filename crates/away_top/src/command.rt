@@ -75,6 +75,9 @@ impl<'a> Command<'a> {
         if word == "sql" {
             return over_tables(Runnable::Query, rest);
         }
+        if word == "rows" {
+            return over_tables(Runnable::Rows, rest);
+        }
         if word == "fn" {
             return over_tables(Runnable::Function, rest);
         }

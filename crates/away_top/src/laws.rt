@@ -5,7 +5,20 @@ ghost use Rattle.away_top.specs.declared.compile.Wanted.{Wanted};
 ghost use Rattle.away_top.specs.declared.over_tables.program.Runnable.{Runnable};
 ghost use Rattle.away_top.specs.Arguments.{bound_of};
 ghost use Rattle.away_top.specs.Commands.{course};
-ghost use Rattle.away_top.specs.InMemory.{AcceptedIn, Answered, BeginsWith, Ended, HoldsCertified, Judged, MayCheck, MayCompile, MayRun, Shown, Translated, Unread};
+ghost use Rattle.away_top.specs.InMemory.{
+  AcceptedIn,
+  Answered,
+  BeginsWith,
+  Ended,
+  HoldsCertified,
+  Judged,
+  MayCheck,
+  MayCompile,
+  MayRun,
+  Shown,
+  Translated,
+  Unread,
+};
 ghost use Rattle.away_top.specs.MemoryFiles.{held_at};
 ghost use Rattle.away_top.specs.Programs.{word_of};
 
@@ -17,7 +30,7 @@ use std::alloc::Global;
 ///
 /// Where the words are those of `compile` or `certify`, and the files that they name are held and fit, that end is a translation.
 /// Where they are those of `check`, it is the verdict on its files, where they are those of `sql` or `fn`, the answer of the query or
-/// the function, and where they are `demo` and a number, a summary of that case.
+/// the function, where they are those of `rows`, the rows of the query, and where they are `demo` and a number, a summary of that case.
 pub fn away_in_memory(
     alloc: Global,
     words: &[String],

@@ -9,3 +9,4 @@ pub mod Refusals
 pub mod CheckedFunctions
 pub mod CheckedSchemas
 pub mod CheckedQueries
+pub mod CheckedRows

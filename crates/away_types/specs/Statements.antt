@@ -139,8 +139,8 @@ abbrev pub other_by : Option (List (By Stmt)) → Option (By (List Stmt))
 other_by None = None
 other_by (Some body) = Some (each_resolved body)
 
-abbrev pub branched : (List Arm → Option (List Stmt) → Stmt) → List (By Arm) → Option (List (By Stmt)) → By Stmt
-branched form arms other spot slots =
+abbrev pub branching : (List Arm → Option (List Stmt) → Stmt) → List (By Arm) → Option (List (By Stmt)) → By Stmt
+branching form arms other spot slots =
     let xs = each_resolved arms spot slots in
     let y = maybe_resolved (other_by other) spot xs.slots in
     record { it = form xs.it y.it; note = branched xs.note y.note; slots = y.slots }
@@ -177,8 +177,8 @@ statement (st.Block label decls body closing) spot slots =
     let ds = declared_all decls spot.scope slots in
     block_with spot label decls closing ds.it ds.note (each_resolved body (within label false ds.variables spot) ds.slots)
 statement (st.Assign name slot e) spot slots = assign_with spot name e slots
-statement (st.If arms other) spot slots = branched (λ arms other. stmt.If arms other) arms other spot slots
-statement (st.Cases arms other) spot slots = branched (λ arms other. stmt.Cases arms other) arms other spot slots
+statement (st.If arms other) spot slots = branching (λ arms other. stmt.If arms other) arms other spot slots
+statement (st.Cases arms other) spot slots = branching (λ arms other. stmt.Cases arms other) arms other spot slots
 statement (st.Loop label k body closing) spot slots =
     let h = headed k spot.scope slots in
     loop_with spot label closing h.it h.note (each_resolved body (within label true h.variables spot) h.slots)

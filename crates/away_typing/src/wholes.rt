@@ -66,7 +66,8 @@ fn answer_note(shape: &Option<Items<Ty>>) -> Note
     )
 }
 
-fn uses_note(q: &Query) -> Result<Note, NoMemory>
+/// Where aggregates stand, and what their number limits.
+pub fn uses_note(q: &Query) -> Result<Note, NoMemory>
     ensures { IfOk result (λ n. n ≡ spec.uses_note q.now) }
 {
     let uses = query_used(q)?;
@@ -76,7 +77,8 @@ fn uses_note(q: &Query) -> Result<Note, NoMemory>
     ))
 }
 
-fn final_shape(alloc: Global, q: &Query, r: &Recursion) -> Result<Option<Items<Ty>>, NoMemory>
+/// The types of the columns of a query, by the tables behind its selects.
+pub fn final_shape(alloc: Global, q: &Query, r: &Recursion) -> Result<Option<Items<Ty>>, NoMemory>
     ensures { IfOk result (λ s. s ≡ spec.final_shape q.now r.now) }
 {
     let kinds = union(alloc, q.selects.as_slice(), &over_tables(&r.tables))?;

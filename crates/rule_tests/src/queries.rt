@@ -3,7 +3,7 @@
 use away_trees::{
     ColumnSchema, Expr, FromItem, Item, Query, Recursive, Schema, Select, Source, TableSchema,
 };
-use away_types::{CheckedSchema, RuleRefusal, check_query, check_schema};
+use away_types::{CheckedSchema, RuleRefusal, check_query, check_rows, check_schema};
 use away_values::{ChainOp, CmpOp, IntOp, Name, Ty, name};
 use itoa::Buffer;
 use sqlite_items::{Boxed, Items};
@@ -140,6 +140,27 @@ fn params_or_rule(
     }
 }
 
+/// The types of the columns of the checked query, or the rule that it breaks.
+fn columns_or_rule(
+    rt: &(impl Abort + AllocGlobal),
+    s: &CheckedSchema,
+    q: Query,
+) -> Result<Items<Ty>, u8> {
+    match check_rows(rt.alloc(), s, q) {
+        Ok(query) => Ok(query.columns),
+        Err(RuleRefusal::Broken(rule)) => Err(rule.number()),
+        Err(RuleRefusal::NoMemory) => rt.abort(),
+    }
+}
+
+/// A query of this list alone.
+fn listing(rt: &(impl Abort + AllocGlobal), list: Items<Item>) -> Query {
+    Query {
+        recursive: None,
+        selects: one(rt, select(rt, list, Items::new(rt.alloc()), None)),
+    }
+}
+
 #[test]
 fn names_of_many_tables_are_found(rt: HostRuntime) {
     assert!(rt; checked(&rt, tables(&rt, 10_000, numbered(&rt, 5_000))).err() == Some(6));
@@ -247,4 +268,24 @@ fn a_query_of_one_column_is_refused(rt: HostRuntime) {
         Err(_) => rt.abort(),
         Ok(schema) => assert!(rt; params_or_rule(&rt, &schema, q) == Err(18)),
     }
+}
+
+#[test]
+fn all_columns_of_a_query_are_told(rt: HostRuntime) {
+    let schema = match checked(&rt, tables(&rt, 0, named(&rt, "t"))) {
+        Err(_) => rt.abort(),
+        Ok(schema) => schema,
+    };
+    let number = columns_or_rule(&rt, &schema, listing(&rt, one(&rt, item(Expr::Int(1)))));
+    match number {
+        Ok(columns) => assert!(rt; columns.as_slice() == [Ty::Bigint].as_slice()),
+        Err(_) => rt.abort(),
+    }
+    let pair = two(&rt, item(Expr::Bool(true)), item(Expr::Null));
+    match columns_or_rule(&rt, &schema, listing(&rt, pair)) {
+        Ok(columns) => assert!(rt; columns.as_slice() == [Ty::Boolean, Ty::Text].as_slice()),
+        Err(_) => rt.abort(),
+    }
+    let unknown = listing(&rt, one(&rt, item(column(&rt, "k"))));
+    assert!(rt; columns_or_rule(&rt, &schema, unknown).err() == Some(7));
 }

@@ -2,3 +2,4 @@ pub mod Scopes
 pub mod Called
 pub mod Classes
 pub mod Lengths
+pub mod RowsAnswers

@@ -3,5 +3,6 @@
 pub mod answer_lines;
 pub mod arguments;
 pub mod program;
+pub mod row_records;
 pub mod run;
 pub mod tables;

@@ -1,4 +1,4 @@
-use Rattle.std.proofs.Common.{◌≡◌, ◌∙◌, ◌++◌, sym, subst, List, ℕ}
+use Rattle.std.proofs.Common.{◌≡◌, ◌∙◌, sym, subst}
 use Rattle.away_top.specs.declared.compile.Wanted.TheVariants.{Certificate}
 use Rattle.away_top.specs.Translation.{IsTranslation}
 use Rattle.away_top.proofs.CertifiedInMemory.{accepted, same_end}

@@ -1,6 +1,6 @@
 use Rattle.std.proofs.Common.{map, string_bytes, subst}
 use Rattle.away_top.specs.Commands.{course}
-use Rattle.away_top.specs.Runs.{ended, Runs, wants_memory}
+use Rattle.away_top.specs.Runs.{ended, Runs}
 use Rattle.away_top.specs.Steps.{halt_end}
 use Rattle.away_top.proofs.Deliveries.{given_is}
 use Rattle.away_top.proofs.top.run_and_deliver.Goals as goal

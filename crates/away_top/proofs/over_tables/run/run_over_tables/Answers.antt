@@ -5,7 +5,7 @@ use Rattle.away_top.specs.Programs.{as_program}
 use Rattle.away_top.specs.Runs.{Follows, goes_on}
 use Rattle.away_top.specs.Steps.{IsSpelled, halt_end}
 use Rattle.away_top.specs.TableFiles.{tables_course}
-use Rattle.away_top.proofs.Running.{answer_told, answer_wants, at_bound, at_program, at_schema, at_tables, at_values, bound_stops, program_stops, schema_stops, tables_stop, values_stop, values_want}
+use Rattle.away_top.proofs.Running.{at_bound, at_program, at_schema, at_tables, at_values, bound_stops, program_stops, reply_told, reply_wants, schema_stops, tables_stop, values_stop, values_want}
 use Rattle.away_top.proofs.over_tables.run.run_over_tables.Goals as goal
 
 pub returns-in_err-bound : goal.returns-in_err-bound
@@ -53,27 +53,27 @@ returns-in_err-rows g c =
     rw (p.1, p.2) (tables_stop g.F.Files c.args.files.now c.args.what c.args.bound.now c.args.schema.now c.args.file.now c.args.dir.now (map string_bytes c.args.args.now) c.read.new.files c.tables_of.new.files c.in_ok-bound.bound c.in_ok-tables.tables.schema (as_program c.in_ok-program.program) c.in_ok-values.values c.in_err-rows.field-0.0 at_v
     (subst (λ ts. Follows g.F.Files c.read.new.files (tables_course c.args.dir.now ts) c.tables_of.new.files (halt_end c.in_err-rows.field-0.0)) c.as_slice.ensures c.in_err-rows.ensures))
 
-pub returns-in_err-answer : goal.returns-in_err-answer
-returns-in_err-answer g c =
-    let p = err_from_is_err_and c.from_residual-in_err-answer.result c.from_residual-in_err-answer.ensures.1 in
+pub returns-in_err-reply : goal.returns-in_err-reply
+returns-in_err-reply g c =
+    let p = err_from_is_err_and c.from_residual-in_err-reply.result c.from_residual-in_err-reply.ensures.1 in
     let at_n = at_bound g.F.Files c.args.files.now c.args.what c.args.bound.now c.args.schema.now c.args.file.now c.args.dir.now (map string_bytes c.args.args.now) c.in_ok-bound.bound (sym c.bound_of.ensures ∙ c.in_ok-bound.ensures) in
     let at_s = at_schema g.F.Files c.args.files.now c.args.what c.args.bound.now c.args.schema.now c.args.file.now c.args.dir.now (map string_bytes c.args.args.now) c.schema_of.new.files c.in_ok-bound.bound c.in_ok-tables.tables.schema at_n c.in_ok-tables.ensures in
     let at_p = at_program g.F.Files c.args.files.now c.args.what c.args.bound.now c.args.schema.now c.args.file.now c.args.dir.now (map string_bytes c.args.args.now) c.schema_of.new.files c.read.new.files c.in_ok-bound.bound c.in_ok-tables.tables.schema (as_program c.in_ok-program.program) at_s c.in_ok-program.ensures in
     let at_v = at_values g.F.Files c.args.files.now c.args.what c.args.bound.now c.args.schema.now c.args.file.now c.args.dir.now (map string_bytes c.args.args.now) c.read.new.files c.in_ok-bound.bound c.in_ok-tables.tables.schema (as_program c.in_ok-program.program) c.in_ok-values.values (sym c.in_ok-arguments.ensures ∙ c.in_ok-values.ensures) at_p in
     let read = subst (λ ts. Follows g.F.Files c.read.new.files (tables_course c.args.dir.now ts) c.tables_of.new.files (goes_on (rows_of_tables c.in_ok-rows.rows.list))) c.as_slice.ensures c.in_ok-rows.ensures in
     let at_t = at_tables g.F.Files c.args.files.now c.args.what c.args.bound.now c.args.schema.now c.args.file.now c.args.dir.now (map string_bytes c.args.args.now) c.read.new.files c.tables_of.new.files c.in_ok-bound.bound c.in_ok-tables.tables.schema (as_program c.in_ok-program.program) c.in_ok-values.values (rows_of_tables c.in_ok-rows.rows.list) at_v read in
-    rw (p.1, p.2) (answer_wants g.F.Files c.args.files.now c.args.what c.args.bound.now c.args.schema.now c.args.file.now c.args.dir.now (map string_bytes c.args.args.now) c.tables_of.new.files c.in_ok-bound.bound (as_program c.in_ok-program.program) c.in_ok-values.values (rows_of_tables c.in_ok-rows.rows.list) at_t)
+    rw (p.1, p.2) (reply_wants g.F.Files c.args.files.now c.args.what c.args.bound.now c.args.schema.now c.args.file.now c.args.dir.now (map string_bytes c.args.args.now) c.tables_of.new.files c.in_ok-bound.bound (as_program c.in_ok-program.program) c.in_ok-values.values (rows_of_tables c.in_ok-rows.rows.list) at_t)
 
-pub returns-in_err-answer_ending : goal.returns-in_err-answer_ending
-returns-in_err-answer_ending g c =
-    let p = err_from_is_err_and c.from_residual-in_err-answer_ending.result c.from_residual-in_err-answer_ending.ensures.1 in
+pub returns-in_err-reply_ending : goal.returns-in_err-reply_ending
+returns-in_err-reply_ending g c =
+    let p = err_from_is_err_and c.from_residual-in_err-reply_ending.result c.from_residual-in_err-reply_ending.ensures.1 in
     let at_n = at_bound g.F.Files c.args.files.now c.args.what c.args.bound.now c.args.schema.now c.args.file.now c.args.dir.now (map string_bytes c.args.args.now) c.in_ok-bound.bound (sym c.bound_of.ensures ∙ c.in_ok-bound.ensures) in
     let at_s = at_schema g.F.Files c.args.files.now c.args.what c.args.bound.now c.args.schema.now c.args.file.now c.args.dir.now (map string_bytes c.args.args.now) c.schema_of.new.files c.in_ok-bound.bound c.in_ok-tables.tables.schema at_n c.in_ok-tables.ensures in
     let at_p = at_program g.F.Files c.args.files.now c.args.what c.args.bound.now c.args.schema.now c.args.file.now c.args.dir.now (map string_bytes c.args.args.now) c.schema_of.new.files c.read.new.files c.in_ok-bound.bound c.in_ok-tables.tables.schema (as_program c.in_ok-program.program) at_s c.in_ok-program.ensures in
     let at_v = at_values g.F.Files c.args.files.now c.args.what c.args.bound.now c.args.schema.now c.args.file.now c.args.dir.now (map string_bytes c.args.args.now) c.read.new.files c.in_ok-bound.bound c.in_ok-tables.tables.schema (as_program c.in_ok-program.program) c.in_ok-values.values (sym c.in_ok-arguments.ensures ∙ c.in_ok-values.ensures) at_p in
     let read = subst (λ ts. Follows g.F.Files c.read.new.files (tables_course c.args.dir.now ts) c.tables_of.new.files (goes_on (rows_of_tables c.in_ok-rows.rows.list))) c.as_slice.ensures c.in_ok-rows.ensures in
     let at_t = at_tables g.F.Files c.args.files.now c.args.what c.args.bound.now c.args.schema.now c.args.file.now c.args.dir.now (map string_bytes c.args.args.now) c.read.new.files c.tables_of.new.files c.in_ok-bound.bound c.in_ok-tables.tables.schema (as_program c.in_ok-program.program) c.in_ok-values.values (rows_of_tables c.in_ok-rows.rows.list) at_v read in
-    rw (p.1, p.2) (answer_wants g.F.Files c.args.files.now c.args.what c.args.bound.now c.args.schema.now c.args.file.now c.args.dir.now (map string_bytes c.args.args.now) c.tables_of.new.files c.in_ok-bound.bound (as_program c.in_ok-program.program) c.in_ok-values.values (rows_of_tables c.in_ok-rows.rows.list) at_t)
+    rw (p.1, p.2) (reply_wants g.F.Files c.args.files.now c.args.what c.args.bound.now c.args.schema.now c.args.file.now c.args.dir.now (map string_bytes c.args.args.now) c.tables_of.new.files c.in_ok-bound.bound (as_program c.in_ok-program.program) c.in_ok-values.values (rows_of_tables c.in_ok-rows.rows.list) at_t)
 
 pub returns : goal.returns
 returns g c =
@@ -83,4 +83,4 @@ returns g c =
     let at_v = at_values g.F.Files c.args.files.now c.args.what c.args.bound.now c.args.schema.now c.args.file.now c.args.dir.now (map string_bytes c.args.args.now) c.read.new.files c.in_ok-bound.bound c.in_ok-tables.tables.schema (as_program c.in_ok-program.program) c.in_ok-values.values (sym c.in_ok-arguments.ensures ∙ c.in_ok-values.ensures) at_p in
     let read = subst (λ ts. Follows g.F.Files c.read.new.files (tables_course c.args.dir.now ts) c.tables_of.new.files (goes_on (rows_of_tables c.in_ok-rows.rows.list))) c.as_slice.ensures c.in_ok-rows.ensures in
     let at_t = at_tables g.F.Files c.args.files.now c.args.what c.args.bound.now c.args.schema.now c.args.file.now c.args.dir.now (map string_bytes c.args.args.now) c.read.new.files c.tables_of.new.files c.in_ok-bound.bound c.in_ok-tables.tables.schema (as_program c.in_ok-program.program) c.in_ok-values.values (rows_of_tables c.in_ok-rows.rows.list) at_v read in
-    answer_told g.F.Files c.args.files.now c.args.what c.args.bound.now c.args.schema.now c.args.file.now c.args.dir.now (map string_bytes c.args.args.now) c.tables_of.new.files c.in_ok-bound.bound (as_program c.in_ok-program.program) c.in_ok-values.values (rows_of_tables c.in_ok-rows.rows.list) c.in_ok-answer.answer c.in_ok-answer_ending.field-0 at_t c.in_ok-answer.ensures c.in_ok-answer_ending.ensures
+    reply_told g.F.Files c.args.files.now c.args.what c.args.bound.now c.args.schema.now c.args.file.now c.args.dir.now (map string_bytes c.args.args.now) c.tables_of.new.files c.in_ok-bound.bound (as_program c.in_ok-program.program) c.in_ok-values.values (rows_of_tables c.in_ok-rows.rows.list) c.in_ok-reply.reply c.in_ok-reply_ending.field-0 at_t c.in_ok-reply.ensures c.in_ok-reply_ending.ensures
