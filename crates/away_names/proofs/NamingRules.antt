@@ -1,5 +1,5 @@
 -- What names stand for at a node, by its parts.
-use Rattle.std.proofs.Common.{◌≡◌, refl, ap, sym, ◌∙◌, ℕ, ℤ, Bool, true, false, if◌then◌else◌, List, [], ◌∷◌, map, fold, Option, Some, None, option_map}
+use Rattle.std.proofs.Common.{◌≡◌, refl, ap, ◌∙◌, ℕ, ℤ, Bool, List, [], ◌∷◌, map, fold, Option, Some, None, option_map}
 use Rattle.std.specs.Prelude.{is_some}
 use Rattle.away_values.specs.declared.types.Ty.{Ty}
 use Rattle.away_trees.specs.declared.queries.Col.{Col}
@@ -16,11 +16,9 @@ use Rattle.away_trees.specs.declared.queries.Key.{Key}
 use Rattle.away_trees.specs.declared.queries.Select.{Select}
 use Rattle.away_trees.specs.declared.queries.Query.{Query}
 use Rattle.away_trees.specs.declared.queries.Expr.TheViews.{out-Item, out-FromItem, out-Key, out-Select, out-Query, roll-Key}
-use Rattle.away_trees.specs.Algebra.{expr_of, item_of, key_of, from_of, select_of, query_of, recursive_of}
+use Rattle.away_trees.specs.Algebra.{expr_of, item_of, key_of, from_of, select_of, recursive_of}
 use Rattle.away_trees.proofs.Equations as e
 use Rattle.away_names.specs.declared.rule.Rule.TheVariants as rule
-use Rattle.away_names.specs.declared.note.Noted.{Noted}
-use Rattle.away_names.specs.declared.note.Shown.{Shown}
 use Rattle.away_names.specs.Notes.{pure, noted, breaks, joined, mapped, also, paired, each, held}
 use Rattle.away_names.specs.Lookups.{Name, Level, Scope, inside, has_double}
 use Rattle.away_names.specs.Naming as n

@@ -1,5 +1,5 @@
 -- Names in lists of trees, for the contracts of loops.
-use Rattle.std.specs.Prelude.{ℕ, Bool, List, map, fold, Option}
+use Rattle.std.specs.Prelude.{List, map, fold, Option}
 use Rattle.away_values.specs.declared.operators.ChainOp.{ChainOp}
 use Rattle.away_trees.specs.declared.queries.Expr.{Expr}
 use Rattle.away_trees.specs.declared.queries.FromItem.{FromItem}

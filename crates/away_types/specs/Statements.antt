@@ -29,7 +29,7 @@ use Rattle.away_names.specs.Notes.{clean, joined, breaks, held}
 use Rattle.away_names.specs.Lookups.{Name, Scope, variable_named}
 use Rattle.away_names.specs.Naming.{written, maybe_written}
 use Rattle.away_names.specs.Trees.{named_expr}
-use Rattle.away_types.specs.Findings.{own, own_with, nothing, followed, branched}
+use Rattle.away_types.specs.Findings.{own, own_with, nothing, followed, branched as branch_reports}
 use Rattle.away_types.specs.StatementRules.{declares_twice, may_exit, may_continue, closes, lacks_default, may_raise}
 
 -- what names see at a statement, and the blocks and loops around it, the innermost last
@@ -143,7 +143,7 @@ abbrev pub branching : (List Arm → Option (List Stmt) → Stmt) → List (By A
 branching form arms other spot slots =
     let xs = each_resolved arms spot slots in
     let y = maybe_resolved (other_by other) spot xs.slots in
-    record { it = form xs.it y.it; note = branched xs.note y.note; slots = y.slots }
+    record { it = form xs.it y.it; note = branch_reports xs.note y.note; slots = y.slots }
 
 -- a block, by its declarations and its statements
 abbrev pub block_with : Spot → Option Name → List Decl → Option Name → List Decl → Note → Resolved (List Stmt) → Resolved Stmt

@@ -1,5 +1,5 @@
 -- What the text of a function's query tells.
-use Rattle.std.proofs.Common.{◌≡◌, ◌∙◌, ap, sym, subst, ◌<◌, ◌^◌, List, length, string_bytes}
+use Rattle.std.proofs.Common.{◌∙◌, ap, sym, subst, ◌<◌, ◌^◌, List, length, string_bytes}
 use Rattle.away_grammar.specs.Printing.{query_text}
 use Rattle.away_grammar.specs.Texts.{ReadsQuery}
 use Rattle.away_trees.specs.declared.schemas.Schema.{Schema}

@@ -1,5 +1,5 @@
 -- In a function that breaks no rule of types, no aggregate stands in an expression outside a select's list.
-use Rattle.std.proofs.Common.{◌≡◌, Bool, true, false, not, ◌||◌, List, [], ◌∷◌, ◌++◌, fold, Option, Some, None, ◌∙◌}
+use Rattle.std.proofs.Common.{◌≡◌, ℕ, Bool, true, false, not, ◌||◌, List, [], ◌∷◌, ◌++◌, fold, Option, Some, None, ◌∙◌}
 use Rattle.away_values.specs.declared.types.Ty.{Ty}
 use Rattle.away_values.specs.declared.types.Ty.TheVariants.{Bigint, Boolean}
 use Rattle.away_trees.specs.declared.queries.Expr.{Expr}

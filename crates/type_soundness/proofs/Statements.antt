@@ -28,7 +28,7 @@ use Rattle.away_types.specs.StatementTypes as checks
 use Rattle.away_types.specs.StatementTypes.{Asked, asked, maybe_asked, asked_of_slot, head_asked, asked_stmt}
 use Rattle.type_soundness.specs.Arguments.{Params, Supplied, params_in}
 use Rattle.type_soundness.specs.Sorts.{IsOf, Every}
-use Rattle.away_types.proofs.ClearReports.{Clear, clear_own, clear_parts, clear_within, clear_branches}
+use Rattle.away_types.proofs.ClearReports.{Clear, clear_own, clear_parts, clear_within, clear_branches, clear_bodies}
 use Rattle.type_soundness.proofs.CleanNotes.{Clean, clean_parts, not_broken, test_fails}
 use Rattle.type_soundness.proofs.KindRules.{fits_typed}
 use Rattle.type_soundness.proofs.Lists.{every_append}
@@ -150,12 +150,9 @@ module _ (s : Schema) (slots : List Slot) (result : Ty) where
     else_typed b.None' c = tt
     else_typed (b.Some' n body) c = (stmts_typed body nothing (clear_within 1 clean (checks.all_by (stmts_of checks.asking body) a) c).1).1
 
-of_function : (s : Schema) (f : Function) → Clean (function_note s f) → Every (GivesItsType s (slots_of s f) f.result) (stmt_of here.asking (body_of s f).it (slot_types (slots_of s f)) f.result)
+of_function : (s : Schema) (f : Function) → Clear (function_note s f) → Every (GivesItsType s (slots_of s f) f.result) (stmt_of here.asking (body_of s f).it (slot_types (slots_of s f)) f.result)
 unfolding asked_stmt
-of_function s f c =
-    let whole = clean_parts (head_note f) (joined (body_of s f).note (types_note s f)) c in
-    let body = clean_parts (body_of s f).note (types_note s f) whole.1 in
-    stmt_typed s (slots_of s f) f.result (body_of s f).it body.1
+of_function s f c = stmt_typed s (slots_of s f) f.result (body_of s f).it (clear_bodies _ (head_note f) (body_of s f).note (types_note s f) c).1
 
 pub typed : (s : Schema) (written checked : Function) (slots : List Slot) → IsChecked s written checked slots → Every (GivesItsType s slots checked.result) (here.asked_of checked slots)
 typed s written checked slots h =
