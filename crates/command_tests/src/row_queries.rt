@@ -92,7 +92,7 @@ static ROWS: [(&str, &str, &[&str], u8, &str); 24] = [
     ),
     ("SELECT", "0", &[], 1, "refused q.sql X3\n"),
     ("SELECT t.w FROM t", "0", &[], 1, "refused q.sql X7\n"),
-    ("SELECT u.k FROM u", "0", &[], 1, "refused q.sql X9\n"),
+    ("SELECT 1 FROM u", "0", &[], 1, "refused q.sql X9\n"),
     ("SELECT 1 + TRUE", "0", &[], 1, "refused q.sql X13\n"),
     (
         "SELECT 1 WHERE max(1) > 0",
