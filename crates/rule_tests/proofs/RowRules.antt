@@ -1,7 +1,6 @@
 -- The rule on answers has the greatest number, so it can be joined last.
-use Rattle.std.proofs.Common.{◌≡◌, refl, sym, ap, ◌∙◌, ℕ, List, Bool, true, false, if◌then◌else◌}
+use Rattle.std.proofs.Common.{◌≡◌, refl, sym, ap, ◌∙◌, Bool, true, false, if◌then◌else◌}
 use Rattle.std.specs.Prelude.{Option, Some, None, nat_le}
-use Rattle.away_values.specs.declared.types.Ty.{Ty}
 use Rattle.away_names.specs.declared.rule.Rule.{Rule}
 use Rattle.away_names.specs.declared.rule.Rule.TheVariants.{Duplicates, Names, Ambiguity, Tables, Labels, Constants, Defaults, Types, Reserved, Aggregates, Raises, Recursion, Answer}
 use Rattle.away_names.specs.Notes.{joined, breaks}

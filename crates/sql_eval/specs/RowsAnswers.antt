@@ -1,5 +1,5 @@
 -- What a run of a query answers that asks for all of its rows.
-use Rattle.std.specs.Prelude.{Option, Some, None, Ok, Err}
+use Rattle.std.specs.Prelude.{Some, None, Ok, Err}
 use Rattle.sql_meaning.specs.Context.{Rows}
 use Rattle.sql_meaning.specs.Working.{Bounded}
 use Rattle.sql_eval.specs.declared.rows_answer.RowsAnswer.{RowsAnswer}
