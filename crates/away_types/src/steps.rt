@@ -1,16 +1,19 @@
 //! Statements, by their parts whose names are resolved.
 
-ghost use Rattle.std.specs.Prelude.{◌≡◌, IfOk};
+ghost use Rattle.std.specs.Prelude.{◌≡◌, IfOk, length};
 ghost use Rattle.std.specs.Option.{option_copied};
 ghost use Rattle.away_trees.specs.declared.statements.Stmt.TheVariants as stmt;
+ghost use Rattle.away_names.specs.declared.rule.Rule.TheVariants as rule;
+ghost use Rattle.away_names.specs.Notes as notes;
 ghost use Rattle.away_names.specs.Places.{scope};
+ghost use Rattle.away_types.specs.Findings as findings;
 ghost use Rattle.away_types.specs.ResolvedBodies.{spot as spot_of};
 ghost use Rattle.away_types.specs.StatementRules as rules;
 ghost use Rattle.away_types.specs.Statements as spec;
 
 use crate::around::Spot;
 use crate::declarations::declares_twice;
-use crate::finding::{followed, own, own_with};
+use crate::finding::{Report, followed, own, own_with};
 use crate::labels::{labelled, may_continue, may_exit};
 use crate::raising::may_raise;
 use crate::resolved::{Headed, Resolved};
@@ -51,6 +54,58 @@ fn assigned(
     }
 }
 
+/// What was found in a block: by itself, at its declarations, and in its statements.
+fn block_report(
+    spot: &Spot<'_>,
+    label: &Option<Name>,
+    decls: &[Decl],
+    closing: &Option<Name>,
+    found: Note,
+    body: Report,
+) -> Result<Report, NoMemory>
+    ensures { IfOk result (λ r. r ≡ findings.followed
+        (findings.own_with (length decls.now)
+        (notes.joined (notes.joined (spec.labelled (scope spot.now.scope) label.now closing.now) (notes.breaks rule.Duplicates (rules.declares_twice decls.now)))
+        found))
+        body) }
+{
+    let own = joined(
+        joined(
+            labelled(&spot.scope, label, closing),
+            breaks(Rule::Duplicates, declares_twice(decls)),
+        ),
+        found,
+    );
+    followed(own_with(decls.len(), own)?, body)
+}
+
+fn block_by(
+    alloc: Global,
+    label: &Option<Name>,
+    closing: &Option<Name>,
+    head: Items<Decl>,
+    report: Report,
+    body: Resolved<Items<Stmt>>,
+) -> Result<Resolved<Stmt>, NoMemory>
+    ensures { IfOk result (λ x. x ≡ record { it = stmt.Block label.now head body.it closing.now; note = report; slots = body.slots }) }
+{
+    let Resolved {
+        it: statements,
+        note: _,
+        slots,
+    } = body;
+    Ok(Resolved {
+        it: Stmt::Block {
+            label: copy_alias(alloc, label)?,
+            decls: head,
+            body: statements,
+            closing: copy_alias(alloc, closing)?,
+        },
+        note: report,
+        slots,
+    })
+}
+
 pub fn block_of(
     alloc: Global,
     spot: &Spot<'_>,
@@ -63,27 +118,31 @@ pub fn block_of(
 ) -> Result<Resolved<Stmt>, NoMemory>
     ensures { IfOk result (λ x. x ≡ spec.block_with (spot_of spot.now) label.now decls.now closing.now head note body) }
 {
-    let found = joined(
-        joined(
-            labelled(&spot.scope, label, closing),
-            breaks(Rule::Duplicates, declares_twice(decls)),
-        ),
-        note,
-    );
-    let note = own_with(decls.len(), found)?;
-    let Resolved {
-        it: statements,
-        note: more,
-        slots,
-    } = body;
+    let report = block_report(spot, label, decls, closing, note, body.note)?;
+    block_by(alloc, label, closing, head, report, body)
+}
+
+fn loop_by(
+    alloc: Global,
+    label: &Option<Name>,
+    closing: &Option<Name>,
+    head: Boxed<LoopKind>,
+    report: Report,
+    body: Resolved<Items<Stmt>>,
+) -> Result<Resolved<Stmt>, NoMemory>
+    ensures { IfOk result (λ x. x ≡ record { it = stmt.Loop label.now head body.it closing.now; note = report; slots = body.slots }) }
+{
+    let label = copy_alias(alloc, label)?;
+    let closing = copy_alias(alloc, closing)?;
+    let Resolved { it, note: _, slots } = body;
     Ok(Resolved {
-        it: Stmt::Block {
-            label: copy_alias(alloc, label)?,
-            decls: head,
-            body: statements,
-            closing: copy_alias(alloc, closing)?,
+        it: Stmt::Loop {
+            label,
+            kind: head.into_inner(),
+            body: it,
+            closing,
         },
-        note: followed(note, more)?,
+        note: report,
         slots,
     })
 }
@@ -99,24 +158,9 @@ pub fn loop_of(
 ) -> Result<Resolved<Stmt>, NoMemory>
     ensures { IfOk result (λ x. x ≡ spec.loop_with (spot_of spot.now) label.now closing.now head found body) }
 {
-    let note = own(1, joined(labelled(&spot.scope, label, closing), found));
-    let label = copy_alias(alloc, label)?;
-    let closing = copy_alias(alloc, closing)?;
-    let Resolved {
-        it,
-        note: more,
-        slots,
-    } = body;
-    Ok(Resolved {
-        it: Stmt::Loop {
-            label,
-            kind: head.into_inner(),
-            body: it,
-            closing,
-        },
-        note: followed(note, more)?,
-        slots,
-    })
+    let own = own(1, joined(labelled(&spot.scope, label, closing), found));
+    let report = followed(own, body.note)?;
+    loop_by(alloc, label, closing, head, report, body)
 }
 
 pub fn assign_of(
