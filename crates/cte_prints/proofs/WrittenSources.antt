@@ -142,7 +142,7 @@ module _ (P : Expr → Type 0) (schema : Schema) where
   branched_resolved : (form : List Arm → Option (List Stmt) → Stmt)
       → ((arms : List Arm) (o : Option (List Stmt)) → of_stmt (form arms o) ≡ in_turn (map of_arm arms) ++ of_else (option_map (λ body. map of_stmt body) o))
       → (arms : List (By Arm)) (o : Option (List (By Stmt))) → Every (ResolvesBy of_arm) arms →
-      ((gs : List (By Stmt)) → o ≡ Some gs → Every (ResolvesBy of_stmt) gs) → ResolvesBy of_stmt (n.branched form arms o)
+      ((gs : List (By Stmt)) → o ≡ Some gs → Every (ResolvesBy of_stmt) gs) → ResolvesBy of_stmt (n.branching form arms o)
   branched_resolved form is arms o h k spot slots p c =
       let xs = n.each_resolved arms spot slots in
       let y = n.maybe_resolved (n.other_by o) spot xs.slots in

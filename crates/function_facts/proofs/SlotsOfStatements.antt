@@ -69,7 +69,7 @@ other_takes None h spot slots p c = takes_none [] [] slots tt tt
 other_takes (Some gs) h spot slots p c = each_takes found gs (h gs refl) spot slots p (clear_within 1 clean (n.each_resolved gs spot slots).note c).1
 
 branched_takes : (form : List Arm → Option (List Stmt) → Stmt) → ((arms : List Arm) (o : Option (List Stmt)) → found (form arms o) ≡ behind (all (map found_arm arms)) (found_else o)) →
-    (arms : List (By Arm)) (o : Option (List (By Stmt))) → Every (TakesBy found_arm) arms → ((gs : List (By Stmt)) → o ≡ Some gs → Every (TakesBy found) gs) → TakesBy found (n.branched form arms o)
+    (arms : List (By Arm)) (o : Option (List (By Stmt))) → Every (TakesBy found_arm) arms → ((gs : List (By Stmt)) → o ≡ Some gs → Every (TakesBy found) gs) → TakesBy found (n.branching form arms o)
 branched_takes form is arms o h k spot slots p c =
     let xs = n.each_resolved arms spot slots in
     let y = n.maybe_resolved (n.other_by o) spot xs.slots in

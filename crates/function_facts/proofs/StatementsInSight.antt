@@ -94,7 +94,7 @@ other_good None h spot slots c = good_none (length slots.shown) (seen_at spot) s
 other_good (Some fs) h spot slots c = each_good of_stmt fs (h fs refl) spot slots (clear_within 1 clean (n.each_resolved fs spot slots).note c).1
 
 branched_good : (form : List Arm → Option (List Stmt) → Stmt) → ((arms : List Arm) (o : Option (List Stmt)) → of_stmt (form arms o) ≡ sight.and_walk (sight.all_walks (map of_arm arms)) (sight.maybe_walk (option_map (λ body. map of_stmt body) o))) →
-    (arms : List (By Arm)) (o : Option (List (By Stmt))) → Every (GoodBy of_arm) arms → ((fs : List (By Stmt)) → o ≡ Some fs → Every (GoodBy of_stmt) fs) → GoodBy of_stmt (n.branched form arms o)
+    (arms : List (By Arm)) (o : Option (List (By Stmt))) → Every (GoodBy of_arm) arms → ((fs : List (By Stmt)) → o ≡ Some fs → Every (GoodBy of_stmt) fs) → GoodBy of_stmt (n.branching form arms o)
 branched_good form is arms o h k spot slots c =
     let xs = n.each_resolved arms spot slots in
     let y = n.maybe_resolved (n.other_by o) spot xs.slots in

@@ -134,7 +134,7 @@ module _ (tables : ℕ) where
   branched_fine : (form : List Arm → Option (List Stmt) → Stmt)
       → ((arms : List Arm) (o : Option (List Stmt)) → of_stmt (form arms o) ≡ in_turn (map of_arm arms) ++ else_sources o)
       → (arms : List (By Arm)) (o : Option (List (By Stmt))) → Every (FineBy of_arm) arms
-      → ((gs : List (By Stmt)) → o ≡ Some gs → Every (FineBy of_stmt) gs) → FineBy of_stmt (n.branched form arms o)
+      → ((gs : List (By Stmt)) → o ≡ Some gs → Every (FineBy of_stmt) gs) → FineBy of_stmt (n.branching form arms o)
   branched_fine form is arms o h k spot slots p c =
       let xs = n.each_resolved arms spot slots in
       let y = n.maybe_resolved (n.other_by o) spot xs.slots in
