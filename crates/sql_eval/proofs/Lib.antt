@@ -4,3 +4,7 @@ pub mod PublicRules
 pub mod ClassRules
 pub mod LengthRules
 pub mod LeastBounds
+pub mod PlaceRules
+pub mod SameTables
+pub mod KeptTables
+pub mod KeptRules

@@ -2,3 +2,5 @@ pub mod Scopes
 pub mod Called
 pub mod Classes
 pub mod Lengths
+pub mod Places
+pub mod Kept
