@@ -1,16 +1,17 @@
 -- The rows that are kept of working tables, table by table.
-use Rattle.std.proofs.Common.{◌≡◌, refl, sym, ◌∙◌, ap, subst, ℕ, zero, suc, ◌<◌, ◌-◌, true, false, if◌then◌else◌, List, [], ◌∷◌, ◌++◌, length, map, Option, Some, None, option_map, Result, Ok, Err, append_assoc, arith, rules}
+use Rattle.std.proofs.Common.{◌≡◌, refl, sym, ◌∙◌, ap, subst, ℕ, zero, suc, ◌<◌, ◌-◌, true, false, List, [], ◌∷◌, ◌++◌, length, Option, Some, None, option_map, Result, Ok, Err, append_assoc}
 use Rattle.std.proofs.lemmas.List.{append-nil, length-map}
 use Rattle.away_values.specs.declared.values.Class.{Class}
 use Rattle.away_values.specs.declared.values.Table.{Table}
 use Rattle.away_values.specs.declared.values.Value.{Value}
+use Rattle.away_values.specs.declared.errors.OpError.{OpError}
 use Rattle.away_values.specs.declared.errors.OpError.TheVariants as error
 use Rattle.away_trees.specs.declared.queries.Expr.{Expr}
 use Rattle.away_trees.specs.declared.queries.Query.{Query}
 use Rattle.away_trees.specs.declared.queries.Recursive.{Recursive}
 use Rattle.away_trees.specs.declared.queries.Select.{Select}
 use Rattle.away_trees.specs.declared.queries.Expr.TheViews.{out-Query, out-Recursive, out-Select}
-use Rattle.away_values.specs.Results.{Or, and_then, mapped, each}
+use Rattle.away_values.specs.Results.{Or, and_then, mapped}
 use Rattle.away_values.specs.Operators.{is_true}
 use Rattle.lateral_rows.specs.RowParts.{kept_by}
 use Rattle.lateral_rows.proofs.RowLaws.{keep_is}
@@ -26,7 +27,7 @@ use Rattle.sql_meaning.proofs.GivesRules.{gives_rules}
 use Rattle.sql_meaning.proofs.Lists.{each_map}
 use Rattle.sql_meaning.proofs.SelectRules.{value_at_is}
 use Rattle.sql_meaning.proofs.WalkRules.{next_item, none_left, after_none, each_end, each_more}
-use Rattle.sql_eval.specs.Kept.{IsFilter, held_or, is_suited, kept_found, kept_further, kept_table, row_test}
+use Rattle.sql_eval.specs.Kept.{IsFilter, is_suited, kept_found, kept_further, kept_table, over_kept, row_test}
 use Rattle.sql_eval.proofs.KeptTables.{query_over}
 
 -- ---- where it is enough to hold them
@@ -44,9 +45,9 @@ found_over T args q e (Some table) h =
     by (Err c) = refl
     by (Ok kept) = refl
 
-pub over_kept : (q : Query) (r : Recursive) (tables : List Table) (args : List Value) (k : ℕ) (e : Expr) → IsFilter q (length tables) e → over_recursive q r (rows_of_tables tables) args k ≡ and_then (kept_table e r (rows_of_tables tables) args k) (over_found q (rows_of_tables tables) args)
+kept_is_all : (q : Query) (r : Recursive) (tables : List Table) (args : List Value) (k : ℕ) (e : Expr) → IsFilter q (length tables) e → over_recursive q r (rows_of_tables tables) args k ≡ and_then (kept_table e r (rows_of_tables tables) args k) (over_found q (rows_of_tables tables) args)
 unfolding kept_table
-over_kept q r tables args k e h =
+kept_is_all q r tables args k e h =
     let T = rows_of_tables tables in
     let here = subst (λ n. IsFilter q n e) (sym (length-map tables (λ (t : Table). t.rows))) h in
     bound.over_is q r T args k ∙ by T (λ o. found_over T args q e o here) (table_of r T args k)
@@ -54,6 +55,14 @@ over_kept q r tables args k e h =
     by : (T : List Rows) → ((o : Option Rows) → over_found q T args o ≡ and_then (kept_found e T args o) (over_found q T args)) → (m : Or (Option Rows)) → and_then m (over_found q T args) ≡ and_then (and_then m (kept_found e T args)) (over_found q T args)
     by T go (Err c) = refl
     by T go (Ok o) = go o
+
+pub over_kept_is : (q : Query) (e : Expr) (r : Recursive) (T : List Rows) (args : List Value) (k : ℕ) → over_kept q e r T args k ≡ and_then (kept_table e r T args k) (over_found q T args)
+unfolding over_kept
+over_kept_is q e r T args k = refl
+
+pub kept_gives : (q : Query) (r : Recursive) (tables : List Table) (args : List Value) (k : ℕ) (e : Expr) (x : Result (Option Rows) OpError) → IsFilter q (length tables) e → Gives (over_kept q e r (rows_of_tables tables) args k) x → Gives (over_recursive q r (rows_of_tables tables) args k) x
+unfolding over_kept
+kept_gives q r tables args k e x h g = subst (λ m. Gives m x) (sym (kept_is_all q r tables args k e h)) g
 
 -- ---- what the condition says
 
@@ -193,4 +202,6 @@ pub ruleset further_rules = (further_held, further_flags, further_class)
 
 pub ruleset table_rules = (gives_rules, keeping_starts, keeping_empty, keeping_ends, keeping_more)
 
-pub ruleset over_rules = (over_kept)
+pub ruleset over_rules = (gives_rules, over_kept_is)
+
+pub ruleset either_rules = (kept_gives)

@@ -1,9 +1,9 @@
 -- A select whose FROM is a table alone, of which nothing else in it is read, has the rows that it has over those rows of the table that its condition
 -- keeps.
-use Rattle.std.proofs.Common.{◌≡◌, refl, sym, ◌∙◌, ap, subst, ℕ, Bool, true, false, ◌&&◌, ◌==◌, if◌then◌else◌, nat_lt, List, [], ◌∷◌, ◌++◌, length, map, slice_index_or, Option, Some, None, Ok, Err, arith, rules}
+use Rattle.std.proofs.Common.{◌≡◌, refl, sym, ◌∙◌, ap, subst, ℕ, Bool, true, false, nat_lt, List, [], ◌∷◌, ◌++◌, length, map, slice_index_or, Option, Some, None, Ok, Err}
 use Rattle.std.proofs.Math.ListN.{get_or-append}
 use Rattle.std.proofs.lemmas.Bool.{ltb-true, eqb-true}
-use Rattle.std.proofs.lemmas.List.{get_or_at, append-nil}
+use Rattle.std.proofs.lemmas.List.{get_or_at}
 use Rattle.away_values.specs.declared.values.Value.{Value}
 use Rattle.away_trees.specs.declared.queries.Expr.{Expr}
 use Rattle.away_trees.specs.declared.queries.FromItem.{FromItem}
@@ -12,7 +12,6 @@ use Rattle.away_trees.specs.declared.queries.Key.{Key}
 use Rattle.away_trees.specs.declared.queries.Query.{Query}
 use Rattle.away_trees.specs.declared.queries.Select.{Select}
 use Rattle.away_trees.specs.declared.queries.Source.{Source}
-use Rattle.away_trees.specs.declared.queries.Source.TheVariants as source
 use Rattle.away_trees.specs.declared.queries.Expr.TheBlock as b
 use Rattle.away_trees.specs.declared.queries.Expr.TheViews.{out-FromItem, out-Item, out-Key, out-Query, out-Select}
 use Rattle.away_values.specs.Results.{Or, and_then, mapped}
@@ -21,9 +20,8 @@ use Rattle.sql_meaning.specs.Context.{Rows, Frame, Context, outermost}
 use Rattle.sql_meaning.specs.Equations.{items, keys, optional, rows_of_source}
 use Rattle.sql_meaning.specs.Expressions.{FromMeaning}
 use Rattle.sql_meaning.specs.Gives.{joined_of, query_rows}
-use Rattle.sql_meaning.specs.Meaning.{rows_of_item}
 use Rattle.sql_meaning.specs.Selected.{select_rows, item_rows, beside, beside_of, extended_of, product_of, value_at, keep_of, filtered_of, listed_of, limited_of, selected_of}
-use Rattle.sql_meaning.specs.Selects.{keep, keep_if, product}
+use Rattle.sql_meaning.specs.Selects.{keep, keep_if}
 use Rattle.sql_meaning.specs.Working.{with_table}
 use Rattle.sql_meaning.proofs.Lists.{Zipped, ZippedOption}
 use Rattle.sql_meaning.proofs.SelectRules as rule

@@ -5,7 +5,7 @@ use Rattle.away_values.specs.declared.values.Value.{Value}
 use Rattle.away_values.specs.declared.operators.ChainOp.{ChainOp}
 use Rattle.away_trees.specs.declared.queries.Expr.{Expr}
 use Rattle.away_values.specs.Results.{Or}
-use Rattle.away_trees.specs.Algebra.{expr_of, item_of, key_of}
+use Rattle.away_trees.specs.Algebra.{expr_of}
 use Rattle.sql_meaning.specs.Context.{Rows, Context}
 use Rattle.sql_meaning.specs.Expressions.{ExprMeaning, SourceMeaning, FromMeaning, SelectMeaning, KeyMeaning, QueryMeaning}
 use Rattle.sql_meaning.specs.Meaning.{meaning}

@@ -11,7 +11,7 @@ use Rattle.away_trees.specs.declared.queries.Source.{Source}
 use Rattle.away_trees.specs.declared.queries.Source.TheVariants as source
 use Rattle.away_trees.specs.declared.queries.Expr.TheViews.{out-FromItem, out-Query, out-Select}
 use Rattle.away_values.specs.Results.{Or, and_then, mapped}
-use Rattle.sql_meaning.specs.AtBound.{table_of}
+use Rattle.sql_meaning.specs.AtBound.{over_found, table_of}
 use Rattle.sql_meaning.specs.Context.{Rows, outermost}
 use Rattle.sql_meaning.specs.Selected.{keep_of, value_at}
 use Rattle.sql_meaning.specs.Selects.{place_of}
@@ -65,3 +65,7 @@ kept_found e T args (Some table) = mapped (λ rows. Some rows) (keep_of (row_tes
 
 unfoldable pub kept_table : Expr → Recursive → List Rows → List Value → ℕ → Or (Option Rows)
 kept_table e r T args k = and_then (table_of r T args k) (kept_found e T args)
+
+-- the selects over them
+unfoldable pub over_kept : Query → Expr → Recursive → List Rows → List Value → ℕ → Or (Option Rows)
+over_kept q e r T args k = and_then (kept_table e r T args k) (over_found q T args)
