@@ -5,3 +5,7 @@ pub mod RowsAnswerRules
 pub mod ClassRules
 pub mod LengthRules
 pub mod LeastBounds
+pub mod PlaceRules
+pub mod SameTables
+pub mod KeptTables
+pub mod KeptRules

@@ -3,3 +3,5 @@ pub mod Called
 pub mod Classes
 pub mod Lengths
 pub mod RowsAnswers
+pub mod Places
+pub mod Kept
