@@ -1,6 +1,6 @@
 -- Each source expression of a checked function stands for a written one: its names are resolved where the schema's tables are in sight alone, and break
 -- no rule. What holds of all written source expressions holds of that one.
-use Rattle.std.proofs.Common.{◌≡◌, refl, sym, subst, true, false, List, [], ◌∷◌, ◌++◌, map, fold, Option, Some, None, option_map}
+use Rattle.std.proofs.Common.{length, ◌≡◌, refl, sym, subst, true, false, List, [], ◌∷◌, ◌++◌, map, fold, Option, Some, None, option_map}
 use Rattle.away_trees.specs.declared.queries.Expr.{Expr}
 use Rattle.away_trees.specs.declared.schemas.Schema.{Schema}
 use Rattle.away_trees.specs.declared.statements.Arm.{Arm}
