@@ -1,6 +1,6 @@
 -- Over objects in memory `check` accepts what `certify` wrote.
 use Rattle.std.proofs.Common.{◌≡◌, ◌≤◌, ◌++◌, inl, inr, refl, ap, sym, subst, ◌∙◌, ℕ, suc, List, [], ◌∷◌, length}
-use Rattle.std.specs.Prelude.{Ok}
+use Rattle.std.specs.Prelude.{Ok, Some}
 use Rattle.away_grammar.specs.Texts.{ReadsQuery}
 use Rattle.away_trees.specs.declared.queries.Query.{Query}
 use Rattle.away_trees.specs.declared.schemas.Schema.{Schema}
@@ -16,14 +16,18 @@ use Rattle.equivalence.specs.declared.relation.Relation.{Relation}
 use Rattle.equivalence.specs.declared.relation.Relation.TheVariants.{Lowered, Named, Called, Merged, Columned, Templated}
 use Rattle.plsql_parse.proofs.OneFile.{one_function}
 use Rattle.sql_text.proofs.OneTree.{one_text}
+use Rattle.sql_text.specs.Refusals.{MayBeRead}
 use Rattle.stage_check.specs.declared.verdict.Verdict.{Verdict}
 use Rattle.stage_check.specs.declared.verdict.Verdict.TheVariants.{Accepted, Fails}
+use Rattle.text_laws.proofs.Judging.{one_schema}
 use Rattle.away_top.specs.declared.compile.Wanted.TheVariants.{Certificate}
 use Rattle.away_top.specs.declared.status.Status.{Status}
 use Rattle.away_top.specs.CheckCourse.{verdict_line, verdict_status}
-use Rattle.away_top.specs.InMemory.{AcceptedIn, HasVerdict, Judged}
+use Rattle.away_top.specs.Certificates.{IsCert}
+use Rattle.away_top.specs.InMemory.{AcceptedIn, HasVerdict, Judged, MayCheck}
+use Rattle.away_top.specs.MemoryFiles.{HeldFiles, held_at}
 use Rattle.away_top.specs.MemorySink.{RoomySink}
-use Rattle.away_top.specs.Refusals.{IsSchema}
+use Rattle.away_top.specs.Refusals.{IsQuery}
 use Rattle.away_top.specs.Translation.{IsTranslation}
 
 -- ---- a line, and what stands behind it
@@ -54,9 +58,6 @@ one_cert bytes c d (value, is, gives) (other, is_other, gives_other) =
     let here : cert_in value ≡ Ok d = subst (λ v. cert_in v ≡ Ok d) (sym same) gives_other in
     cc
 
-one_schema : (bytes : List ℕ) (s t : IsSchema bytes) → s.schema ≡ t.schema
-one_schema bytes s t = ap (λ tables. record { tables = tables }) (one_text s.reads_as.reads t.reads_as.reads)
-
 -- ---- the verdict
 
 all_of : (s t : Schema) (f g : Function) (q r : Query) (c d : Cert) → s ≡ t → f ≡ g → q ≡ r → c ≡ d
@@ -76,15 +77,43 @@ each_holds Columned h = h.columned
 each_holds Templated h = h.templated
 
 module _ (tables function line text : List ℕ) (t : IsTranslation Certificate tables function (line ++ (10 ∷ text))) (is_line : IsLine line) where
+  split : (line ≡ t.output_is.0) × (text ≡ t.text)
+  split = one_line line text t.output_is.0 t.text is_line t.output_is.2 t.output_is.3
+
+  -- the text reads as the query that was compiled
+  asked : IsQuery t.tables.schema text
+  asked = record {
+    written = t.query;
+    reads_as = record { may_be_read = subst MayBeRead (sym split.1) t.compiled.may_be_read; reads = subst (λ z. ReadsQuery z t.query) (sym split.1) t.compiled.reads };
+    unbroken = t.compiled.unbroken;
+  }
+
+  certificate : IsCert line
+  certificate = record { cert = t.forms; reads_as = subst (λ l. Reads l t.forms) (sym split.0) t.output_is.1 }
+
+  -- what was written fits
+  pub fits : (m : HeldFiles) (schema func query cert : List ℕ) → held_at m.held schema ≡ Some tables → held_at m.held func ≡ Some function → held_at m.held query ≡ Some text
+      → held_at m.held cert ≡ Some line → length tables ≤ 67108864 → length function ≤ 1048576 → length text ≤ 67108864 → length line ≤ 67108864 → m.fails ≡ []
+      → MayCheck m schema func query cert tables function text line
+  fits m schema func query cert holds_schema holds_function holds_query holds_cert short_schema short_function short_query short_cert no_failure = record {
+    holds_schema = holds_schema;
+    holds_function = holds_function;
+    holds_query = holds_query;
+    holds_cert = holds_cert;
+    fit_schema = record { short = short_schema; is = t.tables };
+    fit_function = record { short = short_function; is = t.function };
+    fit_query = record { short = short_query; is = asked };
+    fit_cert = record { short = short_cert; is = certificate };
+    no_failure = no_failure;
+  }
+
   good : (v : Verdict) → HasVerdict tables function text line v → v ≡ Accepted
   good Accepted h = refl
   good (Fails r) h =
-      let output = t.output_is in
-      let split = one_line line text output.0 t.text is_line output.1.1.0 output.1.1.1 in
-      let certs = one_cert line t.forms h.certificate.cert (subst (λ l. Reads l t.forms) (sym split.0) output.1.0) h.certificate.reads_as in
+      let certs = one_cert line t.forms h.certificate.cert (subst (λ l. Reads l t.forms) (sym split.0) t.output_is.1) h.certificate.reads_as in
       let queries = one_text t.compiled.reads (subst (λ z. ReadsQuery z h.query.written) split.1 h.query.reads_as.reads) in
       let here = all_of t.tables.schema h.schema.schema t.function.written h.called.written t.query h.query.written t.forms h.certificate.cert
-      (one_schema tables t.tables h.schema) (one_function t.function.reads_as.reads h.called.reads_as.reads) queries certs t.compiled.accepted in
+      (one_schema t.tables.reads_as.reads h.schema.reads_as.reads) (one_function t.function.reads_as.reads h.called.reads_as.reads) queries certs t.compiled.accepted in
       absurd (h.verdict.judges.1 (each_holds r here))
 
   pub accepted : (before after : RoomySink) (result : Status) → Judged before after result tables function text line → AcceptedIn before after result

@@ -11,6 +11,7 @@ use Rattle.away_top.specs.MemoryFiles.{HeldFiles, held_at}
 use Rattle.away_top.specs.MemorySink.{RoomySink}
 use Rattle.away_top.specs.Refusals.{IsFunction, IsQuery, IsSchema}
 use Rattle.away_top.proofs.EndsInMemory.{leads_on}
+use Rattle.away_top.proofs.Unrefused.{cert_unrefused, function_unrefused, query_unrefused, schema_unrefused}
 use Rattle.away_top.proofs.Words.{asks_check}
 
 module _ (m : HeldFiles) (schema func query cert tables function asked forms : List ℕ) (may : MayCheck m schema func query cert tables function asked forms) where
@@ -24,26 +25,26 @@ module _ (m : HeldFiles) (schema func query cert tables function asked forms : L
     cert_leads : (s : IsSchema tables) (f : IsFunction s.schema function) (q : IsQuery s.schema asked)
         → Outcome {A = ⊥} (held_at m.held) (with_query s.schema (callable_of s.schema f.written) (asked_of s.schema q.written) cert) status output → Ends
     cert_leads s f q o = elim (leads_on cert 67108864 _ (held_at m.held cert) forms status output may.holds_cert may.fit_cert.short o) [
-      | inl (rule, refuses, e) ↦ absurd (may.fit_cert.unrefused rule refuses)
+      | inl (rule, refuses, e) ↦ absurd (cert_unrefused may.fit_cert.is rule refuses)
       | inr (c, end) ↦ (end.0, record { schema = s; called = f; query = q; certificate = c; verdict = end.1 }, end.2)
     ]
 
     query_leads : (s : IsSchema tables) (f : IsFunction s.schema function)
         → Outcome {A = ⊥} (held_at m.held) (with_function s.schema (callable_of s.schema f.written) query cert) status output → Ends
     query_leads s f o = elim (leads_on query 67108864 _ (held_at m.held query) asked status output may.holds_query may.fit_query.short o) [
-      | inl (rule, refuses, e) ↦ absurd (may.fit_query.unrefused s rule refuses)
+      | inl (rule, refuses, e) ↦ absurd (query_unrefused may.fit_schema.is s may.fit_query.is rule refuses)
       | inr (q, rest) ↦ cert_leads s f q rest
     ]
 
     function_leads : (s : IsSchema tables) → Outcome {A = ⊥} (held_at m.held) (with_schema s.schema func query cert) status output → Ends
     function_leads s o = elim (leads_on func 1048576 _ (held_at m.held func) function status output may.holds_function may.fit_function.short o) [
-      | inl (rule, refuses, e) ↦ absurd (may.fit_function.unrefused s rule refuses)
+      | inl (rule, refuses, e) ↦ absurd (function_unrefused may.fit_schema.is s may.fit_function.is rule refuses)
       | inr (f, rest) ↦ query_leads s f rest
     ]
 
     leads : Outcome {A = ⊥} (held_at m.held) (check_course schema func query cert) status output → Ends
     leads o = elim (leads_on schema 67108864 _ (held_at m.held schema) tables status output may.holds_schema may.fit_schema.short o) [
-      | inl (rule, refuses, e) ↦ absurd (may.fit_schema.unrefused rule refuses)
+      | inl (rule, refuses, e) ↦ absurd (schema_unrefused may.fit_schema.is rule refuses)
       | inr (s, rest) ↦ function_leads s rest
     ]
 

@@ -14,6 +14,7 @@ use Rattle.away_top.specs.MemorySink.{RoomySink}
 use Rattle.away_top.specs.Refusals.{IsFunction, IsSchema}
 use Rattle.away_top.specs.Translation.{IsTranslation}
 use Rattle.away_top.proofs.EndsInMemory.{leads_on}
+use Rattle.away_top.proofs.Unrefused.{function_unrefused, schema_unrefused}
 use Rattle.away_top.proofs.Headlines.{translation}
 use Rattle.away_top.proofs.Words.{asks_compile}
 
@@ -21,11 +22,11 @@ compiled : (wanted : Wanted) (schema func : List ℕ) (s : IsSchema schema) (f :
     → Compiles wanted s.schema (callable_of s.schema f.written) text status output → (status ≡ Done) × IsTranslation wanted schema func output
 compiled wanted schema func s f text output status (is, e) = (e.0, subst (IsTranslation wanted schema func) (sym e.1) (translation wanted schema func s f text is))
 
-module _ (held : List ℕ → Option (List ℕ)) (wanted : Wanted) (schema func tables function text : List ℕ) (fits : IsFitSchema tables) (fit : IsFitFunction tables function) where
+module _ (held : List ℕ → Option (List ℕ)) (wanted : Wanted) (schema func tables function text : List ℕ) (fits : IsFitSchema tables) (fit : IsFitFunction fits.is.schema function) where
   function_done : (s : IsSchema tables) → held func ≡ Some function → (status : Status) (output : List ℕ)
       → Outcome {A = ⊥} held (and_then (function_course s.schema func) (λ f. ends (Compiles wanted s.schema f text))) status output → (status ≡ Done) × IsTranslation wanted tables function output
   function_done s told status output o = elim (leads_on func 1048576 _ (held func) function status output told fit.short o) [
-    | inl (rule, refuses, e) ↦ absurd (fit.unrefused s rule refuses)
+    | inl (rule, refuses, e) ↦ absurd (function_unrefused fits.is s fit.is rule refuses)
     | inr (f, compiles) ↦ compiled wanted tables function s f text output status compiles
   ]
 
@@ -33,7 +34,7 @@ module _ (held : List ℕ → Option (List ℕ)) (wanted : Wanted) (schema func 
   pub done : held schema ≡ Some tables → held func ≡ Some function → (status : Status) (output : List ℕ) → Outcome held (compile_course wanted schema func text) status output
       → (status ≡ Done) × IsTranslation wanted tables function output
   done told_schema told_function status output o = elim (leads_on schema 67108864 _ (held schema) tables status output told_schema fits.short o) [
-    | inl (rule, refuses, e) ↦ absurd (fits.unrefused rule refuses)
+    | inl (rule, refuses, e) ↦ absurd (schema_unrefused fits.is rule refuses)
     | inr (s, rest) ↦ function_done s told_function status output rest
   ]
 

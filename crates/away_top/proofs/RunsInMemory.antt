@@ -24,6 +24,7 @@ use Rattle.away_top.specs.RunCourse.{Tells, run_course, spelled, with_bound, wit
 use Rattle.away_top.specs.TableFiles.{holding, table_file, tables_behind}
 use Rattle.away_top.proofs.Answering.{answered}
 use Rattle.away_top.proofs.EndsInMemory.{leads_on}
+use Rattle.away_top.proofs.Unrefused.{function_unrefused, query_unrefused, row_query_unrefused, schema_unrefused, spelled_again, tables_fit}
 use Rattle.away_top.proofs.Telling.{runs_so, telling}
 use Rattle.away_top.proofs.Words.{asks_run}
 
@@ -57,15 +58,15 @@ module _ (m : HeldFiles) (bound schema file dir : List ℕ) (args : List (List �
       → Outcome {A = ⊥} (held_at m.held) (with_schema what file dir args n s.schema) status output
       → (p : IsProgram what s.schema may.program) × Outcome {A = ⊥} (held_at m.held) (with_program n s.schema dir args (program_of what s.schema may.program p)) status output
   program_leads run.Query may n s o = elim (leads_on file 67108864 _ (held_at m.held file) may.program status output may.holds_program may.fit_program.short o) [
-    | inl (rule, refuses, e) ↦ absurd (may.fit_program.unrefused s rule refuses)
+    | inl (rule, refuses, e) ↦ absurd (query_unrefused may.fit_schema.is s may.fit_program.is rule refuses)
     | inr (q, rest) ↦ (q, rest)
   ]
   program_leads run.Rows may n s o = elim (leads_on file 67108864 _ (held_at m.held file) may.program status output may.holds_program may.fit_program.short o) [
-    | inl (rule, refuses, e) ↦ absurd (may.fit_program.unrefused s rule refuses)
+    | inl (rule, refuses, e) ↦ absurd (row_query_unrefused may.fit_schema.is s may.fit_program.is rule refuses)
     | inr (q, rest) ↦ (q, rest)
   ]
   program_leads run.Function may n s o = elim (leads_on file 1048576 _ (held_at m.held file) may.program status output may.holds_program may.fit_program.short o) [
-    | inl (rule, refuses, e) ↦ absurd (may.fit_program.unrefused s rule refuses)
+    | inl (rule, refuses, e) ↦ absurd (function_unrefused may.fit_schema.is s may.fit_program.is rule refuses)
     | inr (f, rest) ↦ (f, rest)
   ]
 
@@ -74,8 +75,8 @@ module _ (m : HeldFiles) (bound schema file dir : List ℕ) (args : List (List �
     schema_leads n s o =
         let led = program_leads what may n s o in
         let program = program_of what s.schema may.program led.0 in
-        let values = some_of (arguments_of program args) (may.fit_program.spelled s led.0) in
-        tables_lead (held_at m.held) dir status output (λ tables. reply_of program tables values.0 n) s.schema.tables [] (may.fit_tables s)
+        let values = some_of (arguments_of program args) (spelled_again may.fit_schema.is s what may.program args may.fit_program.is led.0 may.fit_program.spelled) in
+        tables_lead (held_at m.held) dir status output (λ tables. reply_of program tables values.0 n) s.schema.tables [] (tables_fit may.fit_schema.is s (IsFitTable (held_at m.held) dir) may.fit_tables)
         (subst (λ o. Outcome {A = ⊥} (held_at m.held) (and_then (spelled o) (with_values n s.schema program dir)) status output) values.1 led.1)
 
     leads : Outcome {A = ⊥} (held_at m.held) (run_course what bound schema file dir args) status output → IsAnswer status
@@ -83,7 +84,7 @@ module _ (m : HeldFiles) (bound schema file dir : List ℕ) (args : List (List �
         let n = some_of (bound_of bound) may.spells_bound in
         let from_bound = subst (λ o. Outcome {A = ⊥} (held_at m.held) (and_then (spelled o) (with_bound what schema file dir args)) status output) n.1 o in
         elim (leads_on schema 67108864 _ (held_at m.held schema) may.tables status output may.holds_schema may.fit_schema.short from_bound) [
-          | inl (rule, refuses, e) ↦ absurd (may.fit_schema.unrefused rule refuses)
+          | inl (rule, refuses, e) ↦ absurd (schema_unrefused may.fit_schema.is rule refuses)
           | inr (s, rest) ↦ schema_leads n.0 s rest
         ]
 

@@ -1,6 +1,7 @@
 -- What a call answers over files and a sink in memory that are to meet no failure.
 use Rattle.std.specs.Prelude.{◌≡◌, ◌⊎◌, ℕ, ◌≤◌, List, [], ◌∷◌, ◌++◌, length, codes, Ok, Some, IsSome}
 use Rattle.std.specs.List.{AllByRecursion}
+use Rattle.away_trees.specs.declared.schemas.Schema.{Schema}
 use Rattle.away_trees.specs.declared.schemas.TableSchema.{TableSchema}
 use Rattle.away_top.specs.declared.status.Status.{Status}
 use Rattle.away_top.specs.declared.status.Status.TheVariants.{Done, NoMemory, ReadFault}
@@ -14,15 +15,15 @@ use Rattle.away_top.specs.Commands.{course}
 use Rattle.away_top.specs.CompileCourse.{word_of}
 use Rattle.stage_check.specs.declared.verdict.Verdict.{Verdict}
 use Rattle.away_top.specs.Arguments.{bound_of}
-use Rattle.away_top.specs.Certificates.{IsCert, RefusesCert}
+use Rattle.away_top.specs.Certificates.{IsCert}
 use Rattle.away_top.specs.CheckCourse.{IsVerdict, verdict_line, verdict_status}
 use Rattle.away_top.specs.Course.{Course, gives, ends, judges, reads, Outcome}
 use Rattle.away_top.specs.DemoCourse.{IsShown}
 use Rattle.away_top.specs.Files.{asked_of, callable_of}
 use Rattle.cert_json.specs.Lines.{IsLine}
 use Rattle.away_top.specs.Lines.{line, read_fault}
-use Rattle.away_top.specs.Programs.{IsProgram, RefusesProgram, arguments_of, most_bytes, program_of}
-use Rattle.away_top.specs.Refusals.{IsFunction, IsQuery, IsSchema, RefusesFunction, RefusesQuery, RefusesSchema}
+use Rattle.away_top.specs.Programs.{IsProgram, arguments_of, most_bytes, program_of}
+use Rattle.away_top.specs.Refusals.{IsFunction, IsQuery, IsSchema}
 use Rattle.away_top.specs.RunAnswers.{Held, IsAnswer, IsAnswered}
 use Rattle.away_top.specs.TableFiles.{table_file}
 use Rattle.away_top.specs.Translation.{IsTranslation}
@@ -58,15 +59,15 @@ Unread before after result name =
 
 -- ---- compile and certify
 
--- a schema's file is within its limit, and no rule refuses it
+-- a schema's file is within its limit, and reads as a schema that breaks no rule
 pub record IsFitSchema (bytes : List ℕ) : Type 0 where
   pub short : length bytes ≤ 67108864
-  pub unrefused : (rule : List ℕ) → ¬ (RefusesSchema bytes rule)
+  pub is : IsSchema bytes
 
--- a function's file is within its limit, and over the schema of these bytes no rule refuses it
-pub record IsFitFunction (tables bytes : List ℕ) : Type 0 where
+-- a function's file is within its limit, and reads as a function that breaks no rule over the tables of the schema
+pub record IsFitFunction (schema : Schema) (bytes : List ℕ) : Type 0 where
   pub short : length bytes ≤ 1048576
-  pub unrefused : (s : IsSchema tables) (rule : List ℕ) → ¬ (RefusesFunction s.schema bytes rule)
+  pub is : IsFunction schema bytes
 
 -- The words are those of the command. The two files are held and fit, and no read is to fail.
 pub record MayCompile (files : HeldFiles) (wanted : Wanted) (words : List (List ℕ)) (tables function : List ℕ) : Type 0 where
@@ -76,7 +77,7 @@ pub record MayCompile (files : HeldFiles) (wanted : Wanted) (words : List (List 
   pub holds_schema : held_at files.held schema ≡ Some tables
   pub holds_function : held_at files.held func ≡ Some function
   pub fit_schema : IsFitSchema tables
-  pub fit_function : IsFitFunction tables function
+  pub fit_function : IsFitFunction fit_schema.is.schema function
   pub no_failure : files.fails ≡ []
 
 -- done, with exactly this text written
@@ -102,11 +103,11 @@ Shown before after result word =
 
 -- ---- sql, rows and fn
 
--- a program's file is within its limit, over the schema of these bytes no rule refuses it, and the words spell its arguments
-pub record IsFitProgram (what : Runnable) (tables bytes : List ℕ) (args : List (List ℕ)) : Type 0 where
+-- a program's file is within its limit, reads as one that breaks no rule over the tables of the schema, and the words spell its arguments
+pub record IsFitProgram (what : Runnable) (schema : Schema) (bytes : List ℕ) (args : List (List ℕ)) : Type 0 where
   pub short : length bytes ≤ most_bytes what
-  pub unrefused : (s : IsSchema tables) (rule : List ℕ) → ¬ (RefusesProgram what s.schema bytes rule)
-  pub spelled : (s : IsSchema tables) (p : IsProgram what s.schema bytes) → IsSome (arguments_of (program_of what s.schema bytes p) args)
+  pub is : IsProgram what schema bytes
+  pub spelled : IsSome (arguments_of (program_of what schema bytes is) args)
 
 -- a table's file is held, is within its limit, and holds rows
 pub record IsFitTable (held : Held) (dir : List ℕ) (t : TableSchema) : Type 0 where
@@ -124,8 +125,8 @@ pub record MayRun (what : Runnable) (files : HeldFiles) (bound schema file dir :
   pub holds_schema : held_at files.held schema ≡ Some tables
   pub holds_program : held_at files.held file ≡ Some program
   pub fit_schema : IsFitSchema tables
-  pub fit_program : IsFitProgram what tables program args
-  pub fit_tables : (s : IsSchema tables) → AllByRecursion (IsFitTable (held_at files.held) dir) s.schema.tables
+  pub fit_program : IsFitProgram what fit_schema.is.schema program args
+  pub fit_tables : AllByRecursion (IsFitTable (held_at files.held) dir) fit_schema.is.schema.tables
   pub no_failure : files.fails ≡ []
 
 -- Memory was wanting, or there is what the program gives that the call tells, where the room holds it.
@@ -135,15 +136,15 @@ Answered what files before after result bound schema file dir args =
 
 -- ---- check
 
--- a query's file is within its limit, and over the schema of these bytes no rule refuses it
-pub record IsFitAsked (tables bytes : List ℕ) : Type 0 where
+-- a query's file is within its limit, and reads as a query that breaks no rule over the tables of the schema
+pub record IsFitAsked (schema : Schema) (bytes : List ℕ) : Type 0 where
   pub short : length bytes ≤ 67108864
-  pub unrefused : (s : IsSchema tables) (rule : List ℕ) → ¬ (RefusesQuery s.schema bytes rule)
+  pub is : IsQuery schema bytes
 
--- a certificate's file is within its limit, and no rule refuses it
+-- a certificate's file is within its limit, and reads as a certificate
 pub record IsFitCert (bytes : List ℕ) : Type 0 where
   pub short : length bytes ≤ 67108864
-  pub unrefused : (rule : List ℕ) → ¬ (RefusesCert bytes rule)
+  pub is : IsCert bytes
 
 -- The four files behind `check` are held and fit, and no read is to fail.
 pub record MayCheck (files : HeldFiles) (schema func query cert tables function asked forms : List ℕ) : Type 0 where
@@ -152,8 +153,8 @@ pub record MayCheck (files : HeldFiles) (schema func query cert tables function 
   pub holds_query : held_at files.held query ≡ Some asked
   pub holds_cert : held_at files.held cert ≡ Some forms
   pub fit_schema : IsFitSchema tables
-  pub fit_function : IsFitFunction tables function
-  pub fit_query : IsFitAsked tables asked
+  pub fit_function : IsFitFunction fit_schema.is.schema function
+  pub fit_query : IsFitAsked fit_schema.is.schema asked
   pub fit_cert : IsFitCert forms
   pub no_failure : files.fails ≡ []
 
@@ -178,10 +179,19 @@ AcceptedIn before after result =
     (result ≡ NoMemory)
     ⊎ (length (line (codes "accepted")) ≤ before.room → IsCompiledQuery before after result Done (line (codes "accepted")))
 
--- What `certify` wrote of these bytes is this line and, behind its end, this text. The four files behind `check` hold the bytes, the text and the line.
+-- What `certify` wrote of these bytes is this line and, behind its end, this text. The four files behind `check` hold the bytes, the text and the line, each
+-- is within its limit, and no read is to fail.
 pub record HoldsCertified (written : List ℕ) (files : HeldFiles) (schema func query cert tables function : List ℕ) : Type 0 where
   pub line : List ℕ
   pub text : List ℕ
   pub written_is : written ≡ line ++ (10 ∷ text)
   pub is_line : IsLine line
-  pub may_check : MayCheck files schema func query cert tables function text line
+  pub holds_schema : held_at files.held schema ≡ Some tables
+  pub holds_function : held_at files.held func ≡ Some function
+  pub holds_query : held_at files.held query ≡ Some text
+  pub holds_cert : held_at files.held cert ≡ Some line
+  pub short_schema : length tables ≤ 67108864
+  pub short_function : length function ≤ 1048576
+  pub short_query : length text ≤ 67108864
+  pub short_cert : length line ≤ 67108864
+  pub no_failure : files.fails ≡ []

@@ -17,7 +17,7 @@ use Rattle.away_top.specs.Arguments.{values_for, values_of}
 use Rattle.away_top.specs.Course.{Course, and_then, gives}
 use Rattle.away_top.specs.Files.{Asked, Callable, as_asked, as_callable, as_row_query, asked_of, callable_of, row_query_of}
 use Rattle.away_top.specs.Files.{function_course, query_course, row_query_course}
-use Rattle.away_top.specs.Refusals.{IsFunction, IsQuery, IsRowQuery, RefusesFunction, RefusesQuery, RefusesRowQuery}
+use Rattle.away_top.specs.Refusals.{IsFunction, IsQuery, IsRowQuery}
 
 -- the command that asks for it
 abbrev pub word_of : Runnable → List ℕ
@@ -48,12 +48,6 @@ abbrev pub program_of : (what : Runnable) (schema : Schema) (bytes : List ℕ) �
 program_of run.Query schema bytes is = query (asked_of schema is.written)
 program_of run.Rows schema bytes is = rows (row_query_of schema is.written)
 program_of run.Function schema bytes is = function (callable_of schema is.written)
-
--- the bytes are refused by this rule
-abbrev pub RefusesProgram : Runnable → Schema → List ℕ → List ℕ → Type 0
-RefusesProgram run.Query = RefusesQuery
-RefusesProgram run.Rows = RefusesRowQuery
-RefusesProgram run.Function = RefusesFunction
 
 -- the most bytes of its file
 abbrev pub most_bytes : Runnable → ℕ

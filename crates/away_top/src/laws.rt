@@ -28,7 +28,8 @@ use std::alloc::Global;
 /// Runs `away` over files and a sink in memory. Where no read or write is to fail, only want of memory or of room is in the way of an
 /// end that the held files lead to. Where the file that is read first isn't held, it is so of its read fault.
 ///
-/// Where the words are those of `compile` or `certify`, and the files that they name are held and fit, that end is a translation.
+/// Where the words are those of `compile` or `certify`, and the files that they name are held and read as a schema and a function that break no
+/// rule, that end is a translation.
 /// Where they are those of `check`, it is the verdict on its files, where they are those of `sql` or `fn`, the answer of the query or
 /// the function, where they are those of `rows`, the rows of the query, and where they are `demo` and a number, a summary of that case.
 pub fn away_in_memory(
@@ -58,7 +59,7 @@ pub fn away_in_memory(
 }
 
 /// Certifies a function, and has `check` judge what was written. Where the files of the second call hold the line, the text behind it, and the
-/// schema and the function of the first, it accepts: only want of memory or of room for its line is in the way.
+/// schema and the function of the first, and are no longer than is read, it accepts: only want of memory or of room for its line is in the way.
 pub fn certified_is_accepted(
     alloc: Global,
     certify: &[String],
