@@ -1,6 +1,6 @@
 use Rattle.std.proofs.Common.{◌≡◌, ◌∙◌, ℕ, List, ◌∷◌, ◌++◌, [], OnOk, ap, chars, encode_utf8_all, subst, sym}
 use Rattle.std.proofs.lemmas.Str.{chars-encodes}
-use Rattle.csv.specs.Records.{fields_of, partial_of}
+use Rattle.csv.specs.Records.{fields_of}
 use Rattle.away_top.specs.RowRecords.{field_of}
 use Rattle.away_top.proofs.over_tables.row_records.push_value.Goals as goal
 

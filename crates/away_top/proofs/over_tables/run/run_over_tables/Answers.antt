@@ -1,7 +1,7 @@
-use Rattle.std.proofs.Common.{◌∙◌, Err, map, string_bytes, subst, sym}
+use Rattle.std.proofs.Common.{ap, ◌∙◌, Err, map, string_bytes, subst, sym}
 use Rattle.std.proofs.lemmas.Result.{err_from_is_err_and}
 use Rattle.sql_meaning.specs.AtBound.{rows_of_tables}
-use Rattle.away_top.specs.Programs.{as_program}
+use Rattle.away_top.specs.Programs.{as_program, reply_of}
 use Rattle.away_top.specs.Runs.{Follows, goes_on}
 use Rattle.away_top.specs.Steps.{IsSpelled, halt_end}
 use Rattle.away_top.specs.TableFiles.{tables_course}
@@ -83,4 +83,6 @@ returns g c =
     let at_v = at_values g.F.Files c.args.files.now c.args.what c.args.bound.now c.args.schema.now c.args.file.now c.args.dir.now (map string_bytes c.args.args.now) c.read.new.files c.in_ok-bound.bound c.in_ok-tables.tables.schema (as_program c.in_ok-program.program) c.in_ok-values.values (sym c.in_ok-arguments.ensures ∙ c.in_ok-values.ensures) at_p in
     let read = subst (λ ts. Follows g.F.Files c.read.new.files (tables_course c.args.dir.now ts) c.tables_of.new.files (goes_on (rows_of_tables c.in_ok-rows.rows.list))) c.as_slice.ensures c.in_ok-rows.ensures in
     let at_t = at_tables g.F.Files c.args.files.now c.args.what c.args.bound.now c.args.schema.now c.args.file.now c.args.dir.now (map string_bytes c.args.args.now) c.read.new.files c.tables_of.new.files c.in_ok-bound.bound c.in_ok-tables.tables.schema (as_program c.in_ok-program.program) c.in_ok-values.values (rows_of_tables c.in_ok-rows.rows.list) at_v read in
-    reply_told g.F.Files c.args.files.now c.args.what c.args.bound.now c.args.schema.now c.args.file.now c.args.dir.now (map string_bytes c.args.args.now) c.tables_of.new.files c.in_ok-bound.bound (as_program c.in_ok-program.program) c.in_ok-values.values (rows_of_tables c.in_ok-rows.rows.list) c.in_ok-reply.reply c.in_ok-reply_ending.field-0 at_t c.in_ok-reply.ensures c.in_ok-reply_ending.ensures
+    reply_told g.F.Files c.args.files.now c.args.what c.args.bound.now c.args.schema.now c.args.file.now c.args.dir.now (map string_bytes c.args.args.now) c.tables_of.new.files c.in_ok-bound.bound (as_program c.in_ok-program.program) c.in_ok-values.values (rows_of_tables c.in_ok-rows.rows.list) c.in_ok-reply.reply c.in_ok-reply_ending.field-0 at_t
+    (c.in_ok-reply.ensures ∙ ap (λ values. reply_of (as_program c.in_ok-program.program) (rows_of_tables c.in_ok-rows.rows.list) values c.in_ok-bound.bound) c.as_slice-2.ensures)
+    c.in_ok-reply_ending.ensures
