@@ -8,8 +8,8 @@ use Rattle.anf_build.specs.Passing.{AreBlocksOf}
 use Rattle.block_graph.specs.Tables.{AreLiveTables}
 
 -- the blocks of a form by some tables of live slots, which have each slot that a name has
-pub record IsNormalForm (g : Goto) (z : Ssa) (a : Anf) : Type 0 where
+pub record IsNormalForm (goto : Goto) (ssa : Ssa) (anf : Anf) : Type 0 where
   pub tables : List (List Bool)
-  pub slots_in : Each (λ s. s < length tables) z.names
-  pub are_live : AreLiveTables g.blocks tables
-  pub blocks : AreBlocksOf tables g.blocks z.blocks a.blocks
+  pub slots_in : Each (λ s. s < length tables) ssa.names
+  pub are_live : AreLiveTables goto.blocks tables
+  pub blocks : AreBlocksOf tables goto.blocks ssa.blocks anf.blocks

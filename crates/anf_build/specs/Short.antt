@@ -33,9 +33,9 @@ module _ (n : ℕ) where
     pub end : EndWithin y.end
 
   -- the lists that the normal form is made from have less than n elements
-  pub record SsaWithin (z : Ssa) : Type 0 where
-    pub blocks : length z.blocks < n
-    pub each : Each SsaBlockWithin z.blocks
+  pub record SsaWithin (ssa : Ssa) : Type 0 where
+    pub blocks : length ssa.blocks < n
+    pub each : Each SsaBlockWithin ssa.blocks
 
   abbrev pub CallWithin : Call → Type 0
   CallWithin c = length c.args < n
@@ -52,6 +52,6 @@ module _ (n : ℕ) where
     pub end : CallEndWithin x.end
 
   -- each list of the form has less than n elements
-  pub record AnfWithin (a : Anf) : Type 0 where
-    pub blocks : length a.blocks < n
-    pub each : Each AnfBlockWithin a.blocks
+  pub record AnfWithin (anf : Anf) : Type 0 where
+    pub blocks : length anf.blocks < n
+    pub each : Each AnfBlockWithin anf.blocks

@@ -49,25 +49,25 @@ fn all_blocks(
 }
 
 /// The normal form, by tables of live slots.
-pub(crate) fn normal_form(alloc: Global, g: &Goto, s: &Ssa) -> Result<Anf, AllocError>
-    requires as_many { length g.now.blocks ≡ length s.now.blocks }
-    ensures { IfOk result (λ a. IsNormalForm g.now s.now a) }
+pub(crate) fn normal_form(alloc: Global, goto: &Goto, ssa: &Ssa) -> Result<Anf, AllocError>
+    requires as_many { length goto.now.blocks ≡ length ssa.now.blocks }
+    ensures { IfOk result (λ anf. IsNormalForm goto.now ssa.now anf) }
 {
-    let from = g.blocks.as_slice();
+    let from = goto.blocks.as_slice();
     let sources = predecessors(alloc, from)?;
-    let slots = slots_of(s.names.as_slice());
+    let slots = slots_of(ssa.names.as_slice());
     let tables = live_tables(alloc, from, sources.as_slice(), slots)?;
-    let blocks = all_blocks(alloc, tables.as_slice(), from, s.blocks.as_slice())?;
+    let blocks = all_blocks(alloc, tables.as_slice(), from, ssa.blocks.as_slice())?;
     Ok(Anf { blocks })
 }
 
 /// Calls for ways: the normal form of an SSA form. The parameters of a block are the names of slots that are read before they are set on some way
 /// from there.
-pub fn to_calls(alloc: Global, g: &Goto, s: &Ssa) -> Result<Anf, NoMemory>
-    requires named { IsNamed g.now s.now }
-    ensures called { IfOk result (λ a. Called g.now s.now a) }
-    ensures useful { IfOk result (λ a. UsefulParameters a) }
-    ensures short { IfOk result (λ a. (n : ℕ) → SsaWithin n s.now → AnfWithin n a) }
+pub fn to_calls(alloc: Global, goto: &Goto, ssa: &Ssa) -> Result<Anf, NoMemory>
+    requires named { IsNamed goto.now ssa.now }
+    ensures called { IfOk result (λ anf. Called goto.now ssa.now anf) }
+    ensures useful { IfOk result (λ anf. UsefulParameters anf) }
+    ensures short { IfOk result (λ anf. (n : ℕ) → SsaWithin n ssa.now → AnfWithin n anf) }
 {
-    Ok(normal_form(alloc, g, s)?)
+    Ok(normal_form(alloc, goto, ssa)?)
 }

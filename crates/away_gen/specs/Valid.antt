@@ -16,7 +16,7 @@ use Rattle.sql_text.specs.Refusals as texts
 use Rattle.plsql_parse.specs.Refusals as functions
 use Rattle.away_names.specs.Schemas.{schema_note}
 use Rattle.away_types.specs.FunctionChecks.{function_note}
-use Rattle.away_types.specs.Refusals.{IsUnbroken}
+use Rattle.away_types.specs.Refusals.{HasNoFinding, IsUnbroken}
 use Rattle.csv_tables.specs.Files.{rows_in}
 use Rattle.away_gen.specs.declared.case.DemoCase.{DemoCase}
 
@@ -31,7 +31,7 @@ pub record IsFunctionText (schema : Schema) (bytes : List ℕ) (function : Funct
   pub may_be_read : functions.MayBeRead bytes
   pub reads : ReadsFunction bytes function
   pub within_limits : KeepsLimits function
-  pub unbroken : IsUnbroken (function_note schema function)
+  pub unbroken : HasNoFinding (function_note schema function)
 
 -- The bytes are the file of the schema's one table, and hold these rows, which fit it.
 pub record IsTableFile (schema : Schema) (bytes : List ℕ) (rows : List (List Value)) : Type 0 where

@@ -197,7 +197,8 @@ pub data ReadsPart : (p : Part) → List Terminal → PartTree p → List Termin
   -- name [CONSTANT] type [NOT NULL] [(:= | = | DEFAULT) expr] ;
   decl_of : {ts rest : List Terminal} {n : List ℕ} {ty : Ty} {constant v : Bool} {x : Option Expr} (t : List ℕ) → type_named t ≡ Some ty
       → ReadsPart default ts x (mark m.Semicolon ∷ rest)
-      → ReadsPart decl (name n ∷ perhaps constant (mark m.Constant) (name t ∷ not_null v ts)) (record { name = n; ty = ty; constant = constant; not_null = v; default = x }) rest
+      → ReadsPart decl (name n ∷ perhaps constant (mark m.Constant) (name t ∷ not_null v ts))
+      (record { name = n; ty = ty; constant = constant; not_null = v; default = x }) rest
   no_decl : {ts : List Terminal} → ReadsPart decls ts [] ts
   another_decl : {ts middle rest : List Terminal} {d : Decl} {ds : List Decl} → ReadsPart decl ts d middle → ReadsPart decls middle ds rest
       → ReadsPart decls ts (d ∷ ds) rest
@@ -261,7 +262,8 @@ pub data ReadsPart : (p : Part) → List Terminal → PartTree p → List Termin
   raise_message : {rest : List Terminal} {z : List ℕ} (w : Bool)
       → ReadsPart statement (mark m.Raise ∷ perhaps w (name (codes "exception")) (string z ∷ mark m.Semicolon ∷ rest)) (s.Raise (r.Message z)) rest
   raise_state : {rest : List Terminal} {z : List ℕ} (w : Bool)
-      → ReadsPart statement (mark m.Raise ∷ perhaps w (name (codes "exception")) (name (codes "sqlstate") ∷ string z ∷ mark m.Semicolon ∷ rest)) (s.Raise (r.State z)) rest
+      → ReadsPart statement (mark m.Raise ∷ perhaps w (name (codes "exception")) (name (codes "sqlstate") ∷ string z ∷ mark m.Semicolon ∷ rest))
+      (s.Raise (r.State z)) rest
   -- {stmt}
   no_statement : {ts : List Terminal} → ReadsPart statements ts [] ts
   another_statement : {ts middle rest : List Terminal} {x : Stmt} {xs : List Stmt} → ReadsPart statement ts x middle → ReadsPart statements middle xs rest

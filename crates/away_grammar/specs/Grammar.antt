@@ -256,10 +256,12 @@ pub data Reads : (n : Sort) → List Terminal → Tree n → List Terminal → T
   -- cat [[NOT] BETWEEN cat AND cat | [NOT] IN (list)]
   unranged : {ts rest : List Terminal} {x : Expr} → Reads (at l.Concat) ts x rest → Reads (at l.Range) ts x rest
   between : {ts after middle rest : List Terminal} {x low high : Expr} {n : Bool}
-      → Reads (at l.Concat) ts x (perhaps n (mark m.Not) (mark m.Between ∷ after)) → Reads (at l.Concat) after low (mark m.And ∷ middle) → Reads (at l.Concat) middle high rest
+      → Reads (at l.Concat) ts x (perhaps n (mark m.Not) (mark m.Between ∷ after)) → Reads (at l.Concat) after low (mark m.And ∷ middle)
+      → Reads (at l.Concat) middle high rest
       → Reads (at l.Range) ts (e.Between n x low high) rest
   one_of : {ts after rest : List Terminal} {x : Expr} {xs : List Expr} {n : Bool}
-      → Reads (at l.Concat) ts x (perhaps n (mark m.Not) (mark m.In ∷ mark m.Open ∷ after)) → Reads list after xs (mark m.Close ∷ rest) → Reads (at l.Range) ts (e.OneOf n x xs) rest
+      → Reads (at l.Concat) ts x (perhaps n (mark m.Not) (mark m.In ∷ mark m.Open ∷ after))
+      → Reads list after xs (mark m.Close ∷ rest) → Reads (at l.Range) ts (e.OneOf n x xs) rest
   -- - 9223372036854775808 | [-] post
   unsigned : {ts rest : List Terminal} {x : Expr} → Reads (at l.Cast) ts x rest → Reads (at l.Sign) ts x rest
   signed : {ts rest : List Terminal} {x : Expr} → Reads (at l.Cast) ts x rest → Reads (at l.Sign) (mark m.Minus ∷ ts) (e.Neg x) rest
@@ -290,7 +292,8 @@ pub data Reads : (n : Sort) → List Terminal → Tree n → List Terminal → T
   cases : {ts rest : List Terminal} {a : Expr × Expr} {more : List (Expr × Expr)} → Reads arms ts (a ∷ more) (mark m.End ∷ rest)
       → Reads (at l.Primary) (mark m.Case ∷ ts) (e.Cases (a ∷ more) None) rest
   cases_else : {ts middle rest : List Terminal} {a : Expr × Expr} {more : List (Expr × Expr)} {x : Expr}
-      → Reads arms ts (a ∷ more) (mark m.Else ∷ middle) → Reads (at l.Or) middle x (mark m.End ∷ rest) → Reads (at l.Primary) (mark m.Case ∷ ts) (e.Cases (a ∷ more) (Some x)) rest
+      → Reads arms ts (a ∷ more) (mark m.Else ∷ middle) → Reads (at l.Or) middle x (mark m.End ∷ rest)
+      → Reads (at l.Primary) (mark m.Case ∷ ts) (e.Cases (a ∷ more) (Some x)) rest
   call_word : {ts rest : List Terminal} {n : List ℕ} {xs : List Expr} (terminal : Mark) → called terminal ≡ Some n → Reads list ts xs (mark m.Close ∷ rest)
       → Reads (at l.Primary) (mark terminal ∷ mark m.Open ∷ ts) (e.Call n xs) rest
   count_rows : {rest : List Terminal} → Reads (at l.Primary) (name (codes "count") ∷ mark m.Open ∷ mark m.Star ∷ mark m.Close ∷ rest) e.CountRows rest
@@ -304,7 +307,8 @@ pub data Reads : (n : Sort) → List Terminal → Tree n → List Terminal → T
   -- {WHEN expr THEN expr}
   no_arm : {ts : List Terminal} → Reads arms ts [] ts
   arm : {ts middle after rest : List Terminal} {test value : Expr} {more : List (Expr × Expr)}
-      → Reads (at l.Or) ts test (mark m.Then ∷ middle) → Reads (at l.Or) middle value after → Reads arms after more rest → Reads arms (mark m.When ∷ ts) ((test, value) ∷ more) rest
+      → Reads (at l.Or) ts test (mark m.Then ∷ middle) → Reads (at l.Or) middle value after → Reads arms after more rest
+      → Reads arms (mark m.When ∷ ts) ((test, value) ∷ more) rest
   -- expr [AS name]
   item_alone : {ts rest : List Terminal} {x : Expr} → Reads (at l.Or) ts x rest → Reads item ts (roll-Item (record { expr = x; alias = None })) rest
   item_as : {ts rest : List Terminal} {x : Expr} {n : List ℕ} → Reads (at l.Or) ts x (mark m.As ∷ name n ∷ rest)
@@ -316,7 +320,8 @@ pub data Reads : (n : Sort) → List Terminal → Tree n → List Terminal → T
   table_alone : {rest : List Terminal} {n : List ℕ} (q : Bool)
       → Reads from_item (schema_qualified q (name n ∷ rest)) (roll-FromItem (record { source = source.Table n; alias = n; columns = [] })) rest
   table_as : {rest : List Terminal} {n a : List ℕ} (q w : Bool)
-      → Reads from_item (schema_qualified q (name n ∷ perhaps w (mark m.As) (name a ∷ rest))) (roll-FromItem (record { source = source.Table n; alias = a; columns = [] })) rest
+      → Reads from_item (schema_qualified q (name n ∷ perhaps w (mark m.As) (name a ∷ rest)))
+      (roll-FromItem (record { source = source.Table n; alias = a; columns = [] })) rest
   sub_alone : {ts rest : List Terminal} {q : Query} {a : List ℕ} {v : Bool} (w : Bool) → Reads query ts q (mark m.Close ∷ perhaps w (mark m.As) (name a ∷ rest))
       → Reads from_item (perhaps v (mark m.Lateral) (mark m.Open ∷ ts)) (roll-FromItem (record { source = source.Sub q v; alias = a; columns = [] })) rest
   sub_columns : {ts after rest : List Terminal} {q : Query} {a : List ℕ} {ns : List (List ℕ)} {v : Bool} (w : Bool)
@@ -360,7 +365,8 @@ pub data Reads : (n : Sort) → List Terminal → Tree n → List Terminal → T
   -- WITH RECURSIVE name ( name {, name} ) AS ( select {UNION ALL select} UNION ALL select ): the last one is the second term
   recursive_of : {ts after rest : List Terminal} {n : List ℕ} {ns : List (List ℕ)} {s : Select} (ss : List Select) (second : Select)
       → Reads names ts ns (mark m.Close ∷ mark m.As ∷ mark m.Open ∷ after) → Reads selects after (s ∷ (ss ++ second ∷ [])) (mark m.Close ∷ rest)
-      → Reads recursive (mark m.With ∷ mark m.Recursive ∷ name n ∷ mark m.Open ∷ ts) (roll-Recursive (record { name = n; columns = ns; first = s ∷ ss; second = second })) rest
+      → Reads recursive (mark m.With ∷ mark m.Recursive ∷ name n ∷ mark m.Open ∷ ts)
+      (roll-Recursive (record { name = n; columns = ns; first = s ∷ ss; second = second })) rest
   -- [WITH ..] query [;]
   plain_file : {ts rest : List Terminal} {q : Query} (w : Bool) → Reads query ts q (perhaps w (mark m.Semicolon) rest) → Reads file ts q rest
   with_file : {ts middle rest : List Terminal} {r : Recursive} {ss : List Select} (w : Bool) → may_join ss ≡ true → Reads recursive ts r middle

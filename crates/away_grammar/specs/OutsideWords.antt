@@ -6,12 +6,16 @@ use Rattle.away_grammar.specs.Tokens.{Lexeme, is_word_kind}
 
 abbrev pub outside_words : List (List ℕ)
 outside_words =
-    codes "alias" ∷ codes "array" ∷ codes "assert" ∷ codes "call" ∷ codes "close" ∷ codes "collate" ∷ codes "commit" ∷ codes "cross" ∷ codes "cursor" ∷ codes "debug"
+    codes "alias" ∷ codes "array" ∷ codes "assert" ∷ codes "call" ∷ codes "close" ∷ codes "collate" ∷ codes "commit"
+    ∷ codes "cross" ∷ codes "cursor" ∷ codes "debug"
     ∷ codes "delete" ∷ codes "diagnostics" ∷ codes "distinct" ∷ codes "execute" ∷ codes "fetch" ∷ codes "foreach" ∷ codes "full" ∷ codes "get" ∷ codes "group"
-    ∷ codes "having" ∷ codes "ilike" ∷ codes "info" ∷ codes "inout" ∷ codes "insert" ∷ codes "int" ∷ codes "int4" ∷ codes "integer" ∷ codes "intersect" ∷ codes "into"
+    ∷ codes "having" ∷ codes "ilike" ∷ codes "info" ∷ codes "inout" ∷ codes "insert" ∷ codes "int" ∷ codes "int4"
+    ∷ codes "integer" ∷ codes "intersect" ∷ codes "into"
     ∷ codes "join" ∷ codes "left" ∷ codes "like" ∷ codes "log" ∷ codes "merge" ∷ codes "move" ∷ codes "next" ∷ codes "notice" ∷ codes "numeric" ∷ codes "open"
-    ∷ codes "out" ∷ codes "over" ∷ codes "perform" ∷ codes "query" ∷ codes "record" ∷ codes "right" ∷ codes "rollback" ∷ codes "security" ∷ codes "set" ∷ codes "setof"
-    ∷ codes "similar" ∷ codes "slice" ∷ codes "trigger" ∷ codes "update" ∷ codes "using" ∷ codes "variadic" ∷ codes "warning" ∷ codes "window" ∷ codes "with" ∷ []
+    ∷ codes "out" ∷ codes "over" ∷ codes "perform" ∷ codes "query" ∷ codes "record" ∷ codes "right" ∷ codes "rollback"
+    ∷ codes "security" ∷ codes "set" ∷ codes "setof"
+    ∷ codes "similar" ∷ codes "slice" ∷ codes "trigger" ∷ codes "update" ∷ codes "using" ∷ codes "variadic"
+    ∷ codes "warning" ∷ codes "window" ∷ codes "with" ∷ []
 
 -- one of these words, in any case
 unfoldable pub is_outside : List ℕ → Bool

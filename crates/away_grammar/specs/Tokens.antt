@@ -118,7 +118,8 @@ pub record IsCut (at : ℕ) (z : List ℕ) (ts : List Lexeme) (bad : Option ℕ)
 -- Each token is a slice of the text at its start, has a byte, and begins at or behind the end of the one before it.
 abbrev pub StandInOrder : ℕ → List ℕ → List Lexeme → Type 0
 StandInOrder at z [] = Unit {0}
-StandInOrder at z (t ∷ ts) = (gap : ℕ) × ((n : ℕ) × (t.start ≡ at + gap) × (t.text ≡ take n (drop gap z)) × (1 ≤ n) × StandInOrder (at + (gap + n)) (drop (gap + n) z) ts)
+StandInOrder at z (t ∷ ts) = (gap : ℕ) × ((n : ℕ) × (t.start ≡ at + gap) × (t.text ≡ take n (drop gap z))
+    × (1 ≤ n) × StandInOrder (at + (gap + n)) (drop (gap + n) z) ts)
 
 -- each token is spelled as its kind
 abbrev pub AreSpelled : List Lexeme → Type 0

@@ -29,7 +29,7 @@ fn mark_len(quote: &str) -> usize
     2 + run(Class::Name, &quote.as_bytes()[1..])
 }
 
-/// What stands between the two marks of a dollar quote (PostgreSQL manual, Dollar-Quoted String Constants).
+/// What stands between the two marks of a dollar quote (PostgreSQL manual, 4.1.2.4, Dollar-Quoted String Constants).
 pub fn inside(quote: &str) -> &str
     requires { IsDollarQuote quote.now }
     ensures { (mark : List ℕ) × IsInside quote.now result.now mark }
@@ -101,7 +101,7 @@ fn inside_tokens<'a>(alloc: Global, quote: &Token<'a>) -> Result<Vec<Token<'a>>,
 }
 
 /// Both token lists of a function's file. A bad token of the whole file comes before one of the body; in the body a dollar
-/// quote is a bad token.
+/// quote is a bad token. That the body has no dollar quote of its own is our own choice; the manual nests them (4.1.2.4).
 pub fn function_tokens<'a>(
     alloc: Global,
     text: &'a str,

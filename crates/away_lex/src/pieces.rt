@@ -7,11 +7,12 @@ use away_grammar::TokenKind;
 use away_values::{LONGEST_NAME, LONGEST_TEXT};
 
 /// The opposite of the least bigint: no integer that is a token is greater.
+/// The manual: 4.1.2.6, Numeric Constants, and 8.1.1, Integer Types. That no greater number is read is our own choice.
 pub const INTEGER_LIMIT: u64 = 9_223_372_036_854_775_808;
 
 const PARAMETER_LIMIT: u64 = 64;
 
-/// A piece at the front of a text, by its length in bytes.
+/// A piece at the front of a text, by its length in bytes. The manual: 4.1, Lexical Structure; comments are 4.1.5.
 #[derive(Clone, Copy, Debug)]
 pub enum Piece {
     Skipped(usize),
@@ -331,7 +332,7 @@ fn mark(z: &[u8]) -> Option<Piece>
     symbol(b, next)
 }
 
-/// The first piece of a text that isn't empty, or `None` where no token begins.
+/// The first piece of a text that isn't empty, or `None` where no token begins. The manual: 4.1, Lexical Structure.
 #[tactic(auto, unfolding(crate::specs::Pieces::first_piece))]
 pub fn first_piece(z: &[u8]) -> Option<Piece>
     requires { 0 < length z.now }

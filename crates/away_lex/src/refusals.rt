@@ -21,7 +21,7 @@ pub enum TokensRefusal {
     NoMemory,
 }
 
-/// A limit of the readers.
+/// A limit of the readers. All limits are our own choice.
 #[derive(Clone, Copy, Debug, PartialEq, Eq)]
 pub enum LimitKind {
     /// The nesting of a token list.

@@ -89,7 +89,7 @@ impl Token<'_> {
 }
 
 /// Whether the word is reserved, in any case: then it is never a name. The list is our own, and shorter than PostgreSQL's
-/// (PostgreSQL manual, SQL Key Words).
+/// (PostgreSQL manual, Appendix C, SQL Key Words).
 #[tactic(auto, unfolding(away_grammar::specs::Reserved::is_reserved))]
 pub fn is_reserved(word: &str) -> bool
     ensures { result ≡ spec.is_reserved word.now }
@@ -99,7 +99,7 @@ pub fn is_reserved(word: &str) -> bool
         .any(|reserved| word.eq_ignore_ascii_case(reserved))
 }
 
-/// The name that a word spells, which is the word in lower case (PostgreSQL manual, Identifiers and Key Words).
+/// The name that a word spells, which is the word in lower case (PostgreSQL manual, 4.1.1, Identifiers and Key Words).
 pub fn folded(alloc: Global, word: &str) -> Result<Name, NoMemory>
     requires { IsNameText word.now }
     ensures { IfOk result (λ n. n ≡ spec.folded word.now) }

@@ -1,3 +1,4 @@
 mod Digits
 pub mod Doubles
 pub mod NamingRules
+pub mod WholeScopes

@@ -1,5 +1,5 @@
 -- What names stand for at a node, by its parts.
-use Rattle.std.proofs.Common.{◌≡◌, refl, ap, sym, ◌∙◌, ℕ, ℤ, Bool, true, false, if◌then◌else◌, List, [], ◌∷◌, map, fold, Option, Some, None, option_map}
+use Rattle.std.proofs.Common.{◌≡◌, refl, ap, ◌∙◌, ℕ, ℤ, Bool, List, [], ◌∷◌, map, fold, Option, Some, None, option_map}
 use Rattle.std.specs.Prelude.{is_some}
 use Rattle.away_values.specs.declared.types.Ty.{Ty}
 use Rattle.away_trees.specs.declared.queries.Col.{Col}
@@ -16,10 +16,9 @@ use Rattle.away_trees.specs.declared.queries.Key.{Key}
 use Rattle.away_trees.specs.declared.queries.Select.{Select}
 use Rattle.away_trees.specs.declared.queries.Query.{Query}
 use Rattle.away_trees.specs.declared.queries.Expr.TheViews.{out-Item, out-FromItem, out-Key, out-Select, out-Query, roll-Key}
-use Rattle.away_trees.specs.Algebra.{expr_of, item_of, key_of, from_of, select_of, query_of, recursive_of}
+use Rattle.away_trees.specs.Algebra.{expr_of, item_of, key_of, from_of, select_of, recursive_of}
 use Rattle.away_trees.proofs.Equations as e
-use Rattle.away_names.specs.declared.note.Noted.{Noted}
-use Rattle.away_names.specs.declared.note.Shown.{Shown}
+use Rattle.away_names.specs.declared.rule.Rule.TheVariants as rule
 use Rattle.away_names.specs.Notes.{pure, noted, breaks, joined, mapped, also, paired, each, held}
 use Rattle.away_names.specs.Lookups.{Name, Level, Scope, inside, has_double}
 use Rattle.away_names.specs.Naming as n
@@ -84,7 +83,7 @@ pub column_is : (c : Col) (s : Scope) → named_expr (expr.Column c) s ≡ n.unw
 unfolding named_expr
 column_is c s = refl
 
-pub param_is : (i : ℕ) (t : Ty) (s : Scope) → named_expr (expr.Param i t) s ≡ noted (breaks 7 s.in_function) (expr.Param i t)
+pub param_is : (i : ℕ) (t : Ty) (s : Scope) → named_expr (expr.Param i t) s ≡ noted (breaks rule.Names s.in_function) (expr.Param i t)
 unfolding named_expr
 param_is i t s = refl
 
@@ -183,9 +182,9 @@ pub item_rule : (i : Item) (s : Scope) → named_item i s ≡ also (n.maybe_writ
 unfolding named_item named_expr
 item_rule i s = ap (λ l. also (n.maybe_written s (out-Item i).alias) (mapped (n.item_of (out-Item i).alias l) ((expr_of naming (out-Item i).expr).judge s))) (last_is (out-Item i).expr)
 
-pub key_rule : (k : Key) (aliases : List (Option Name)) (s : Scope) → named_key k aliases s ≡ also (breaks 8 (n.is_alias aliases (alone_of (out-Key k).expr))) (mapped (λ e. roll-Key (record { expr = e; descending = (out-Key k).descending })) (named_expr (out-Key k).expr s))
+pub key_rule : (k : Key) (aliases : List (Option Name)) (s : Scope) → named_key k aliases s ≡ also (breaks rule.Ambiguity (n.is_alias aliases (alone_of (out-Key k).expr))) (mapped (λ e. roll-Key (record { expr = e; descending = (out-Key k).descending })) (named_expr (out-Key k).expr s))
 unfolding named_key named_expr
-key_rule k aliases s = ap (λ l. also (breaks 8 (n.is_alias aliases l)) (mapped (λ e. roll-Key (record { expr = e; descending = (out-Key k).descending })) ((expr_of naming (out-Key k).expr).judge s))) (alone_is (out-Key k).expr)
+key_rule k aliases s = ap (λ l. also (breaks rule.Ambiguity (n.is_alias aliases l)) (mapped (λ e. roll-Key (record { expr = e; descending = (out-Key k).descending })) ((expr_of naming (out-Key k).expr).judge s))) (alone_is (out-Key k).expr)
 
 all_items : (s : Scope) (list : List Item) → n.items s (map (λ x. item_of naming x) list) ≡ named_items s list
 unfolding named_item
@@ -213,16 +212,16 @@ over_is x s from = λ i. n.select_of from (all_items s (out-Select x).list i) (m
 
 pub select_rule : (x : Select) (s : Scope) →
     named_select x s
-    ≡ also (joined (breaks 6 (has_double (map (λ f. (out-FromItem f).alias) (out-Select x).from))) (named_from s (out-Select x).from).note)
+    ≡ also (joined (breaks rule.Duplicates (has_double (map (λ f. (out-FromItem f).alias) (out-Select x).from))) (named_from s (out-Select x).from).note)
     (named_over (out-Select x) (inside (named_from s (out-Select x).from).it.seen s) (named_from s (out-Select x).from).it.items)
 unfolding named_select
 select_rule x s =
     let from = named_from s (out-Select x).from in
     ap (λ l. l s) (e.select_is naming x)
-    ∙ (ap (λ fr. also (joined (breaks 6 (has_double (map (λ f. f.alias) (map (λ x. from_of naming x) (out-Select x).from)))) fr.note)
+    ∙ (ap (λ fr. also (joined (breaks rule.Duplicates (has_double (map (λ f. f.alias) (map (λ x. from_of naming x) (out-Select x).from)))) fr.note)
     (n.over (record { list = map (λ x. item_of naming x) (out-Select x).list; from = map (λ x. from_of naming x) (out-Select x).from; filter = option_map (λ x. expr_of naming x) (out-Select x).filter; order = map (λ x. key_of naming x) (out-Select x).order; limit = option_map (λ x. expr_of naming x) (out-Select x).limit }) (inside fr.it.seen s) fr.it.items))
     (all_from s (out-Select x).from)
-    ∙ (λ i. also (joined (breaks 6 (has_double (map_map (λ f. f.alias) (λ x. from_of naming x) (out-Select x).from i))) from.note)
+    ∙ (λ i. also (joined (breaks rule.Duplicates (has_double (map_map (λ f. f.alias) (λ x. from_of naming x) (out-Select x).from i))) from.note)
     (over_is x (inside from.it.seen s) from.it.items i)))
 
 all_selects : (s : Scope) (xs : List Select) → n.united (map (λ x. select_of naming x) xs) s ≡ named_selects s xs
@@ -234,8 +233,8 @@ is_some_map f None = refl
 is_some_map f (Some x) = refl
 
 pub query_rule : (q : Query) (s : Scope) →
-    named_query q s ≡ also (breaks 13 (is_some (out-Query q).recursive)) (mapped n.query_with (named_selects s (out-Query q).selects))
+    named_query q s ≡ also (breaks rule.Types (is_some (out-Query q).recursive)) (mapped n.query_with (named_selects s (out-Query q).selects))
 unfolding named_query
 query_rule q s =
     ap (λ w. w s) (e.query_is naming q)
-    ∙ (λ i. also (breaks 13 (is_some_map (λ r. recursive_of naming r) (out-Query q).recursive i)) (mapped n.query_with (all_selects s (out-Query q).selects i)))
+    ∙ (λ i. also (breaks rule.Types (is_some_map (λ r. recursive_of naming r) (out-Query q).recursive i)) (mapped n.query_with (all_selects s (out-Query q).selects i)))

@@ -5,6 +5,7 @@ use Rattle.away_trees.specs.declared.queries.Select.{Select}
 use Rattle.away_trees.specs.declared.queries.Recursive.{Recursive}
 use Rattle.away_trees.specs.declared.queries.Query.{Query}
 use Rattle.away_trees.specs.declared.queries.Expr.TheViews.{roll-Recursive, roll-Query, out-Query, out-Recursive}
+use Rattle.away_names.specs.declared.rule.Rule.TheVariants as rule
 use Rattle.away_names.specs.declared.scope.Working.{Working}
 use Rattle.away_names.specs.declared.note.File.{File}
 use Rattle.away_names.specs.declared.note.Terms.{Terms}
@@ -28,7 +29,7 @@ named_terms scope r =
     let second = named_select (out-Recursive r).second scope in
     record {
       it = roll-Recursive (record { name = (out-Recursive r).name; columns = (out-Recursive r).columns; first = first.it.it; second = second.it.it });
-      columns = breaks 6 (has_double (out-Recursive r).columns);
+      columns = breaks rule.Duplicates (has_double (out-Recursive r).columns);
       first = first.note;
       second = second.note;
     }

@@ -1,3 +1,4 @@
+pub mod Rules
 pub mod Notes
 pub mod Functions
 pub mod Lookups

@@ -1,5 +1,5 @@
 -- What a name at a place stands for: a variable, a column of a FROM item of an enclosing select, a table.
-use Rattle.std.specs.Prelude.{ℕ, ◌+◌, Bool, true, false, ◌&&◌, ◌||◌, if◌then◌else◌, List, [], ◌∷◌, fold, Option, Some, None, option_map, is_some, bytes_eq, nat_eq, codes}
+use Rattle.std.specs.Prelude.{ℕ, ◌+◌, Bool, false, ◌||◌, if◌then◌else◌, List, [], ◌∷◌, fold, Option, Some, None, option_map, bytes_eq, nat_eq, codes}
 use Rattle.std.specs.List.{list_any, starts_with, position_from}
 use Rattle.away_names.specs.declared.scope.Seen.{Seen}
 use Rattle.away_names.specs.declared.scope.Variable.{Variable}

@@ -1,11 +1,10 @@
 -- A tree with what its names stand for, and the rules that its names break. A rule above the least one that is broken may be noted wrongly: it is
 -- judged only where the lower ones hold.
-use Rattle.std.specs.Prelude.{ℕ, Bool, true, false, not, ◌&&◌, ◌||◌, if◌then◌else◌, List, [], ◌∷◌, ◌++◌, map, fold, drop, Option, Some, None, option_map, is_some, bytes_eq}
+use Rattle.std.specs.Prelude.{Bool, true, false, not, ◌&&◌, ◌||◌, if◌then◌else◌, List, [], ◌∷◌, ◌++◌, map, fold, drop, Option, Some, None, is_some}
 use Rattle.std.specs.List.{list_any}
 use Rattle.away_values.specs.declared.operators.ChainOp.{ChainOp}
 use Rattle.away_trees.specs.declared.queries.Expr.{Expr}
 use Rattle.away_trees.specs.declared.queries.Expr.TheVariants as expr
-use Rattle.away_trees.specs.declared.queries.Source.{Source}
 use Rattle.away_trees.specs.declared.queries.Source.TheVariants as source
 use Rattle.away_trees.specs.declared.queries.FromItem.{FromItem}
 use Rattle.away_trees.specs.declared.queries.Item.{Item}
@@ -17,6 +16,7 @@ use Rattle.away_trees.specs.declared.queries.Expr.TheOpen as ex
 use Rattle.away_trees.specs.declared.queries.Expr.TheViews.{roll-Item, roll-FromItem, roll-Key, roll-Select, roll-Query}
 use Rattle.away_trees.specs.Algebra.{Algebra}
 use Rattle.away_trees.specs.AlgebraEquations.{algebra}
+use Rattle.away_names.specs.declared.rule.Rule.TheVariants as rule
 use Rattle.away_names.specs.declared.note.Note.{Note}
 use Rattle.away_names.specs.declared.note.Noted.{Noted}
 use Rattle.away_names.specs.declared.note.Shown.{Shown}
@@ -25,7 +25,6 @@ use Rattle.away_names.specs.declared.note.Framed.{Framed}
 use Rattle.away_names.specs.declared.note.Part.{Part}
 use Rattle.away_names.specs.declared.note.Origin.{Origin}
 use Rattle.away_names.specs.declared.note.Times.TheVariants.{Never, Once}
-use Rattle.away_names.specs.declared.scope.Seen.{Seen}
 use Rattle.away_names.specs.declared.scope.Variable.{Variable}
 use Rattle.away_names.specs.declared.scope.Listed.{Listed}
 use Rattle.away_names.specs.declared.scope.Hit.{Hit}
@@ -73,7 +72,7 @@ Terms = Unit {0}
 
 -- a name of the query's own may not be written in a function
 unfoldable pub written : Scope → Name → Note
-written s n = breaks 14 (s.in_function && is_kept n)
+written s n = breaks rule.Reserved (s.in_function && is_kept n)
 
 abbrev pub all_written : Scope → List Name → Note
 all_written s = all_notes (written s)
@@ -86,10 +85,10 @@ maybe_written s (Some n) = written s n
 
 unfoldable pub slot_or : Name → Option Variable → Noted Expr
 slot_or n (Some v) = pure (expr.Slot v.slot)
-slot_or n None = noted (breaks 7 true) (expr.Named n)
+slot_or n None = noted (breaks rule.Names true) (expr.Named n)
 
 unfoldable pub named_by : Name → Option Hit → Option Variable → Noted Expr
-named_by n (Some hit) v = noted (breaks 8 (hit.many || is_some v)) (expr.Column hit.column)
+named_by n (Some hit) v = noted (breaks rule.Ambiguity (hit.many || is_some v)) (expr.Column hit.column)
 named_by n None v = slot_or n v
 
 unfoldable pub named : Name → Scope → Noted Expr
@@ -97,18 +96,18 @@ named n s = also (written s n) (named_by n (column_named n s.levels) (variable_n
 
 unfoldable pub qualified_by : Name → Name → Option Hit → Noted Expr
 qualified_by a n (Some hit) = pure (expr.Column hit.column)
-qualified_by a n None = noted (breaks 7 true) (expr.Dotted a n)
+qualified_by a n None = noted (breaks rule.Names true) (expr.Dotted a n)
 
 unfoldable pub qualified : Name → Name → Scope → Noted Expr
 qualified a n s = also (joined (written s a) (written s n)) (qualified_by a n (column_qualified a n s.levels))
 
 -- slots and columns stand for names, and no reader writes one; where one is written, it's no name that is known
 unfoldable pub unwritten : Expr → Noted Expr
-unwritten e = noted (breaks 7 true) e
+unwritten e = noted (breaks rule.Names true) e
 
 -- a function is known by its name
 unfoldable pub called : Scope → Name → Note
-called s name = joined (written s name) (breaks 7 (not (is_some (function name))))
+called s name = joined (written s name) (breaks rule.Names (not (is_some (function name))))
 
 abbrev pub linked : Scope → ChainOp × Term → Noted (ChainOp × Expr)
 linked s l = mapped (λ e. (l.0, e)) (l.1.judge s)
@@ -128,7 +127,7 @@ judge (ex.Named n) s = named n s
 judge (ex.Dotted a n) s = qualified a n s
 judge (ex.Slot i) s = unwritten (expr.Slot i)
 judge (ex.Column c) s = unwritten (expr.Column c)
-judge (ex.Param i ty) s = noted (breaks 7 s.in_function) (expr.Param i ty)
+judge (ex.Param i ty) s = noted (breaks rule.Names s.in_function) (expr.Param i ty)
 judge (ex.Neg e) s = mapped (λ e. expr.Neg e) (e.judge s)
 judge (ex.NegSmall e) s = mapped (λ e. expr.NegSmall e) (e.judge s)
 judge (ex.Not e) s = mapped (λ e. expr.Not e) (e.judge s)
@@ -160,14 +159,14 @@ term l = record { judge = judge l; alone = alone l; last = last l }
 -- ---- FROM
 
 unfoldable pub once_where : Bool → Note
-once_where recursive = record { least = 255; refers = if recursive then Once else Never }
+once_where recursive = record { least = None; refers = if recursive then Once else Never }
 
 abbrev pub plain_names : List Name → List (Option Name)
 plain_names = map Some
 
 -- a table that isn't known has no columns
 unfoldable pub of_table : Name → Option Listed → Noted Origin
-of_table n None = noted (breaks 9 true) (record { source = source.Table n; columns = []; names = [] })
+of_table n None = noted (breaks rule.Tables true) (record { source = source.Table n; columns = []; names = [] })
 of_table n (Some t) = noted (once_where t.recursive) (record { source = source.Table n; columns = t.written; names = plain_names (drop 1 t.written) })
 
 -- the names of columns as they are written, or else the query's own
@@ -187,11 +186,14 @@ origin (ex.Table n) columns s level = also (written s n) (of_table n (s.table n)
 origin (ex.Sub q lateral) columns s level = mapped (of_query lateral columns) (q (inside (before lateral level) s))
 
 abbrev pub shaped : Name → Origin → Part
-shaped alias x = record { item = roll-FromItem (record { source = x.source; alias = alias; columns = x.columns }); seen = record { alias = alias; columns = x.names } }
+shaped alias x = record {
+  item = roll-FromItem (record { source = x.source; alias = alias; columns = x.columns });
+  seen = record { alias = alias; columns = x.names };
+}
 
 -- the alias and the list of columns as they are written
 unfoldable pub part_note : Scope → Name → List Name → Note
-part_note s alias columns = joined (written s alias) (joined (all_written s columns) (breaks 6 (has_double columns)))
+part_note s alias columns = joined (written s alias) (joined (all_written s columns) (breaks rule.Duplicates (has_double columns)))
 
 abbrev pub part : FromItem-F Term Rows Piece Entry Sort Whole Terms Listing → Piece
 part f = record { alias = f.alias; judge = λ s level. also (part_note s f.alias f.columns) (mapped (shaped f.alias) (f.source f.columns s level)) }
@@ -238,7 +240,7 @@ is_alias aliases (Some n) = list_any (is_named n) aliases
 
 abbrev pub sort : Key-F Term Rows Piece Entry Sort Whole Terms Listing → Sort
 sort k aliases s =
-    also (breaks 8 (is_alias aliases k.expr.alone)) (mapped (λ e. roll-Key (record { expr = e; descending = k.descending })) (k.expr.judge s))
+    also (breaks rule.Ambiguity (is_alias aliases k.expr.alone)) (mapped (λ e. roll-Key (record { expr = e; descending = k.descending })) (k.expr.judge s))
 
 -- the list, the condition, the keys and LIMIT, which see the columns of FROM
 abbrev pub select_of : List FromItem → Noted (Shown (List Item)) → Noted (Option Expr) → Noted (List Key) → Noted (Option Expr) → Noted (Shown Select)
@@ -248,12 +250,13 @@ select_of from list filter order limit =
 
 abbrev pub over : Select-F Term Rows Piece Entry Sort Whole Terms Listing → Scope → List FromItem → Noted (Shown Select)
 over s inner from =
-    select_of from (items inner s.list) (held (λ t. t.judge inner) s.filter) (each (λ k. k (map (λ i. i.alias) s.list) inner) s.order) (held (λ t. t.judge inner) s.limit)
+    select_of from (items inner s.list) (held (λ t. t.judge inner) s.filter) (each (λ k. k (map (λ i. i.alias) s.list) inner) s.order)
+    (held (λ t. t.judge inner) s.limit)
 
 abbrev pub listing : Select-F Term Rows Piece Entry Sort Whole Terms Listing → Listing
 listing s outer =
     let from = framed outer s.from in
-    also (joined (breaks 6 (has_double (map (λ f. f.alias) s.from))) from.note) (over s (inside from.it.seen outer) from.it.items)
+    also (joined (breaks rule.Duplicates (has_double (map (λ f. f.alias) s.from))) from.note) (over s (inside from.it.seen outer) from.it.items)
 
 -- ---- a query
 
@@ -277,7 +280,7 @@ query_with x = record { it = roll-Query (record { recursive = None; selects = x.
 
 -- WITH stands before a whole file alone; elsewhere, where no reader puts it, it has no type and is left out
 abbrev pub whole : Query-F Term Rows Piece Entry Sort Whole Terms Listing → Whole
-whole q s = also (breaks 13 (is_some q.recursive)) (mapped query_with (united q.selects s))
+whole q s = also (breaks rule.Types (is_some q.recursive)) (mapped query_with (united q.selects s))
 
 abbrev pub naming : Algebra
 naming = algebra (record {

@@ -1,5 +1,5 @@
 -- Names in lists of trees, for the contracts of loops.
-use Rattle.std.specs.Prelude.{ℕ, Bool, List, map, fold, Option}
+use Rattle.std.specs.Prelude.{List, map, fold, Option}
 use Rattle.away_values.specs.declared.operators.ChainOp.{ChainOp}
 use Rattle.away_trees.specs.declared.queries.Expr.{Expr}
 use Rattle.away_trees.specs.declared.queries.FromItem.{FromItem}
@@ -43,4 +43,5 @@ named_from s = fold (λ a f. with_part a (named_part f s a.it.seen)) no_part
 -- what stands over the items of FROM, in a scope that has these
 abbrev pub named_over : Select-F Expr Source FromItem Item Key Query Recursive Select → Scope → List FromItem → Noted (Shown Select)
 named_over x s from =
-    select_of from (named_items s x.list) (held (named_in s) x.filter) (each (named_key_in (map (λ i. (out-Item i).alias) x.list) s) x.order) (held (named_in s) x.limit)
+    select_of from (named_items s x.list) (held (named_in s) x.filter) (each (named_key_in (map (λ i. (out-Item i).alias) x.list) s) x.order)
+    (held (named_in s) x.limit)

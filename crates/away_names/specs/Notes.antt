@@ -1,12 +1,11 @@
 -- A result beside what was found on the way to it: the least rule that is broken, and how often the recursive table is named.
-use Rattle.std.specs.Prelude.{ℕ, Bool, if◌then◌else◌, nat_le, List, [], ◌∷◌, ◌++◌, fold, Option, Some, None}
+use Rattle.std.specs.Prelude.{Bool, if◌then◌else◌, List, [], ◌∷◌, ◌++◌, fold, Option, Some, None}
 use Rattle.away_names.specs.declared.note.Times.{Times}
 use Rattle.away_names.specs.declared.note.Times.TheVariants.{Never, Once, Often}
 use Rattle.away_names.specs.declared.note.Note.{Note}
 use Rattle.away_names.specs.declared.note.Noted.{Noted}
-
-unfoldable pub lesser : ℕ → ℕ → ℕ
-lesser a b = if nat_le a b then a else b
+use Rattle.away_names.specs.declared.rule.Rule.{Rule}
+use Rattle.away_names.specs.Rules.{lesser}
 
 unfoldable pub summed : Times → Times → Times
 summed Never b = b
@@ -14,16 +13,16 @@ summed Once Never = Once
 summed Once b = Often
 summed Often b = Often
 
--- nothing was found; 255 is no rule
+-- nothing was found
 unfoldable pub clean : Note
-clean = record { least = 255; refers = Never }
+clean = record { least = None; refers = Never }
 
 unfoldable pub joined : Note → Note → Note
 joined a b = record { least = lesser a.least b.least; refers = summed a.refers b.refers }
 
 -- the rule is broken where the test holds
-unfoldable pub breaks : ℕ → Bool → Note
-breaks rule test = record { least = if test then rule else 255; refers = Never }
+unfoldable pub breaks : Rule → Bool → Note
+breaks rule test = record { least = if test then Some rule else None; refers = Never }
 
 abbrev pub pure : {A : Type 0} → A → Noted A
 pure x = record { it = x; note = clean }

@@ -1,12 +1,11 @@
 -- What the code's scopes are to the definitions.
-use Rattle.std.specs.Prelude.{ℕ, List, map, Option}
+use Rattle.std.specs.Prelude.{map, Option}
 use Rattle.std.specs.Option.{option_copied}
 use Rattle.indexmap.specs.IndexMap.{get_by_text}
-use Rattle.away_names.specs.declared.scope.Seen.{Seen}
 use Rattle.away_names.specs.declared.scope.Listed.{Listed}
 use Rattle.away_names.specs.declared.scope.Tables.{Tables}
 use Rattle.away_names.specs.declared.scope.Scope.{Scope as Here}
-use Rattle.away_names.specs.Lookups.{Name, Level, Scope, table_before}
+use Rattle.away_names.specs.Lookups.{Name, Scope, table_before}
 
 unfoldable pub tables : Tables → Name → Option Listed
 tables t = table_before (option_copied t.working) (λ n. get_by_text t.schema.now n)

@@ -12,6 +12,7 @@ use crate::lookups::has_double;
 use crate::naming_queries::{named_select, named_selects};
 use crate::note::{File, Noted, Shown, Terms, breaks, clean, joined};
 use crate::origins::copy_names;
+use crate::rule::Rule;
 use crate::scope::{Listed, Scope, Tables, Working};
 use crate::tables::{digits, tables_of};
 use away_trees::{Query, Recursive, Schema, Select};
@@ -43,7 +44,12 @@ pub fn named_file(alloc: Global, s: &Schema, q: &Query) -> Result<File, NoMemory
 /// A place in sight of tables alone.
 #[tactic(auto, unfolding(crate::specs::Places::tables))]
 fn outermost<'a>(schema: &'a IndexMap<String, Listed>, working: Option<&'a Working>) -> Scope<'a>
-    ensures { scope result ≡ record { table = table_before (option_copied working.entry) (λ n. get_by_text schema.now n); levels = []; variables = []; in_function = false } }
+    ensures { scope result ≡ record {
+      table = table_before (option_copied working.entry) (λ n. get_by_text schema.now n);
+      levels = [];
+      variables = [];
+      in_function = false;
+    } }
 {
     Scope {
         tables: Tables { schema, working },
@@ -64,7 +70,10 @@ fn with_names(alloc: Global, names: &[Name], before: Items<Name>) -> Result<Item
 }
 
 fn working(alloc: Global, place: usize, r: &Recursive) -> Result<Working, NoMemory>
-    ensures { IfOk result (λ w. w ≡ record { name = (out-Recursive r.now).name; table = record { written = decimal place ∷ (out-Recursive r.now).columns; recursive = true } }) }
+    ensures { IfOk result (λ w. w ≡ record {
+      name = (out-Recursive r.now).name;
+      table = record { written = decimal place ∷ (out-Recursive r.now).columns; recursive = true };
+    }) }
 {
     let mut written = Items::new(alloc);
     written.push(digits(alloc, place)?)?;
@@ -122,7 +131,7 @@ fn named_terms(alloc: Global, s: &Scope<'_>, r: &Recursive) -> Result<Terms, NoM
             first: selects,
             second: select,
         },
-        columns: breaks(6, has_double(r.columns.as_slice())),
+        columns: breaks(Rule::Duplicates, has_double(r.columns.as_slice())),
         first,
         second,
     })

@@ -5,6 +5,7 @@ ghost use Rattle.away_names.specs.Functions as spec;
 
 use away_values::Name;
 
+/// The functions that are known. The manual: 9.4, String Functions, 9.18, Conditional Expressions, and 9.21, Aggregate Functions.
 #[derive(Clone, Copy, Debug, PartialEq, Eq)]
 pub enum Known {
     Length,
@@ -53,6 +54,7 @@ pub fn function(name: &Name) -> Option<Known>
     }
 }
 
+/// The manual: 9.21, Aggregate Functions.
 #[tactic(auto, unfolding(crate::specs::Functions::is_aggregate))]
 pub fn is_aggregate(f: Known) -> bool
     ensures { result ≡ spec.is_aggregate f }

@@ -10,6 +10,7 @@ pub mod naming_queries;
 pub mod note;
 pub mod origins;
 pub mod references;
+pub mod rule;
 pub mod schema_names;
 pub mod scope;
 pub mod tables;

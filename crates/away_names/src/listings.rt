@@ -87,6 +87,7 @@ fn named_as(
 }
 
 /// An item of a list, where its expression is resolved.
+/// The manual: 7.3.2, Column Labels. That what isn't a column alone has no name is our own choice.
 pub fn column_of(
     alloc: Global,
     s: &Scope<'_>,
@@ -121,7 +122,7 @@ fn any_alias(n: &Name, list: &[Item]) -> bool
     false
 }
 
-/// Whether a key is an alias of the list alone.
+/// Whether a key is an alias of the list alone. The manual: 7.5, Sorting Rows, where the name of an output column has to stand alone.
 #[tactic(auto, unfolding(crate::specs::Naming::is_alias))]
 pub fn is_alias(list: &[Item], key: &Expr) -> bool
     ensures { result ≡ spec.is_alias (map (λ i. (out-Item i).alias) list.now) (alone_of key.now) }

@@ -90,6 +90,7 @@ fn in_level(n: &Name, depth: u32, level: &[Seen]) -> Result<Option<Hit>, NoMemor
     Ok(None)
 }
 
+/// The manual: 4.2.1, Column References. The nearest select that has a column of the name decides.
 #[tactic(auto, unfolding(crate::specs::Lookups::column_named))]
 pub fn column_named(n: &Name, s: &Scope<'_>) -> Result<Option<Hit>, NoMemory>
     ensures { IfOk result (λ h. h ≡ spec.column_named n.now (scope s.now).levels) }
@@ -131,6 +132,7 @@ fn in_item(a: &Name, n: &Name, depth: u32, level: &[Seen]) -> Result<Option<Hit>
     Ok(None)
 }
 
+/// The manual: 4.2.1, Column References. The nearest select that has such an alias with such a column decides.
 #[tactic(auto, unfolding(crate::specs::Lookups::column_qualified))]
 pub fn column_qualified(a: &Name, n: &Name, s: &Scope<'_>) -> Result<Option<Hit>, NoMemory>
     ensures { IfOk result (λ h. h ≡ spec.column_qualified a.now n.now (scope s.now).levels) }
@@ -147,6 +149,7 @@ pub fn column_qualified(a: &Name, n: &Name, s: &Scope<'_>) -> Result<Option<Hit>
     Ok(None)
 }
 
+/// The innermost variable of the name decides. The manual: 43.2, Structure of PL/pgSQL.
 #[tactic(auto, unfolding(crate::specs::Lookups::variable_named))]
 pub fn variable_named<'a>(n: &Name, variables: &'a [Variable]) -> Option<&'a Variable>
     ensures { option_copied result ≡ spec.variable_named n.now variables.now }
@@ -160,7 +163,7 @@ pub fn variable_named<'a>(n: &Name, variables: &'a [Variable]) -> Option<&'a Var
     found
 }
 
-/// The table of the name.
+/// The table of the name. The recursive table hides one of the schema. The manual: SELECT, FROM Clause.
 #[tactic(auto, unfolding(crate::specs::Places::tables))]
 pub fn table_named<'a>(n: &Name, t: Tables<'a>) -> Option<&'a Listed>
     ensures { option_copied result ≡ tables t.entry n.now }
@@ -198,7 +201,7 @@ pub fn has_double(names: &[Name]) -> bool
     false
 }
 
-/// Whether a name is kept for the query's own.
+/// Whether a name is kept for the query's own. These are the names that begin with `away_`, which is our own choice.
 #[tactic(auto, unfolding(crate::specs::Lookups::is_kept))]
 pub fn is_kept(n: &Name) -> bool
     ensures { result ≡ spec.is_kept n.now }

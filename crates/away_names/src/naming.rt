@@ -10,6 +10,7 @@ ghost use Rattle.away_names.specs.Trees as trees;
 use crate::naming_queries::named_query;
 use crate::note::{Column, Noted, Shown, breaks, clean, joined};
 use crate::references::{call_note, named, qualified};
+use crate::rule::Rule;
 use crate::scope::Scope;
 use away_trees::{Expr, Query};
 use away_values::{ChainOp, NoMemory};
@@ -31,7 +32,7 @@ fn unwritten(e: Expr) -> Noted<Expr>
 {
     Noted {
         it: e,
-        note: breaks(7, true),
+        note: breaks(Rule::Names, true),
     }
 }
 
@@ -52,7 +53,7 @@ pub fn named_expr(alloc: Global, e: &Expr, s: &Scope<'_>) -> Result<Noted<Expr>,
         Expr::Column(c) => Ok(unwritten(Expr::Column(*c))),
         Expr::Param(i, ty) => Ok(Noted {
             it: Expr::Param(*i, *ty),
-            note: breaks(7, s.in_function),
+            note: breaks(Rule::Names, s.in_function),
         }),
         Expr::Neg(a) => {
             let x = named_box(alloc, a.get(), s)?;

@@ -14,6 +14,7 @@ use crate::listings::{column_of, first_names, is_alias, select_of};
 use crate::naming::{named_expr, named_maybe};
 use crate::note::{Column, Framed, Noted, Origin, Part, Shown, breaks, clean, joined};
 use crate::origins::{alias_doubled, before, nested, origin_of, part_of, table};
+use crate::rule::Rule;
 use crate::scope::{Scope, Seen};
 use away_trees::{FromItem, Item, Key, Query, Select, Source};
 use away_values::{Name, NoMemory};
@@ -28,7 +29,7 @@ use std::alloc::Global;
 pub fn named_query(alloc: Global, q: &Query, s: &Scope<'_>) -> Result<Noted<Shown<Query>>, NoMemory>
     ensures { IfOk result (λ x. x ≡ trees.named_query q.now (scope s.now)) }
 {
-    let found = breaks(13, q.recursive.is_some());
+    let found = breaks(Rule::Types, q.recursive.is_some());
     let Noted { it, note } = named_selects(alloc, q.selects.as_slice(), s)?;
     let Shown { it, names } = it;
     Ok(Noted {
@@ -77,7 +78,7 @@ pub fn named_select(
 ) -> Result<Noted<Shown<Select>>, NoMemory>
     ensures { IfOk result (λ x. x ≡ trees.named_select select.now (scope s.now)) }
 {
-    let found = breaks(6, alias_doubled(select.from.as_slice()));
+    let found = breaks(Rule::Duplicates, alias_doubled(select.from.as_slice()));
     let Noted { it, note } = named_from(alloc, select.from.as_slice(), s)?;
     let Framed { items, seen } = it;
     let x = named_over(alloc, select, &seen, items, s)?;
@@ -181,7 +182,7 @@ fn named_keys(
 fn named_key(alloc: Global, key: &Key, list: &[Item], s: &Scope<'_>) -> Result<Noted<Key>, NoMemory>
     ensures { IfOk result (λ x. x ≡ trees.named_key key.now (map (λ i. (out-Item i).alias) list.now) (scope s.now)) }
 {
-    let found = breaks(8, is_alias(list, &key.expr));
+    let found = breaks(Rule::Ambiguity, is_alias(list, &key.expr));
     let x = named_expr(alloc, &key.expr, s)?;
     Ok(Noted {
         it: Key {

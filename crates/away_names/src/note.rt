@@ -3,6 +3,7 @@
 ghost use Rattle.std.specs.Prelude.{◌≡◌};
 ghost use Rattle.away_names.specs.Notes as spec;
 
+use crate::rule::{Rule, lesser};
 use crate::scope::Seen;
 use away_trees::{FromItem, Item, Query, Recursive, Source};
 use away_values::Name;
@@ -16,10 +17,10 @@ pub enum Times {
     Often,
 }
 
-/// The least rule that is broken, 255 for none, and how often the recursive table is named.
+/// The least rule that is broken, if one is, and how often the recursive table is named.
 #[derive(Clone, Copy, Debug, PartialEq, Eq)]
 pub struct Note {
-    pub least: u8,
+    pub least: Option<Rule>,
     pub refers: Times,
 }
 
@@ -84,13 +85,6 @@ pub struct File {
     pub note: Note,
 }
 
-#[tactic(auto, unfolding(crate::specs::Notes::lesser))]
-fn lesser(a: u8, b: u8) -> u8
-    ensures { result ≡ spec.lesser a b }
-{
-    if a <= b { a } else { b }
-}
-
 #[tactic(auto, unfolding(crate::specs::Notes::summed))]
 fn summed(a: Times, b: Times) -> Times
     ensures { result ≡ spec.summed a b }
@@ -110,7 +104,7 @@ pub fn clean() -> Note
     ensures { result ≡ spec.clean }
 {
     Note {
-        least: 255,
+        least: None,
         refers: Times::Never,
     }
 }
@@ -127,11 +121,11 @@ pub fn joined(a: Note, b: Note) -> Note
 
 /// The rule is broken where the test holds.
 #[tactic(auto, unfolding(crate::specs::Notes::breaks))]
-pub fn breaks(rule: u8, test: bool) -> Note
+pub fn breaks(rule: Rule, test: bool) -> Note
     ensures { result ≡ spec.breaks rule test }
 {
     Note {
-        least: if test { rule } else { 255 },
+        least: if test { Some(rule) } else { None },
         refers: Times::Never,
     }
 }

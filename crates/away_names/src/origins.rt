@@ -11,6 +11,7 @@ ghost use Rattle.away_trees.specs.declared.queries.FromItem.{out-FromItem};
 use crate::lookups::{has_double, table_named};
 use crate::note::{Note, Noted, Origin, Part, Shown, Times, breaks, joined};
 use crate::references::{all_written, written};
+use crate::rule::Rule;
 use crate::scope::{Listed, Scope, Seen};
 use away_trees::{FromItem, Query, Source};
 use away_values::{Name, NoMemory};
@@ -45,7 +46,7 @@ fn once_where(recursive: bool) -> Note
     ensures { result ≡ spec.once_where recursive }
 {
     Note {
-        least: 255,
+        least: None,
         refers: if recursive { Times::Once } else { Times::Never },
     }
 }
@@ -70,7 +71,7 @@ fn of_table(alloc: Global, n: &Name, t: Option<&Listed>) -> Result<Noted<Origin>
                 columns: Items::new(alloc),
                 names: Items::new(alloc),
             },
-            note: breaks(9, true),
+            note: breaks(Rule::Tables, true),
         }),
         Some(t) => {
             let columns = copy_names(alloc, t.written.as_slice())?;
@@ -98,6 +99,7 @@ pub fn table(alloc: Global, n: &Name, s: &Scope<'_>) -> Result<Noted<Origin>, No
     })
 }
 
+/// The manual: 7.2.1.2, Table and Column Aliases. A list of columns has to be whole, which is our own choice.
 #[tactic(auto, unfolding(crate::specs::Naming::names_or))]
 pub fn names_or(
     alloc: Global,
@@ -143,7 +145,10 @@ pub fn part_note(s: &Scope<'_>, alias: &Name, columns: &[Name]) -> Note
 {
     joined(
         written(s, alias),
-        joined(all_written(s, columns), breaks(6, has_double(columns))),
+        joined(
+            all_written(s, columns),
+            breaks(Rule::Duplicates, has_double(columns)),
+        ),
     )
 }
 
@@ -161,6 +166,7 @@ pub fn nested<'a>(
     Ok(all)
 }
 
+/// What a subquery sees of its own FROM. The manual: 7.2.1.5, LATERAL Subqueries.
 pub fn before<'a>(lateral: bool, level: &'a Items<Seen>, empty: &'a Items<Seen>) -> &'a Items<Seen>
     ensures { result.now ≡ (if lateral then level.now else empty.now) }
 {
@@ -178,7 +184,7 @@ fn alias_among(n: &Name, items: &[FromItem]) -> bool
     false
 }
 
-/// Whether two items have one alias.
+/// Whether two items have one alias. That is 42712, duplicate_alias.
 #[tactic(auto, unfolding(crate::specs::Lookups::has_double))]
 pub fn alias_doubled(items: &[FromItem]) -> bool
     ensures { result ≡ lookups.has_double (map (λ f. (out-FromItem f).alias) items.now) }

@@ -8,6 +8,7 @@ ghost use Rattle.away_names.specs.Places.{scope};
 use crate::function::function;
 use crate::lookups::{column_named, column_qualified, is_kept, variable_named};
 use crate::note::{Column, Note, Noted, breaks, clean, joined};
+use crate::rule::Rule;
 use crate::scope::{Hit, Scope, Variable};
 use away_trees::Expr;
 use away_values::{Name, NoMemory};
@@ -19,7 +20,7 @@ use std::alloc::Global;
 pub fn written(s: &Scope<'_>, n: &Name) -> Note
     ensures { result ≡ spec.written (scope s.now) n.now }
 {
-    breaks(14, s.in_function && is_kept(n))
+    breaks(Rule::Reserved, s.in_function && is_kept(n))
 }
 
 pub fn all_written(s: &Scope<'_>, names: &[Name]) -> Note
@@ -55,7 +56,7 @@ fn slot_or(alloc: Global, n: &Name, v: Option<&Variable>) -> Result<Noted<Expr>,
         }),
         None => Ok(Noted {
             it: Expr::Named(n.copy(alloc)?),
-            note: breaks(7, true),
+            note: breaks(Rule::Names, true),
         }),
     }
 }
@@ -72,13 +73,14 @@ fn named_by(
     match hit {
         Some(hit) => Ok(Noted {
             it: Expr::Column(hit.column),
-            note: breaks(8, hit.many || v.is_some()),
+            note: breaks(Rule::Ambiguity, hit.many || v.is_some()),
         }),
         None => slot_or(alloc, n, v),
     }
 }
 
 /// What a name alone stands for.
+/// The manual: 43.11.1, Variable Substitution, where a name that may be a variable or a column is an error unless a setting decides.
 #[tactic(auto, unfolding(crate::specs::Naming::named))]
 pub fn named(alloc: Global, n: &Name, s: &Scope<'_>) -> Result<Noted<Expr>, NoMemory>
     ensures { IfOk result (λ x. x ≡ spec.named n.now (scope s.now)) }
@@ -107,12 +109,13 @@ fn qualified_by(
         }),
         None => Ok(Noted {
             it: Expr::Dotted(a.copy(alloc)?, n.copy(alloc)?),
-            note: breaks(7, true),
+            note: breaks(Rule::Names, true),
         }),
     }
 }
 
 /// What an alias with a column's name stands for.
+/// The manual: 4.2.1, Column References. That a label or the function's name qualifies no variable is our own choice.
 #[tactic(auto, unfolding(crate::specs::Naming::qualified))]
 pub fn qualified(alloc: Global, a: &Name, n: &Name, s: &Scope<'_>) -> Result<Noted<Expr>, NoMemory>
     ensures { IfOk result (λ x. x ≡ spec.qualified a.now n.now (scope s.now)) }
@@ -125,9 +128,13 @@ pub fn qualified(alloc: Global, a: &Name, n: &Name, s: &Scope<'_>) -> Result<Not
     })
 }
 
+/// A name that isn't known is 42883, undefined_function.
 #[tactic(auto, unfolding(crate::specs::Naming::called))]
 pub fn call_note(s: &Scope<'_>, name: &Name) -> Note
     ensures { result ≡ spec.called (scope s.now) name.now }
 {
-    joined(written(s, name), breaks(7, function(name).is_none()))
+    joined(
+        written(s, name),
+        breaks(Rule::Names, function(name).is_none()),
+    )
 }

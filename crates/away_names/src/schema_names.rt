@@ -9,6 +9,7 @@ ghost use Rattle.away_names.specs.Schemas as spec;
 
 use crate::lookups::is_kept;
 use crate::note::{Note, breaks, clean, joined};
+use crate::rule::Rule;
 use away_trees::{ColumnSchema, Schema, TableSchema};
 use away_values::{Name, NoMemory};
 use indexmap::IndexSet;
@@ -17,7 +18,7 @@ use std::alloc::Global;
 fn kept(n: &Name) -> Note
     ensures { result ≡ spec.kept n.now }
 {
-    breaks(14, is_kept(n))
+    breaks(Rule::Reserved, is_kept(n))
 }
 
 /// Whether the name stands among those before.
@@ -72,7 +73,7 @@ fn table_note(alloc: Global, t: &TableSchema) -> Result<Note, NoMemory>
     let columns = t.columns.as_slice();
     let doubled = columns_doubled(alloc, columns)?;
     Ok(joined(
-        joined(kept(&t.name), breaks(6, doubled)),
+        joined(kept(&t.name), breaks(Rule::Duplicates, doubled)),
         columns_note(columns),
     ))
 }
@@ -109,5 +110,8 @@ pub fn schema_note(alloc: Global, s: &Schema) -> Result<Note, NoMemory>
 {
     let tables = s.tables.as_slice();
     let doubled = tables_doubled(alloc, tables)?;
-    Ok(joined(breaks(6, doubled), tables_note(alloc, tables)?))
+    Ok(joined(
+        breaks(Rule::Duplicates, doubled),
+        tables_note(alloc, tables)?,
+    ))
 }

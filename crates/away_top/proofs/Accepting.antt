@@ -1,14 +1,10 @@
 -- A run of `check` that is done has accepted its files.
-use Rattle.std.proofs.Common.{◌≡◌, inl, inr, refl, sym, ◌∙◌, subst, ℕ, List, [], ◌∷◌, codes}
+use Rattle.std.proofs.Common.{◌≡◌, inl, inr, refl, sym, ◌∙◌, ap, subst, ℕ, List, codes}
 use Rattle.std.specs.Io.KnownBytes.{Appends}
 use Rattle.away_trees.specs.declared.schemas.Schema.{Schema}
-use Rattle.away_types.specs.CheckedFunctions.{IsChecked}
-use Rattle.away_types.specs.CheckedQueries.{resolved_query}
-use Rattle.away_types.specs.FunctionChecks.{resolved_function, slots_of}
-use Rattle.cert_json.specs.declared.cert.Cert.{Cert}
-use Rattle.equivalence.specs.Accepted.{EquivalentWith}
+use Rattle.cert_json.specs.Forms.{Cert}
+use Rattle.equivalence.specs.Accepted.{AcceptedForms, EquivalentWith}
 use Rattle.stage_check.specs.declared.verdict.Verdict.TheVariants.{Accepted, Fails}
-use Rattle.stage_check.specs.Verdicts.{AllHold, all_relations, between}
 use Rattle.away_top.specs.declared.host.Files.{Ghosts as Files}
 use Rattle.away_top.specs.declared.host.Sink.{Ghosts as Sink}
 use Rattle.away_top.specs.declared.status.Status.{Status}
@@ -17,17 +13,16 @@ use Rattle.away_top.specs.Acceptance.{Accepts, IsAccepted}
 use Rattle.away_top.specs.Answer.{Delivers}
 use Rattle.away_top.specs.Certificates.{IsCert, RefusesCert, cert_course}
 use Rattle.away_top.specs.CheckCourse.{IsJudgedSo, check_course, with_function, with_query, with_schema}
-use Rattle.away_top.specs.Commands.{course, other_command}
+use Rattle.away_top.specs.Commands.{command_of, course, course_of}
 use Rattle.away_top.specs.Course.{ends}
-use Rattle.away_top.specs.Files.{Callable, callable_of, function_course, schema_course}
+use Rattle.away_top.specs.Files.{Asked, Callable, asked_of, callable_of, function_course, query_course, schema_course}
 use Rattle.away_top.specs.Lines.{line}
-use Rattle.away_top.specs.QueryAnswers.{AreBytesOf, Held, IsAnswer}
-use Rattle.away_top.specs.Refusals.{IsFunction, RefusesFunction, RefusesQuery, RefusesSchema}
+use Rattle.away_top.specs.RunAnswers.{AreBytesOf, Held, IsAnswer}
+use Rattle.away_top.specs.Refusals.{IsFunction}
 use Rattle.away_top.specs.Runs.{End, wants_memory, ended, goes_on, Follows}
-use Rattle.away_top.specs.SqlCourse.{Asked, asked_of, query_course}
-use Rattle.away_top.proofs.Answering.{before, query_read, schema_read}
-use Rattle.away_top.proofs.AnsweringCalls.{function_read}
 use Rattle.away_top.proofs.Parts.{gone, keeps, silent_refusal}
+use Rattle.away_top.proofs.Reading.{before, function_read, query_read, schema_read, silent_function, silent_query, silent_schema}
+use Rattle.away_top.proofs.Words.{asks_check}
 
 record CertRead (held : Held) (name : List ℕ) (c : Cert) : Type 0 where
   pub bytes : List ℕ
@@ -37,7 +32,7 @@ record CertRead (held : Held) (name : List ℕ) (c : Cert) : Type 0 where
 
 -- what a verdict of acceptance says
 record Good (s : Schema) (f : Callable) (q : Asked) (c : Cert) (output : List ℕ) : Type 0 where
-  pub holds : AllHold (between s f.function f.slots c q.query) all_relations
+  pub holds : AcceptedForms s f.function f.slots c q.query
   pub equivalent : EquivalentWith s f.function f.slots q.query
   pub output_is : output ≡ line (codes "accepted")
 
@@ -58,19 +53,17 @@ module _ {D : Type 0} (F : Files D) where
       → Follows F old (check_course schema func query cert) new (ended status output) → IsAccepted (F.held old) schema func query cert × (output ≡ line (codes "accepted"))
   accepted old new schema func query cert status output done h =
       let late = subst IsAnswer (sym done) tt in
-      let s = gone F old new (schema_course schema) (λ s. with_schema s func query cert) (ended status output) late (λ bytes. (silent_refusal schema (RefusesSchema bytes), λ w. tt)) h in
+      let s = gone F old new (schema_course schema) (λ s. with_schema s func query cert) (ended status output) late (silent_schema schema) h in
       let read = schema_read F old s.middle schema s.given s.first in
       let kept = keeps F old s.middle (schema_course schema) (goes_on s.given) s.first in
       let tables = read.tables.schema in
       let from_schema = subst (λ s'. Follows F s.middle (with_schema s' func query cert) new (ended status output)) read.is s.rest in
-      let f = gone F s.middle new (function_course tables func) (λ f. with_function tables f query cert) (ended status output) late
-      (λ bytes. (silent_refusal func (RefusesFunction tables bytes), λ w. tt)) from_schema in
+      let f = gone F s.middle new (function_course tables func) (λ f. with_function tables f query cert) (ended status output) late (silent_function tables func) from_schema in
       let judged = function_read F s.middle f.middle tables func f.given f.first in
       let kept_f = keeps F s.middle f.middle (function_course tables func) (goes_on f.given) f.first in
       let called = callable_of tables judged.called.written in
       let from_function = subst (λ f'. Follows F f.middle (with_function tables f' query cert) new (ended status output)) judged.is f.rest in
-      let q = gone F f.middle new (query_course tables query) (λ q. with_query tables called q cert) (ended status output) late
-      (λ bytes. (silent_refusal query (RefusesQuery tables bytes), λ w. tt)) from_function in
+      let q = gone F f.middle new (query_course tables query) (λ q. with_query tables called q cert) (ended status output) late (silent_query tables query) from_function in
       let asked = query_read F f.middle q.middle tables query q.given q.first in
       let kept_q = keeps F f.middle q.middle (query_course tables query) (goes_on q.given) q.first in
       let question = asked_of tables asked.asked.written in
@@ -99,11 +92,6 @@ module _ {D : Type 0} (F : Files D) where
         all.output_is,
       )
 
-of_check : {D : Type 0} (F : Files D) (old new : D) (schema func query cert text : List ℕ) (end : End ⊥)
-    → Follows F old (course (codes "check" ∷ schema ∷ func ∷ query ∷ cert ∷ []) text) new end → Follows F old (check_course schema func query cert) new end
-unfolding other_command
-of_check F old new schema func query cert text end h = h
-
 module _ {D K : Type 0} (F : Files D) (S : Sink K) (old new : D) (before after : K) (result : Status) where
   pub accepts : (words : List (List ℕ)) (text : List ℕ) (end : End ⊥) → Follows F old (course words text) new end → Delivers S before after result end → result ≡ Done
       → Accepts (F.held old) (S.written before) (S.written after) words
@@ -111,6 +99,6 @@ module _ {D K : Type 0} (F : Files D) (S : Sink K) (old new : D) (before after :
   accepts words text (goes_on never) h d done = absurd never
   accepts words text (ended status output) h (inr broken) done = absurd (let wrong : WriteFault ≡ Done = sym broken.status_is ∙ done in cc)
   accepts words text (ended status output) h (inl whole) done = λ schema func query cert is.
-      let follows = of_check F old new schema func query cert text (ended status output) (subst (λ ws. Follows F old (course ws text) new (ended status output)) is h) in
+      let follows = subst (λ c. Follows F old (course_of c text) new (ended status output)) (ap command_of is ∙ asks_check schema func query cert) h in
       let found = accepted F old new schema func query cert status output (sym whole.status_is ∙ done) follows in
       (found.0, subst (λ o. Appends (S.written before) (S.written after) o) found.1 whole.written)

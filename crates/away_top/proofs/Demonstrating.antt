@@ -1,5 +1,5 @@
 -- A run of `demo` reads no file, and tells of its case where it is done.
-use Rattle.std.proofs.Common.{◌≡◌, ◌∙◌, inl, inr, refl, subst, sym, ℕ, List, [], ◌∷◌, codes}
+use Rattle.std.proofs.Common.{◌≡◌, ◌∙◌, inl, inr, refl, ap, subst, sym, ℕ, List}
 use Rattle.std.specs.Prelude.{Option, Some, None}
 use Rattle.away_top.specs.declared.host.Files.{Ghosts as Files}
 use Rattle.away_top.specs.declared.host.Sink.{Ghosts as Sink}
@@ -7,20 +7,10 @@ use Rattle.away_top.specs.declared.status.Status.{Status}
 use Rattle.away_top.specs.declared.status.Status.TheVariants.{Done, NoMemory, Usage, WriteFault}
 use Rattle.away_top.specs.Answer.{Delivers}
 use Rattle.away_top.specs.Arguments.{bound_of}
-use Rattle.away_top.specs.Commands.{NumberEnds, course}
-use Rattle.away_top.specs.Course.{ends}
+use Rattle.away_top.specs.Commands.{command_of, course, course_of}
 use Rattle.away_top.specs.DemoCourse.{IsShown, ShowsCase, ShowsWord}
-use Rattle.away_top.specs.Runs.{End, wants_memory, ended, goes_on, Follows, IsEnd, Runs}
-
--- the run for a number is that of its words
-pub runs_for_number : {D : Type 0} (F : Files D) (old : D) (command number : List ℕ) (end : End ⊥) → ((text : List ℕ) × IsEnd (NumberEnds command number text) end)
-    → Runs F old (course (command ∷ number ∷ [])) old end
-runs_for_number F old command number end (text, is) = record { text = text; follows = record { same = refl; how = is } }
-
-of_demo : {D : Type 0} (F : Files D) (old new : D) (word text : List ℕ) (end : End ⊥) → Follows F old (course (codes "demo" ∷ word ∷ []) text) new end
-    → Follows {A = ⊥} F old (ends (ShowsWord (bound_of word) text)) new end
-unfolding NumberEnds
-of_demo F old new word text end h = h
+use Rattle.away_top.specs.Runs.{End, wants_memory, ended, goes_on, Follows}
+use Rattle.away_top.proofs.Words.{asks_demo}
 
 pub shown_word : (word text : List ℕ) (o : Option ℕ) → bound_of word ≡ o → (status : Status) (output : List ℕ) → status ≡ Done → ShowsWord o text status output → IsShown word output
 shown_word word text None is status output done e = absurd (let wrong : Usage ≡ Done = sym e.0 ∙ done in cc)
@@ -33,5 +23,5 @@ module _ {D K : Type 0} (F : Files D) (S : Sink K) (old new : D) (before after :
   case_shown words text (goes_on never) h d done = absurd never
   case_shown words text (ended status output) h (inr broken) done = absurd (let wrong : WriteFault ≡ Done = sym broken.status_is ∙ done in cc)
   case_shown words text (ended status output) h (inl whole) done = λ word is.
-      let follows = of_demo F old new word text (ended status output) (subst (λ ws. Follows F old (course ws text) new (ended status output)) is h) in
+      let follows = subst (λ c. Follows F old (course_of c text) new (ended status output)) (ap command_of is ∙ asks_demo word) h in
       (output, shown_word word text (bound_of word) refl status output (sym whole.status_is ∙ done) follows.how, whole.written)

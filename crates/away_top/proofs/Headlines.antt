@@ -1,20 +1,19 @@
 -- What was written by a run of `compile` or `certify` that is done.
-use Rattle.std.proofs.Common.{◌≡◌, inl, inr, ℕ, List, [], ◌∷◌, Some, IfSome, refl, subst, sym, ◌∙◌}
-use Rattle.std.specs.declared.option.Option.{Option}
+use Rattle.std.proofs.Common.{◌≡◌, inl, inr, ℕ, List, Some, IfSome, refl, ap, subst, sym, ◌∙◌}
 use Rattle.away_top.specs.declared.compile.Wanted.{Wanted}
-use Rattle.away_top.specs.declared.compile.Wanted.TheVariants.{Query, Certificate}
 use Rattle.away_top.specs.declared.host.Files.{Ghosts as Files}
 use Rattle.away_top.specs.declared.host.Sink.{Ghosts as Sink}
 use Rattle.away_top.specs.declared.status.Status.{Status}
 use Rattle.away_top.specs.declared.status.Status.TheVariants.{Done, NoMemory, Refused, ReadFault, WriteFault}
 use Rattle.away_top.specs.Answer.{Delivers}
-use Rattle.away_top.specs.Commands.{course}
-use Rattle.away_top.specs.CompileCourse.{Compiles, IsWritten, command_of, compile_course}
+use Rattle.away_top.specs.Commands.{command_of, course, course_of}
+use Rattle.away_top.specs.CompileCourse.{Compiles, IsWritten, compile_course}
 use Rattle.away_top.specs.Course.{RefusedBy}
 use Rattle.away_top.specs.Files.{callable_of}
 use Rattle.away_top.specs.Refusals.{IsFunction, IsSchema}
 use Rattle.away_top.specs.Runs.{End, wants_memory, ended, goes_on, Follows, Holds, StopsAt}
 use Rattle.away_top.specs.Translation.{IsTranslation, Translates}
+use Rattle.away_top.proofs.Words.{asks_compile}
 
 pub translation : (wanted : Wanted) (schema func : List ℕ) (s : IsSchema schema) (f : IsFunction s.schema func) (output : List ℕ) → IsWritten wanted s.schema (callable_of s.schema f.written) output
     → IsTranslation wanted schema func output
@@ -37,8 +36,8 @@ module _ {D : Type 0} (F : Files D) where
   no_refusal : (name : List ℕ) (Rules : List ℕ → Type 0) (status : Status) (output : List ℕ) → status ≡ Done → RefusedBy name Rules status output → ⊥
   no_refusal name Rules status output done (rule, is, e) = let wrong : Refused ≡ Done = sym e.0 ∙ done in cc
 
-  same_bytes : (told : Option (List ℕ)) (limit : ℕ) (bytes known : List ℕ) → told ≡ Some known → Holds told limit bytes → bytes ≡ known
-  same_bytes told limit bytes known is holds = subst (λ o. IfSome o (λ h. bytes ≡ h)) is holds.same
+  same_bytes : (now : D) (name : List ℕ) (limit : ℕ) (bytes known : List ℕ) → F.held now name ≡ Some known → Holds F now name limit bytes → bytes ≡ known
+  same_bytes now name limit bytes known is holds = subst (λ o. IfSome o (λ h. bytes ≡ h)) is holds.same
 
   compiled : (wanted : Wanted) (schema func : List ℕ) (s : IsSchema schema) (f : IsFunction s.schema func) (text output : List ℕ) (status : Status)
       → Compiles wanted s.schema (callable_of s.schema f.written) text status output → IsTranslation wanted schema func output
@@ -53,14 +52,9 @@ module _ {D : Type 0} (F : Files D) where
   of_compile wanted old new schema func text tables function output status done told_schema told_function (inr (middle, read, inr (bytes, holds, inr (s, inr (last, reread, inl h))))) = absurd (no_stop middle last func 1048576 status output done h.how)
   of_compile wanted old new schema func text tables function output status done told_schema told_function (inr (middle, read, inr (bytes, holds, inr (s, inr (last, reread, inr (more, held, inl h)))))) = absurd (no_refusal func _ status output done h.how)
   of_compile wanted old new schema func text tables function output status done told_schema told_function (inr (middle, read, inr (bytes, holds, inr (s, inr (last, reread, inr (more, held, inr (f, h))))))) =
-      let schema_is = same_bytes (F.held old schema) 67108864 bytes tables told_schema holds in
-      let function_is = same_bytes (F.held middle func) 1048576 more function (read.kept func function told_function) held in
+      let schema_is = same_bytes old schema 67108864 bytes tables told_schema holds in
+      let function_is = same_bytes middle func 1048576 more function (read.kept func function told_function) held in
       subst (λ b. IsTranslation wanted b function output) schema_is (subst (λ b. IsTranslation wanted bytes b output) function_is (compiled wanted bytes more s f text output status h.how))
-
-of_command : {D : Type 0} (F : Files D) (old new : D) (wanted : Wanted) (schema func text : List ℕ) (end : End ⊥) → Follows F old (course (command_of wanted ∷ schema ∷ func ∷ []) text) new end
-    → Follows F old (compile_course wanted schema func text) new end
-of_command F old new Query schema func text end h = h
-of_command F old new Certificate schema func text end h = h
 
 module _ {D K : Type 0} (F : Files D) (S : Sink K) (old new : D) (before after : K) (result : Status) (wanted : Wanted) where
   pub translated : (words : List (List ℕ)) (text : List ℕ) (end : End ⊥) → Follows F old (course words text) new end → Delivers S before after result end → result ≡ Done
@@ -71,6 +65,6 @@ module _ {D K : Type 0} (F : Files D) (S : Sink K) (old new : D) (before after :
   translated words text (ended status output) h (inl whole) done = λ schema func tables function is told_schema told_function. (
     output,
     of_compile F wanted old new schema func text tables function output status (sym whole.status_is ∙ done) told_schema told_function
-        (of_command F old new wanted schema func text (ended status output) (subst (λ ws. Follows F old (course ws text) new (ended status output)) is h)),
+        (subst (λ c. Follows F old (course_of c text) new (ended status output)) (ap command_of is ∙ asks_compile wanted schema func) h),
     whole.written,
   )

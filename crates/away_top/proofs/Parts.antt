@@ -1,12 +1,12 @@
 -- A run that comes to an answer has gone through each stretch of its course.
-use Rattle.std.proofs.Common.{◌≡◌, inl, inr, refl, sym, subst, ℕ, List}
+use Rattle.std.proofs.Common.{inl, inr, refl, sym, subst, ℕ, List}
 use Rattle.away_top.specs.declared.host.Files.{Ghosts as Files}
 use Rattle.away_top.specs.declared.status.Status.{Status}
-use Rattle.away_top.specs.declared.status.Status.TheVariants.{Refused, ReadFault, Usage}
+use Rattle.away_top.specs.declared.status.Status.TheVariants.{Usage}
 use Rattle.away_top.specs.Course.{Course, and_then, ends, gives, judges, reads, Exactly, RefusedBy}
 use Rattle.away_top.specs.Host.{Keeps}
-use Rattle.away_top.specs.QueryAnswers.{IsAnswer}
-use Rattle.away_top.specs.Runs.{End, wants_memory, ended, goes_on, Follows, Holds, IsEnd, IsRead, ReadsNoMore, StopsAt}
+use Rattle.away_top.specs.RunAnswers.{IsAnswer}
+use Rattle.away_top.specs.Runs.{End, wants_memory, ended, goes_on, Follows, IsEnd, StopsAt}
 
 -- none of these ends tells an answer
 abbrev pub AreSilent : (Status → List ℕ → Type 0) → Type 0

@@ -1,40 +1,40 @@
 -- No command ends by itself in a read fault, in a write fault or for want of memory.
-use Rattle.std.proofs.Common.{◌≡◌, ◌≢◌, inl, inr, ℕ, ◌≤◌, List, [], ◌∷◌, ◌++◌, Bool, true, false, cond, codes, subst, sym, ◌∙◌, arith}
+use Rattle.std.proofs.Common.{◌≡◌, ◌≢◌, inl, inr, ℕ, ◌≤◌, List, [], ◌∷◌, ◌++◌, codes, subst, sym, ◌∙◌, arith}
 use Rattle.std.specs.Prelude.{Option, Some, None, Ok, Err}
-use Rattle.std.specs.Str.{bytes_eq}
 use Rattle.away_values.specs.declared.values.Value.{Value}
-use Rattle.away_values.specs.declared.values.Answer.{Answer}
 use Rattle.away_values.specs.declared.values.Answer.TheVariants as answer
 use Rattle.away_trees.specs.declared.schemas.Schema.{Schema}
 use Rattle.away_trees.specs.declared.schemas.TableSchema.{TableSchema}
 use Rattle.away_top.specs.declared.compile.Wanted.{Wanted}
-use Rattle.away_top.specs.declared.compile.Wanted.TheVariants.{Query, Certificate}
+use Rattle.away_top.specs.declared.over_tables.program.Runnable.{Runnable}
+use Rattle.away_top.specs.declared.over_tables.program.Runnable.TheVariants as run
 use Rattle.away_top.specs.declared.host.Files.{Ghosts as Files}
 use Rattle.away_top.specs.declared.status.Status.{Status}
 use Rattle.away_top.specs.declared.status.Status.TheVariants.{Done, Refused, Usage, ReadFault, WriteFault, NoMemory, More, Fault, NotAccepted, Shape}
 use Rattle.csv_tables.specs.Files.{Or, rows_in}
 use Rattle.sql_meaning.specs.Context.{Rows}
-use Rattle.sql_meaning.specs.Working.{sql}
-use Rattle.plsql_meaning.specs.Equivalent.{answers}
-use Rattle.plsql_run.specs.Settings.{not_nulls}
+use Rattle.sql_eval.specs.declared.rows_answer.RowsAnswer.TheVariants as rows
+use Rattle.away_top.specs.declared.over_tables.program.Reply.{Reply}
+use Rattle.away_top.specs.declared.over_tables.program.Reply.TheVariants as reply
 use Rattle.away_top.specs.AnswerLines.{answer_end, value_line}
-use Rattle.away_top.specs.Arguments.{bound_of, values_for, values_of}
-use Rattle.away_top.specs.Commands.{NumberEnds, about_end, choice, command_course, course, either, other_command, usage, without_more}
-use Rattle.cert_json.specs.declared.cert.Cert.{Cert}
+use Rattle.away_top.specs.RowRecords.{records_text, rows_end}
+use Rattle.away_top.specs.Arguments.{bound_of}
+use Rattle.away_top.specs.Commands.{Command, check, command_of, compile, course, course_of, demo, help, no_form, over_tables, version}
+use Rattle.cert_json.specs.Forms.{Cert}
 use Rattle.stage_check.specs.declared.verdict.Verdict.TheVariants.{Accepted, Fails}
 use Rattle.away_top.specs.Certificates.{RefusesCert, cert_course}
-use Rattle.away_top.specs.CheckCourse.{IsJudgedSo, check_course, with_function, with_query, with_schema}
+use Rattle.away_top.specs.CheckCourse.{IsJudgedSo, check_course, with_function, with_query, with_schema as check_schema}
 use Rattle.away_top.specs.CompileCourse.{Compiles, compile_course}
 use Rattle.away_top.specs.Course.{Course, and_then, ends, gives, judges, reads, Exactly, RefusedBy}
 use Rattle.away_top.specs.DemoCourse.{ShowsWord}
-use Rattle.away_top.specs.Files.{Callable, callable_of, function_course, schema_course}
-use Rattle.away_top.specs.FnCourse.{call_at_bound, call_over_schema, called_course, fn_course, with_arguments}
-use Rattle.away_top.specs.SqlCourse.{Asked, Tells, answer_course, asked_course, at_bound, over_schema, query_course, spelled, sql_course}
+use Rattle.away_top.specs.Files.{Asked, Callable, callable_of, function_course, query_course, schema_course}
+use Rattle.away_top.specs.Programs.{Program, arguments_of, program_course, reply_of}
+use Rattle.away_top.specs.RunCourse.{Tells, run_course, spelled, with_bound, with_program, with_schema, with_values}
 use Rattle.away_top.specs.TableFiles.{IsTableRule, holding, table_course, table_file, tables_behind, tables_course}
 use Rattle.away_top.specs.Help.{help_text, version_text}
 use Rattle.away_top.specs.Lines.{line}
 use Rattle.away_top.specs.Host.{Rose}
-use Rattle.away_top.specs.Refusals.{RefusesFunction, RefusesQuery, RefusesSchema}
+use Rattle.away_top.specs.Refusals.{RefusesFunction, RefusesQuery, RefusesRowQuery, RefusesSchema}
 use Rattle.away_top.specs.Runs.{ended, Follows}
 
 -- a status that a command ends with by itself
@@ -103,26 +103,10 @@ plain_refusal name Rules status output (rule, is, e) = subst IsPlain (sym e.0) t
 plain_compiled : (wanted : Wanted) (s : Schema) (f : Callable) (text : List ℕ) → ArePlain (Compiles wanted s f text)
 plain_compiled wanted s f text status output (is, e) = subst IsPlain (sym e.0) tt
 
-plain_choice : (b : Bool) (left right : List ℕ → Course ⊥) (text : List ℕ) → IsPlainCourse (left text) → IsPlainCourse (right text) → IsPlainCourse (choice b left right text)
-plain_choice true left right text p q = p
-plain_choice false left right text p q = q
-
-plain_pair : (b : Bool) (left right : Status × List ℕ) → IsPlain left.0 → IsPlain right.0 → IsPlain (cond b left right).0
-plain_pair true left right p q = p
-plain_pair false left right p q = q
-
-plain_about : (word : List ℕ) → IsPlain (about_end word).0
-plain_about word = plain_pair (bytes_eq word (codes "--help")) (Done, help_text) _ tt (plain_pair (bytes_eq word (codes "--version")) (Done, version_text) (Usage, line (codes "usage")) tt tt)
-
 plain_compile : (wanted : Wanted) (schema func text : List ℕ) → IsPlainCourse (compile_course wanted schema func text)
 plain_compile wanted schema func text = λ bytes. (plain_refusal schema (RefusesSchema bytes), λ s more. (plain_refusal func (RefusesFunction s.schema more), λ f. plain_compiled wanted s.schema (callable_of s.schema f.written) text))
 
-plain_command : (command schema func text : List ℕ) → IsPlainCourse (command_course command schema func text)
-plain_command command schema func text =
-    plain_choice (bytes_eq command (codes "compile")) (compile_course Query schema func) (choice (bytes_eq command (codes "certify")) (compile_course Certificate schema func) (λ text. usage)) text (plain_compile Query schema func text)
-    (plain_choice (bytes_eq command (codes "certify")) (compile_course Certificate schema func) (λ text. usage) text (plain_compile Certificate schema func text) (plain_end Usage (line (codes "usage")) tt))
-
--- ---- a query over tables
+-- ---- what is run over tables
 
 plain_then : {A B : Type 0} (c : Course A) (next : A → Course B) → IsPlainCourse c → ((a : A) → IsPlainCourse (next a)) → IsPlainCourse (and_then c next)
 plain_then (gives a) next plain rest = rest a
@@ -143,47 +127,32 @@ plain_tables dir done [] = tt
 plain_tables dir done (t ∷ left) =
     plain_then (table_course dir t) (λ rows. tables_behind dir (done ++ rows ∷ []) left) (λ bytes. plain_holding (table_file dir t.name) (rows_in t bytes)) (λ rows. plain_tables dir (done ++ rows ∷ []) left)
 
-plain_told : (a : Answer) → ArePlain (Tells a)
-plain_told (answer.Value v) = plain_end Done (value_line v) tt
-plain_told (answer.Fault c) = plain_end Fault (answer_end (answer.Fault c)).1 tt
-plain_told answer.More = plain_end More (answer_end answer.More).1 tt
-plain_told (answer.Shape n) = plain_end Shape (answer_end (answer.Shape n)).1 tt
+plain_told : (r : Reply) → ArePlain (Tells r)
+plain_told (reply.Answer (answer.Value v)) = plain_end Done (value_line v) tt
+plain_told (reply.Answer (answer.Fault c)) = plain_end Fault (answer_end (answer.Fault c)).1 tt
+plain_told (reply.Answer answer.More) = plain_end More (answer_end answer.More).1 tt
+plain_told (reply.Answer (answer.Shape n)) = plain_end Shape (answer_end (answer.Shape n)).1 tt
+plain_told (reply.Rows (rows.Rows found)) = plain_end Done (records_text found) tt
+plain_told (reply.Rows (rows.Fault c)) = plain_end Fault (rows_end (rows.Fault c)).1 tt
+plain_told (reply.Rows rows.More) = plain_end More (rows_end rows.More).1 tt
 
-plain_answer : (bound : ℕ) (s : Schema) (q : Asked) (dir : List ℕ) (values : List Value) → IsPlainCourse (answer_course bound s q dir values)
-plain_answer bound s q dir values =
-    plain_then (tables_course dir s.tables) (λ tables. ends (Tells (sql q.query tables values bound))) (plain_tables dir [] s.tables) (λ tables. plain_told (sql q.query tables values bound))
+plain_program : (what : Runnable) (s : Schema) (name : List ℕ) → IsPlainCourse (program_course what s name)
+plain_program run.Query s name = λ bytes. (plain_refusal name (RefusesQuery s bytes), λ q. tt)
+plain_program run.Rows s name = λ bytes. (plain_refusal name (RefusesRowQuery s bytes), λ q. tt)
+plain_program run.Function s name = λ bytes. (plain_refusal name (RefusesFunction s bytes), λ f. tt)
 
-plain_asked : (bound : ℕ) (s : Schema) (q : Asked) (dir : List ℕ) (args : List (List ℕ)) → IsPlainCourse (asked_course bound s q dir args)
-plain_asked bound s q dir args = plain_then (spelled (values_of q.params args)) (answer_course bound s q dir) (plain_spelled (values_of q.params args)) (plain_answer bound s q dir)
+plain_values : (bound : ℕ) (s : Schema) (p : Program) (dir : List ℕ) (values : List Value) → IsPlainCourse (with_values bound s p dir values)
+plain_values bound s p dir values =
+    plain_then (tables_course dir s.tables) (λ tables. ends (Tells (reply_of p tables values bound))) (plain_tables dir [] s.tables) (λ tables. plain_told (reply_of p tables values bound))
 
-plain_over : (bound : ℕ) (s : Schema) (query dir : List ℕ) (args : List (List ℕ)) → IsPlainCourse (over_schema bound s query dir args)
-plain_over bound s query dir args =
-    plain_then (query_course s query) (λ q. asked_course bound s q dir args) (λ bytes. (plain_refusal query (RefusesQuery s bytes), λ q. tt)) (λ q. plain_asked bound s q dir args)
+plain_arguments : (bound : ℕ) (s : Schema) (dir : List ℕ) (args : List (List ℕ)) (p : Program) → IsPlainCourse (with_program bound s dir args p)
+plain_arguments bound s dir args p = plain_then (spelled (arguments_of p args)) (with_values bound s p dir) (plain_spelled (arguments_of p args)) (plain_values bound s p dir)
 
-plain_sql : (bound schema query dir : List ℕ) (args : List (List ℕ)) → IsPlainCourse (sql_course bound schema query dir args)
-plain_sql bound schema query dir args =
-    plain_then (spelled (bound_of bound)) (at_bound schema query dir args) (plain_spelled (bound_of bound))
-    (λ n. plain_then (schema_course schema) (λ s. over_schema n s query dir args) (λ bytes. (plain_refusal schema (RefusesSchema bytes), λ s. tt)) (λ s. plain_over n s query dir args))
-
--- ---- a function over tables
-
-plain_called : (bound : ℕ) (s : Schema) (f : Callable) (dir : List ℕ) (values : List Value) → IsPlainCourse (called_course bound s f dir values)
-plain_called bound s f dir values =
-    plain_then (tables_course dir s.tables) (λ tables. ends (Tells (answers f.function (not_nulls f.slots) tables values bound))) (plain_tables dir [] s.tables)
-    (λ tables. plain_told (answers f.function (not_nulls f.slots) tables values bound))
-
-plain_arguments : (bound : ℕ) (s : Schema) (f : Callable) (dir : List ℕ) (args : List (List ℕ)) → IsPlainCourse (with_arguments bound s f dir args)
-plain_arguments bound s f dir args =
-    plain_then (spelled (values_for f.function.params args)) (called_course bound s f dir) (plain_spelled (values_for f.function.params args)) (plain_called bound s f dir)
-
-plain_call : (bound : ℕ) (s : Schema) (func dir : List ℕ) (args : List (List ℕ)) → IsPlainCourse (call_over_schema bound s func dir args)
-plain_call bound s func dir args =
-    plain_then (function_course s func) (λ f. with_arguments bound s f dir args) (λ bytes. (plain_refusal func (RefusesFunction s bytes), λ f. tt)) (λ f. plain_arguments bound s f dir args)
-
-plain_fn : (bound schema func dir : List ℕ) (args : List (List ℕ)) → IsPlainCourse (fn_course bound schema func dir args)
-plain_fn bound schema func dir args =
-    plain_then (spelled (bound_of bound)) (call_at_bound schema func dir args) (plain_spelled (bound_of bound))
-    (λ n. plain_then (schema_course schema) (λ s. call_over_schema n s func dir args) (λ bytes. (plain_refusal schema (RefusesSchema bytes), λ s. tt)) (λ s. plain_call n s func dir args))
+plain_run : (what : Runnable) (bound schema file dir : List ℕ) (args : List (List ℕ)) → IsPlainCourse (run_course what bound schema file dir args)
+plain_run what bound schema file dir args =
+    plain_then (spelled (bound_of bound)) (with_bound what schema file dir args) (plain_spelled (bound_of bound))
+    (λ n. plain_then (schema_course schema) (with_schema what file dir args n) (λ bytes. (plain_refusal schema (RefusesSchema bytes), λ s. tt))
+    (λ s. plain_then (program_course what s file) (with_program n s dir args) (plain_program what s file) (plain_arguments n s dir args)))
 
 -- ---- a certificate
 
@@ -197,17 +166,13 @@ plain_cert s f q cert = plain_then {A = Cert} {B = ⊥} (cert_course cert) (λ c
 plain_judged : (s : Schema) (f : Callable) (query cert : List ℕ) → IsPlainCourse (with_function s f query cert)
 plain_judged s f query cert = plain_then {A = Asked} {B = ⊥} (query_course s query) (λ q. with_query s f q cert) (λ bytes. (plain_refusal query (RefusesQuery s bytes), λ q. tt)) (λ q. plain_cert s f q cert)
 
-plain_forms : (s : Schema) (func query cert : List ℕ) → IsPlainCourse (with_schema s func query cert)
+plain_forms : (s : Schema) (func query cert : List ℕ) → IsPlainCourse (check_schema s func query cert)
 plain_forms s func query cert =
     plain_then {A = Callable} {B = ⊥} (function_course s func) (λ f. with_function s f query cert) (λ bytes. (plain_refusal func (RefusesFunction s bytes), λ f. tt)) (λ f. plain_judged s f query cert)
 
 plain_check : (schema func query cert : List ℕ) → IsPlainCourse (check_course schema func query cert)
 plain_check schema func query cert =
-    plain_then {A = Schema} {B = ⊥} (schema_course schema) (λ s. with_schema s func query cert) (λ bytes. (plain_refusal schema (RefusesSchema bytes), λ s. tt)) (λ s. plain_forms s func query cert)
-
-plain_alone : (args : List (List ℕ)) (c : Course ⊥) → IsPlainCourse c → IsPlainCourse (without_more args c)
-plain_alone [] c p = p
-plain_alone (word ∷ words) c p = plain_end Usage (line (codes "usage")) tt
+    plain_then {A = Schema} {B = ⊥} (schema_course schema) (λ s. check_schema s func query cert) (λ bytes. (plain_refusal schema (RefusesSchema bytes), λ s. tt)) (λ s. plain_forms s func query cert)
 
 -- ---- a case
 
@@ -215,34 +180,16 @@ plain_shown : (o : Option ℕ) (text : List ℕ) → ArePlain (ShowsWord o text)
 plain_shown None text = plain_end Usage (line (codes "usage")) tt
 plain_shown (Some number) text = λ status output shown. subst IsPlain (sym shown.2.0) tt
 
-plain_one : (b : Bool) (E G : Status → List ℕ → Type 0) → ArePlain E → ArePlain G → ArePlain (either b E G)
-plain_one true E G p q = p
-plain_one false E G p q = q
-
-plain_number : (command number text : List ℕ) → ArePlain (NumberEnds command number text)
-unfolding NumberEnds
-plain_number command number text =
-    plain_one (bytes_eq command (codes "demo")) (ShowsWord (bound_of number) text) (Exactly Usage (line (codes "usage"))) (plain_shown (bound_of number) text) (plain_end Usage (line (codes "usage")) tt)
-
 -- ---- all words
 
-plain_either : (b : Bool) (left right : Course ⊥) → IsPlainCourse left → IsPlainCourse right → IsPlainCourse (choice b left right)
-plain_either true left right p q = p
-plain_either false left right p q = q
-
-plain_other : (command schema func query cert : List ℕ) (more : List (List ℕ)) → IsPlainCourse (other_command command schema func query cert more)
-unfolding other_command
-plain_other command schema func query cert more =
-    plain_either (bytes_eq command (codes "check")) (without_more more (check_course schema func query cert)) usage
-    (plain_alone more (check_course schema func query cert) (plain_check schema func query cert)) (plain_end Usage (line (codes "usage")) tt)
+plain_command : (c : Command) (text : List ℕ) → IsPlainCourse (course_of c text)
+plain_command help text = plain_end Done help_text tt
+plain_command version text = plain_end Done version_text tt
+plain_command (compile wanted schema func) text = plain_compile wanted schema func text
+plain_command (check schema func query cert) text = plain_check schema func query cert
+plain_command (demo number) text = plain_shown (bound_of number) text
+plain_command (over_tables what bound schema file dir args) text = plain_run what bound schema file dir args
+plain_command no_form text = plain_end Usage (line (codes "usage")) tt
 
 pub plain_course : (words : List (List ℕ)) (text : List ℕ) → IsPlainCourse (course words text)
-plain_course (word ∷ []) text = plain_end (about_end word).0 (about_end word).1 (plain_about word)
-plain_course (command ∷ number ∷ []) text = plain_number command number text
-plain_course (command ∷ schema ∷ func ∷ []) text = plain_command command schema func text
-plain_course (command ∷ bound ∷ schema ∷ file ∷ dir ∷ args) text =
-    plain_either (bytes_eq command (codes "sql")) (sql_course bound schema file dir args)
-    (choice (bytes_eq command (codes "fn")) (fn_course bound schema file dir args) (other_command command bound schema file dir args)) (plain_sql bound schema file dir args)
-    (plain_either (bytes_eq command (codes "fn")) (fn_course bound schema file dir args) (other_command command bound schema file dir args) (plain_fn bound schema file dir args)
-    (plain_other command bound schema file dir args))
-plain_course _ text = plain_end Usage (line (codes "usage")) tt
+plain_course words text = plain_command (command_of words) text

@@ -5,7 +5,7 @@ use Rattle.cte_prints.specs.Texts.{IsOfTexts}
 use Rattle.away_top.specs.declared.host.Files.{Ghosts as Files}
 use Rattle.away_top.specs.Files.{Callable, function_course}
 use Rattle.away_top.specs.Runs.{goes_on, Follows}
-use Rattle.away_top.proofs.AnsweringCalls.{function_read}
+use Rattle.away_top.proofs.Reading.{function_read}
 
 pub of_texts : {D : Type 0} (F : Files D) (old new : D) (func : List ℕ) (tables : Schema) (f : Callable)
     → Follows F old (function_course tables func) new (goes_on f) → IsOfTexts tables f.function f.slots

@@ -1,11 +1,11 @@
 -- How stretches of a run make the run.
-use Rattle.std.proofs.Common.{◌≡◌, inl, inr, ℕ, List, refl, sym, subst, IfOk, Result, Ok, Err}
+use Rattle.std.proofs.Common.{◌≡◌, inl, inr, ℕ, List, refl, sym, subst, Result, Ok, Err}
 use Rattle.away_top.specs.declared.host.Files.{Ghosts as Files}
 use Rattle.away_top.specs.declared.status.Status.{Status}
 use Rattle.away_top.specs.declared.ending.Halt.{Halt}
 use Rattle.away_top.specs.declared.ending.Halt.TheVariants.{Ended, NoMemory}
 use Rattle.away_top.specs.Course.{Course, and_then, ends, gives, judges, reads}
-use Rattle.away_top.specs.Runs.{End, wants_memory, ended, goes_on, Follows, Holds, IsEnd, IsGiven, IsRead, ReadsNoMore, StopsAt}
+use Rattle.away_top.specs.Runs.{End, wants_memory, goes_on, Follows, Holds, IsRead, StopsAt}
 use Rattle.away_top.specs.Steps.{halt_end, stretch_end, IsHalt, IsJudged}
 
 -- memory may be wanting before anything else
@@ -23,7 +23,7 @@ stops_there F before after name limit next NoMemory read stops = inr (after, rea
 
 -- it goes on with the file's bytes
 pub goes_on_there : {D A : Type 0} (F : Files D) (before middle after : D) (name : List ℕ) (limit : ℕ) (next : List ℕ → Course A) (bytes : List ℕ) (end : End A)
-    → IsRead F before name middle → Holds (F.held before name) limit bytes → Follows F middle (next bytes) after end → Follows F before (reads name limit next) after end
+    → IsRead F before name middle → Holds F before name limit bytes → Follows F middle (next bytes) after end → Follows F before (reads name limit next) after end
 goes_on_there F before middle after name limit next bytes end read holds rest = inr (middle, read, inr (bytes, holds, rest))
 
 -- where a first stretch ends the run, it is the run

@@ -1,9 +1,9 @@
 -- How the tables of a folder grow by one file.
-use Rattle.std.proofs.Common.{◌≡◌, ◌≢◌, refl, sym, ◌∙◌, ap, subst, inl, inr, ℕ, ◌+◌, ◌<◌, ◌≤◌, get_or, drop, List, [], ◌∷◌, ◌++◌, length, map}
-use Rattle.std.specs.Prelude.{Ok, Err}
+use Rattle.std.proofs.Common.{◌≡◌, ◌≢◌, refl, sym, ◌∙◌, ap, subst, ℕ, ◌+◌, ◌<◌, ◌≤◌, get_or, drop, List, [], ◌∷◌, ◌++◌, length}
+use Rattle.std.specs.Prelude.{Ok}
 use Rattle.away_values.specs.declared.values.Table.{Table}
 use Rattle.away_trees.specs.declared.schemas.TableSchema.{TableSchema}
-use Rattle.csv_tables.specs.Files.{Or, Refuses, rows_in}
+use Rattle.csv_tables.specs.Files.{Refuses, rows_in}
 use Rattle.csv_tables.specs.declared.refusal.TableRefusal.{TableRefusal}
 use Rattle.csv_tables.specs.declared.refusal.TableRefusal.TheVariants as refusal
 use Rattle.sql_meaning.specs.AtBound.{rows_of_tables}
@@ -28,7 +28,7 @@ no_want (refusal.NullCell row column) rule is same = cc
 no_want refusal.NoMemory rule is same = is
 
 module _ {D : Type 0} (F : Files D) (before middle : D) (dir file : List ℕ) (t : TableSchema) (bytes : List ℕ)
-    (file_is : file ≡ table_file dir t.name) (read : IsRead F before file middle) (holds : Holds (F.held before file) 67108864 bytes) where
+    (file_is : file ≡ table_file dir t.name) (read : IsRead F before file middle) (holds : Holds F before file 67108864 bytes) where
   there : (end : End Rows) → Follows F middle (holding file (rows_in t bytes)) middle end → Follows F before (table_course dir t) middle end
   there end h =
       subst (λ f. Follows F before (Course.reads f 67108864 (λ bytes. holding f (rows_in t bytes))) middle end) file_is

@@ -4,11 +4,10 @@ use Rattle.std.specs.declared.option.Option.{Option}
 use Rattle.std.specs.Io.KnownBytes.{Appends}
 use Rattle.away_types.specs.CheckedQueries.{resolved_query}
 use Rattle.away_types.specs.FunctionChecks.{resolved_function, slots_of}
-use Rattle.equivalence.specs.Accepted.{EquivalentWith}
-use Rattle.stage_check.specs.Verdicts.{AllHold, all_relations, between}
+use Rattle.equivalence.specs.Accepted.{AcceptedForms, EquivalentWith}
 use Rattle.away_top.specs.Certificates.{IsCert}
 use Rattle.away_top.specs.Lines.{line}
-use Rattle.away_top.specs.QueryAnswers.{AreBytesOf, Held}
+use Rattle.away_top.specs.RunAnswers.{AreBytesOf, Held}
 use Rattle.away_top.specs.Refusals.{IsFunction, IsQuery, IsSchema}
 
 -- The forms of the certificate that its file reads as stand between the function that its file reads as and the query that its file reads as, over the
@@ -26,9 +25,8 @@ pub record IsAccepted (held : Held) (schema func query cert : List ℕ) : Type 0
   pub cert_bytes : List ℕ
   pub holds_cert : AreBytesOf held cert cert_bytes
   pub certificate : IsCert cert_bytes
-  pub accepted : AllHold
-      (between tables.schema (resolved_function tables.schema function.written) (slots_of tables.schema function.written) certificate.cert
-      (resolved_query tables.schema asked.written)) all_relations
+  pub accepted : AcceptedForms tables.schema (resolved_function tables.schema function.written) (slots_of tables.schema function.written)
+      certificate.cert (resolved_query tables.schema asked.written)
   pub equivalent : EquivalentWith tables.schema (resolved_function tables.schema function.written) (slots_of tables.schema function.written)
       (resolved_query tables.schema asked.written)
 

@@ -1,6 +1,6 @@
 -- What the file of a certificate reads as, and which rules it is refused by.
 use Rattle.std.specs.Prelude.{◌≡◌, ℕ, List, ◌++◌, codes}
-use Rattle.cert_json.specs.declared.cert.Cert.{Cert}
+use Rattle.cert_json.specs.Forms.{Cert}
 use Rattle.cert_json.specs.declared.cert.CertField.{CertField}
 use Rattle.cert_json.specs.declared.cert.CertField.TheVariants.{GotoEntry, GotoEnd, GotoNodes, GotoBlocks, SsaNames, SsaBlocks, AnfBlocks, Labels, Columns, Places}
 use Rattle.cert_json.specs.declared.cert.CertRefusal.{CertRefusal}

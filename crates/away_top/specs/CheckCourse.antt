@@ -4,20 +4,19 @@ use Rattle.std.specs.Fmt.{decimal}
 use Rattle.away_trees.specs.declared.schemas.Schema.{Schema}
 use Rattle.away_trees.specs.declared.statements.Function.{Function}
 use Rattle.away_types.specs.CheckedFunctions.{IsChecked}
-use Rattle.cert_json.specs.declared.cert.Cert.{Cert}
+use Rattle.cert_json.specs.Forms.{Cert}
 use Rattle.equivalence.specs.Accepted.{EquivalentWith}
-use Rattle.stage_check.specs.declared.verdict.Relation.{Relation}
-use Rattle.stage_check.specs.declared.verdict.Relation.TheVariants.{Lowered, Named, Called, Merged, Columned, Templated}
+use Rattle.equivalence.specs.declared.relation.Relation.{Relation}
+use Rattle.equivalence.specs.declared.relation.Relation.TheVariants.{Lowered, Named, Called, Merged, Columned, Templated}
 use Rattle.stage_check.specs.declared.verdict.Verdict.{Verdict}
 use Rattle.stage_check.specs.declared.verdict.Verdict.TheVariants.{Accepted, Fails}
-use Rattle.stage_check.specs.Verdicts.{Judges, between}
+use Rattle.stage_check.specs.Verdicts.{Judges}
 use Rattle.away_top.specs.declared.status.Status.{Status}
 use Rattle.away_top.specs.declared.status.Status.TheVariants.{Done, NotAccepted}
 use Rattle.away_top.specs.Certificates.{cert_course}
 use Rattle.away_top.specs.Course.{Course, and_then, ends, Exactly}
-use Rattle.away_top.specs.Files.{Callable, function_course, schema_course}
+use Rattle.away_top.specs.Files.{Asked, Callable, function_course, query_course, schema_course}
 use Rattle.away_top.specs.Lines.{line}
-use Rattle.away_top.specs.SqlCourse.{Asked, query_course}
 
 -- the number of the stage that a relation belongs to
 abbrev pub stage_number : Relation → ℕ
@@ -47,7 +46,7 @@ Promises s f q (Fails r) = Unit {0}
 
 -- the verdict on these forms, and what it promises
 pub record IsVerdict (s : Schema) (f : Callable) (q : Asked) (c : Cert) (v : Verdict) : Type 0 where
-  pub judges : Judges (between s f.function f.slots c q.query) v
+  pub judges : Judges s f.function f.slots c q.query v
   pub promises : Promises s f q v
 
 -- the end of a run with the verdict on these forms

@@ -7,7 +7,7 @@ use Rattle.away_types.specs.CheckedFunctions.{IsChecked}
 use Rattle.away_types.specs.CheckedQueries.{resolved_query}
 use Rattle.cert_json.specs.Certificates.{Reads}
 use Rattle.cert_json.specs.Lines.{IsLine}
-use Rattle.cert_json.specs.declared.cert.Cert.{Cert}
+use Rattle.cert_json.specs.Forms.{Cert}
 use Rattle.compiling.specs.Compiled.{IsCompiled}
 use Rattle.equivalence.specs.Accepted.{EquivalentWith}
 use Rattle.away_top.specs.declared.compile.Wanted.{Wanted}
@@ -41,9 +41,9 @@ abbrev pub Compiles : Wanted → Schema → Callable → List ℕ → Status →
 Compiles wanted s f made status output = IsWritten wanted s f made × Exactly Done made status output
 
 -- the command that asks for it
-abbrev pub command_of : Wanted → List ℕ
-command_of Query = codes "compile"
-command_of Certificate = codes "certify"
+abbrev pub word_of : Wanted → List ℕ
+word_of Query = codes "compile"
+word_of Certificate = codes "certify"
 
 abbrev pub compile_course : Wanted → List ℕ → List ℕ → List ℕ → Course ⊥
 compile_course wanted schema func made =

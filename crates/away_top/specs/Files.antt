@@ -1,12 +1,18 @@
--- The files that a run begins with: each is read and judged.
+-- The files of a run: each is read and judged.
 use Rattle.std.specs.Prelude.{ℕ, List}
+use Rattle.away_values.specs.declared.types.Ty.{Ty}
+use Rattle.away_trees.specs.declared.queries.Query.{Query}
 use Rattle.away_trees.specs.declared.schemas.Schema.{Schema}
 use Rattle.away_trees.specs.declared.statements.Function.{Function}
 use Rattle.away_types.specs.declared.checked_function.CheckedFunction.{CheckedFunction}
+use Rattle.away_types.specs.declared.checked_query.CheckedQuery.{CheckedQuery}
+use Rattle.away_types.specs.declared.checked_rows.CheckedRows.{CheckedRows}
 use Rattle.away_types.specs.declared.slots.Slot.{Slot}
+use Rattle.away_types.specs.CheckedQueries.{judged_query, resolved_query}
+use Rattle.away_types.specs.CheckedRows.{rows_judged}
 use Rattle.away_types.specs.FunctionChecks.{resolved_function, slots_of}
 use Rattle.away_top.specs.Course.{Course, gives, judges, reads, RefusedBy}
-use Rattle.away_top.specs.Refusals.{IsFunction, IsSchema, RefusesFunction, RefusesSchema}
+use Rattle.away_top.specs.Refusals.{IsFunction, IsQuery, IsRowQuery, IsSchema, RefusesFunction, RefusesQuery, RefusesRowQuery, RefusesSchema}
 
 -- a schema's file is read and judged
 abbrev pub schema_course : List ℕ → Course Schema
@@ -31,3 +37,32 @@ function_course schema name =
     reads name 1048576
     (λ bytes. judges (RefusedBy name (RefusesFunction schema bytes)) (IsFunction schema bytes)
     (λ f. gives (callable_of schema f.written)))
+
+-- a query whose names are resolved, and its parameters
+pub record Asked : Type 0 where
+  pub query : Query
+  pub params : List (ℕ × Ty)
+
+abbrev pub as_asked : CheckedQuery → Asked
+as_asked c = record { query = c.query; params = c.params }
+
+abbrev pub asked_of : Schema → Query → Asked
+asked_of schema written = record { query = resolved_query schema written; params = (judged_query schema written).params }
+
+-- a query's file is read and judged over the tables of the schema, and its names are resolved
+abbrev pub query_course : Schema → List ℕ → Course Asked
+query_course schema name =
+    reads name 67108864
+    (λ bytes. judges (RefusedBy name (RefusesQuery schema bytes)) (IsQuery schema bytes) (λ q. gives (asked_of schema q.written)))
+
+-- the same, for all of its rows
+abbrev pub as_row_query : CheckedRows → Asked
+as_row_query c = record { query = c.query; params = c.params }
+
+abbrev pub row_query_of : Schema → Query → Asked
+row_query_of schema written = record { query = resolved_query schema written; params = (rows_judged schema written).params }
+
+abbrev pub row_query_course : Schema → List ℕ → Course Asked
+row_query_course schema name =
+    reads name 67108864
+    (λ bytes. judges (RefusedBy name (RefusesRowQuery schema bytes)) (IsRowQuery schema bytes) (λ q. gives (row_query_of schema q.written)))

@@ -1,48 +1,83 @@
--- What `compile`, `certify`, `check`, `demo`, `sql` and `fn` answer over files and a sink in memory that are to meet no failure.
+-- What a call answers over files and a sink in memory that are to meet no failure.
 use Rattle.std.specs.Prelude.{◌≡◌, ◌⊎◌, ℕ, ◌≤◌, List, [], ◌∷◌, ◌++◌, length, codes, Ok, Some, IsSome}
 use Rattle.std.specs.List.{AllByRecursion}
+use Rattle.away_trees.specs.declared.schemas.Schema.{Schema}
 use Rattle.away_trees.specs.declared.schemas.TableSchema.{TableSchema}
 use Rattle.away_top.specs.declared.status.Status.{Status}
-use Rattle.away_top.specs.declared.status.Status.TheVariants.{Done, NoMemory}
+use Rattle.away_top.specs.declared.status.Status.TheVariants.{Done, NoMemory, ReadFault}
 use Rattle.away_top.specs.MemoryFiles.{HeldFiles, held_at}
 use Rattle.away_top.specs.MemorySink.{RoomySink}
-use Rattle.away_types.specs.CheckedQueries.{judged_query}
 use Rattle.csv_tables.specs.Files.{rows_in}
 use Rattle.sql_meaning.specs.Context.{Rows}
 use Rattle.away_top.specs.declared.compile.Wanted.{Wanted}
-use Rattle.away_top.specs.CompileCourse.{command_of}
+use Rattle.away_top.specs.declared.over_tables.program.Runnable.{Runnable}
+use Rattle.away_top.specs.Commands.{course}
+use Rattle.away_top.specs.CompileCourse.{word_of}
 use Rattle.stage_check.specs.declared.verdict.Verdict.{Verdict}
-use Rattle.away_top.specs.Arguments.{bound_of, values_for, values_of}
-use Rattle.away_top.specs.Certificates.{IsCert, RefusesCert}
+use Rattle.away_top.specs.Arguments.{bound_of}
+use Rattle.away_top.specs.Certificates.{IsCert}
 use Rattle.away_top.specs.CheckCourse.{IsVerdict, verdict_line, verdict_status}
+use Rattle.away_top.specs.Course.{Course, gives, ends, judges, reads, Outcome}
 use Rattle.away_top.specs.DemoCourse.{IsShown}
-use Rattle.away_top.specs.Files.{callable_of}
-use Rattle.away_top.specs.FunctionAnswers.{IsCalled}
-use Rattle.away_top.specs.QueryAnswers.{Held, IsAnswer, IsAnswered}
-use Rattle.away_top.specs.Refusals.{IsFunction, IsQuery, IsSchema, RefusesFunction, RefusesQuery, RefusesSchema}
-use Rattle.away_top.specs.SqlCourse.{asked_of}
+use Rattle.away_top.specs.Files.{asked_of, callable_of}
+use Rattle.cert_json.specs.Lines.{IsLine}
+use Rattle.away_top.specs.Lines.{line, read_fault}
+use Rattle.away_top.specs.Programs.{IsProgram, arguments_of, most_bytes, program_of}
+use Rattle.away_top.specs.Refusals.{IsFunction, IsQuery, IsSchema}
+use Rattle.away_top.specs.RunAnswers.{Held, IsAnswer, IsAnswered}
 use Rattle.away_top.specs.TableFiles.{table_file}
 use Rattle.away_top.specs.Translation.{IsTranslation}
 
--- a schema's file is within its limit, and no rule refuses it
+-- ---- all words
+
+-- the status is answered, with exactly this output written
+pub record IsCompiledQuery (before after : RoomySink) (result status : Status) (output : List ℕ) : Type 0 where
+  pub status_is : result ≡ status
+  pub bytes_are : after.bytes ≡ before.bytes ++ output
+
+-- Memory was wanting, or there is one of these ends that the call tells, where the room holds its output.
+abbrev pub EndsIn : RoomySink → RoomySink → Status → (Status → List ℕ → Type 0) → Type 0
+EndsIn before after result Ends =
+    (result ≡ NoMemory)
+    ⊎ ((status : Status) × (output : List ℕ) × Ends status output × (length output ≤ before.room → IsCompiledQuery before after result status output))
+
+-- The end is one that the held files lead to. A name that isn't held leads to a read fault.
+abbrev pub Ended : HeldFiles → RoomySink → RoomySink → Status → List (List ℕ) → Type 0
+Ended files before after result words = (text : List ℕ) × EndsIn before after result (Outcome (held_at files.held) (course words text))
+
+-- the first event is that this file is read
+abbrev pub BeginsWith : {A : Type 0} → List ℕ → Course A → Type 0
+BeginsWith name (gives a) = ⊥
+BeginsWith name (ends E) = ⊥
+BeginsWith name (judges E W next) = ⊥
+BeginsWith name (reads first limit next) = first ≡ name
+
+-- Memory was wanting, or the call tells that this file can't be read, where the room holds the line.
+abbrev pub Unread : RoomySink → RoomySink → Status → List ℕ → Type 0
+Unread before after result name =
+    (result ≡ NoMemory) ⊎ (length (read_fault name) ≤ before.room → IsCompiledQuery before after result ReadFault (read_fault name))
+
+-- ---- compile and certify
+
+-- a schema's file is within its limit, and reads as a schema that breaks no rule
 pub record IsFitSchema (bytes : List ℕ) : Type 0 where
   pub short : length bytes ≤ 67108864
-  pub unrefused : (rule : List ℕ) → ¬ (RefusesSchema bytes rule)
+  pub is : IsSchema bytes
 
--- a function's file is within its limit, and over the schema of these bytes no rule refuses it
-pub record IsFitFunction (tables bytes : List ℕ) : Type 0 where
+-- a function's file is within its limit, and reads as a function that breaks no rule over the tables of the schema
+pub record IsFitFunction (schema : Schema) (bytes : List ℕ) : Type 0 where
   pub short : length bytes ≤ 1048576
-  pub unrefused : (s : IsSchema tables) (rule : List ℕ) → ¬ (RefusesFunction s.schema bytes rule)
+  pub is : IsFunction schema bytes
 
 -- The words are those of the command. The two files are held and fit, and no read is to fail.
 pub record MayCompile (files : HeldFiles) (wanted : Wanted) (words : List (List ℕ)) (tables function : List ℕ) : Type 0 where
   pub schema : List ℕ
   pub func : List ℕ
-  pub words_are : words ≡ command_of wanted ∷ schema ∷ func ∷ []
+  pub words_are : words ≡ word_of wanted ∷ schema ∷ func ∷ []
   pub holds_schema : held_at files.held schema ≡ Some tables
   pub holds_function : held_at files.held func ≡ Some function
   pub fit_schema : IsFitSchema tables
-  pub fit_function : IsFitFunction tables function
+  pub fit_function : IsFitFunction fit_schema.is.schema function
   pub no_failure : files.fails ≡ []
 
 -- done, with exactly this text written
@@ -66,13 +101,13 @@ Shown before after result word =
     ⊎ ((output : List ℕ) × IsShown word output
     × (length output ≤ before.room → IsWritten before after result output))
 
--- ---- sql
+-- ---- sql, rows and fn
 
--- a query's file is within its limit, over the schema of these bytes no rule refuses it, and the words spell its arguments
-pub record IsFitQuery (tables bytes : List ℕ) (args : List (List ℕ)) : Type 0 where
-  pub short : length bytes ≤ 67108864
-  pub unrefused : (s : IsSchema tables) (rule : List ℕ) → ¬ (RefusesQuery s.schema bytes rule)
-  pub spelled : (s : IsSchema tables) (q : IsQuery s.schema bytes) → IsSome (values_of (judged_query s.schema q.written).params args)
+-- a program's file is within its limit, reads as one that breaks no rule over the tables of the schema, and the words spell its arguments
+pub record IsFitProgram (what : Runnable) (schema : Schema) (bytes : List ℕ) (args : List (List ℕ)) : Type 0 where
+  pub short : length bytes ≤ most_bytes what
+  pub is : IsProgram what schema bytes
+  pub spelled : IsSome (arguments_of (program_of what schema bytes is) args)
 
 -- a table's file is held, is within its limit, and holds rows
 pub record IsFitTable (held : Held) (dir : List ℕ) (t : TableSchema) : Type 0 where
@@ -82,70 +117,34 @@ pub record IsFitTable (held : Held) (dir : List ℕ) (t : TableSchema) : Type 0 
   pub rows : Rows
   pub rows_are : rows_in t bytes ≡ Ok rows
 
--- The words behind `sql` spell a bound, their files are held and fit, and no read is to fail.
-pub record MayAnswer (files : HeldFiles) (bound schema query dir : List ℕ) (args : List (List ℕ)) : Type 0 where
+-- The words behind the first spell a bound, their files are held and fit, and no read is to fail.
+pub record MayRun (what : Runnable) (files : HeldFiles) (bound schema file dir : List ℕ) (args : List (List ℕ)) : Type 0 where
   pub spells_bound : IsSome (bound_of bound)
   pub tables : List ℕ
-  pub asked : List ℕ
+  pub program : List ℕ
   pub holds_schema : held_at files.held schema ≡ Some tables
-  pub holds_query : held_at files.held query ≡ Some asked
+  pub holds_program : held_at files.held file ≡ Some program
   pub fit_schema : IsFitSchema tables
-  pub fit_query : IsFitQuery tables asked args
-  pub fit_tables : (s : IsSchema tables) → AllByRecursion (IsFitTable (held_at files.held) dir) s.schema.tables
+  pub fit_program : IsFitProgram what fit_schema.is.schema program args
+  pub fit_tables : AllByRecursion (IsFitTable (held_at files.held) dir) fit_schema.is.schema.tables
   pub no_failure : files.fails ≡ []
 
--- the status is answered, with exactly this output written
-pub record IsCompiledQuery (before after : RoomySink) (result status : Status) (output : List ℕ) : Type 0 where
-  pub status_is : result ≡ status
-  pub bytes_are : after.bytes ≡ before.bytes ++ output
-
--- Memory was wanting, or there is the answer of the query that the call tells, where the room holds it.
-abbrev pub Answered : HeldFiles → RoomySink → RoomySink → Status → List ℕ → List ℕ → List ℕ → List ℕ → List (List ℕ) → Type 0
-Answered files before after result bound schema query dir args =
-    (result ≡ NoMemory)
-    ⊎ ((status : Status) × (output : List ℕ) × IsAnswer status
-    × IsAnswered (held_at files.held) bound schema query dir args status output
-    × (length output ≤ before.room → IsCompiledQuery before after result status output))
-
--- ---- fn
-
--- a function's file is within its limit, over the schema of these bytes no rule refuses it, and the words spell its arguments
-pub record IsFitCall (tables bytes : List ℕ) (args : List (List ℕ)) : Type 0 where
-  pub short : length bytes ≤ 1048576
-  pub unrefused : (s : IsSchema tables) (rule : List ℕ) → ¬ (RefusesFunction s.schema bytes rule)
-  pub spelled : (s : IsSchema tables) (f : IsFunction s.schema bytes) → IsSome (values_for f.written.params args)
-
--- The words behind `fn` spell a bound, their files are held and fit, and no read is to fail.
-pub record MayCall (files : HeldFiles) (bound schema func dir : List ℕ) (args : List (List ℕ)) : Type 0 where
-  pub spells_bound : IsSome (bound_of bound)
-  pub tables : List ℕ
-  pub called : List ℕ
-  pub holds_schema : held_at files.held schema ≡ Some tables
-  pub holds_function : held_at files.held func ≡ Some called
-  pub fit_schema : IsFitSchema tables
-  pub fit_call : IsFitCall tables called args
-  pub fit_tables : (s : IsSchema tables) → AllByRecursion (IsFitTable (held_at files.held) dir) s.schema.tables
-  pub no_failure : files.fails ≡ []
-
--- Memory was wanting, or there is the answer of the function that the call tells, where the room holds it.
-abbrev pub Called : HeldFiles → RoomySink → RoomySink → Status → List ℕ → List ℕ → List ℕ → List ℕ → List (List ℕ) → Type 0
-Called files before after result bound schema func dir args =
-    (result ≡ NoMemory)
-    ⊎ ((status : Status) × (output : List ℕ) × IsAnswer status
-    × IsCalled (held_at files.held) bound schema func dir args status output
-    × (length output ≤ before.room → IsCompiledQuery before after result status output))
+-- Memory was wanting, or there is what the program gives that the call tells, where the room holds it.
+abbrev pub Answered : Runnable → HeldFiles → RoomySink → RoomySink → Status → List ℕ → List ℕ → List ℕ → List ℕ → List (List ℕ) → Type 0
+Answered what files before after result bound schema file dir args =
+    EndsIn before after result (λ status output. IsAnswer status × IsAnswered what (held_at files.held) bound schema file dir args status output)
 
 -- ---- check
 
--- a query's file is within its limit, and over the schema of these bytes no rule refuses it
-pub record IsFitAsked (tables bytes : List ℕ) : Type 0 where
+-- a query's file is within its limit, and reads as a query that breaks no rule over the tables of the schema
+pub record IsFitAsked (schema : Schema) (bytes : List ℕ) : Type 0 where
   pub short : length bytes ≤ 67108864
-  pub unrefused : (s : IsSchema tables) (rule : List ℕ) → ¬ (RefusesQuery s.schema bytes rule)
+  pub is : IsQuery schema bytes
 
--- a certificate's file is within its limit, and no rule refuses it
+-- a certificate's file is within its limit, and reads as a certificate
 pub record IsFitCert (bytes : List ℕ) : Type 0 where
   pub short : length bytes ≤ 67108864
-  pub unrefused : (rule : List ℕ) → ¬ (RefusesCert bytes rule)
+  pub is : IsCert bytes
 
 -- The four files behind `check` are held and fit, and no read is to fail.
 pub record MayCheck (files : HeldFiles) (schema func query cert tables function asked forms : List ℕ) : Type 0 where
@@ -154,8 +153,8 @@ pub record MayCheck (files : HeldFiles) (schema func query cert tables function 
   pub holds_query : held_at files.held query ≡ Some asked
   pub holds_cert : held_at files.held cert ≡ Some forms
   pub fit_schema : IsFitSchema tables
-  pub fit_function : IsFitFunction tables function
-  pub fit_query : IsFitAsked tables asked
+  pub fit_function : IsFitFunction fit_schema.is.schema function
+  pub fit_query : IsFitAsked fit_schema.is.schema asked
   pub fit_cert : IsFitCert forms
   pub no_failure : files.fails ≡ []
 
@@ -173,3 +172,26 @@ Judged before after result tables function asked forms =
     (result ≡ NoMemory)
     ⊎ ((v : Verdict) × HasVerdict tables function asked forms v
     × (length (verdict_line v) ≤ before.room → IsCompiledQuery before after result (verdict_status v) (verdict_line v)))
+
+-- Memory was wanting, or the call accepts, where the room holds its line.
+abbrev pub AcceptedIn : RoomySink → RoomySink → Status → Type 0
+AcceptedIn before after result =
+    (result ≡ NoMemory)
+    ⊎ (length (line (codes "accepted")) ≤ before.room → IsCompiledQuery before after result Done (line (codes "accepted")))
+
+-- What `certify` wrote of these bytes is this line and, behind its end, this text. The four files behind `check` hold the bytes, the text and the line, each
+-- is within its limit, and no read is to fail.
+pub record HoldsCertified (written : List ℕ) (files : HeldFiles) (schema func query cert tables function : List ℕ) : Type 0 where
+  pub line : List ℕ
+  pub text : List ℕ
+  pub written_is : written ≡ line ++ (10 ∷ text)
+  pub is_line : IsLine line
+  pub holds_schema : held_at files.held schema ≡ Some tables
+  pub holds_function : held_at files.held func ≡ Some function
+  pub holds_query : held_at files.held query ≡ Some text
+  pub holds_cert : held_at files.held cert ≡ Some line
+  pub short_schema : length tables ≤ 67108864
+  pub short_function : length function ≤ 1048576
+  pub short_query : length text ≤ 67108864
+  pub short_cert : length line ≤ 67108864
+  pub no_failure : files.fails ≡ []

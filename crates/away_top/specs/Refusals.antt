@@ -1,5 +1,5 @@
 -- What the files of a run read as and are judged to be, and which rules they are refused by.
-use Rattle.std.specs.Prelude.{◌≡◌, ◌≢◌, ◌⊎◌, ℕ, List, codes}
+use Rattle.std.specs.Prelude.{◌≡◌, ◌⊎◌, ℕ, List, Some, codes}
 use Rattle.away_trees.specs.declared.queries.Query.{Query}
 use Rattle.away_trees.specs.declared.schemas.Schema.{Schema}
 use Rattle.away_trees.specs.declared.statements.Function.{Function}
@@ -11,9 +11,14 @@ use Rattle.away_lex.specs.declared.refusals.ReadRefusal.TheVariants.{NotText, To
 use Rattle.sql_text.specs.Refusals as texts
 use Rattle.plsql_parse.specs.Refusals as functions
 use Rattle.away_names.specs.declared.note.Note.{Note}
+use Rattle.away_names.specs.declared.rule.Rule.{Rule}
+use Rattle.away_names.specs.Rules.{number}
+use Rattle.away_types.specs.declared.finding.Finding.{Finding}
+use Rattle.away_types.specs.declared.finding.Report.{Report}
 use Rattle.away_types.specs.CheckedQueries.{query_note}
+use Rattle.away_types.specs.CheckedRows.{rows_note}
 use Rattle.away_types.specs.FunctionChecks.{function_note}
-use Rattle.away_types.specs.Refusals.{IsUnbroken}
+use Rattle.away_types.specs.Refusals.{HasNoFinding, IsUnbroken}
 use Rattle.away_names.specs.Schemas.{schema_note}
 use Rattle.away_top.specs.Lines.{bad_token, limit_rule, numbered_rule, outside_word}
 
@@ -30,10 +35,17 @@ IsRule NoMemory rule = ⊥
 abbrev pub RefusesRead : (ReadRefusal → Type 0) → List ℕ → Type 0
 RefusesRead Refuses rule = (refusal : ReadRefusal) × Refuses refusal × IsRule refusal rule
 
--- the least rule of names, scopes and types that a tree breaks is this one; 255 is no rule
+-- the least rule of names, scopes and types that a tree breaks is printed so
 pub record BreaksRule (note : Note) (rule : List ℕ) : Type 0 where
-  pub broken : note.least ≢ 255
-  pub rule_is : rule ≡ numbered_rule note.least
+  pub broken : Rule
+  pub least : note.least ≡ Some broken
+  pub rule_is : rule ≡ numbered_rule (number broken)
+
+-- so is that of a function, in which the first finding has it
+pub record HasFinding (report : Report) (rule : List ℕ) : Type 0 where
+  pub finding : Finding
+  pub first : report.first ≡ Some finding
+  pub rule_is : rule ≡ numbered_rule (number finding.rule)
 
 -- ---- the schema
 
@@ -71,13 +83,13 @@ pub record ReadsAsFunction (bytes : List ℕ) (function : Function) : Type 0 whe
 pub record IsFunction (schema : Schema) (bytes : List ℕ) : Type 0 where
   pub written : Function
   pub reads_as : ReadsAsFunction bytes written
-  pub unbroken : IsUnbroken (function_note schema written)
+  pub unbroken : HasNoFinding (function_note schema written)
 
 -- it isn't read, or it breaks a rule
 abbrev pub RefusesFunction : Schema → List ℕ → List ℕ → Type 0
 RefusesFunction schema bytes rule =
     RefusesRead (functions.Refuses bytes) rule
-    ⊎ ((function : Function) × ReadsAsFunction bytes function × BreaksRule (function_note schema function) rule)
+    ⊎ ((function : Function) × ReadsAsFunction bytes function × HasFinding (function_note schema function) rule)
 
 -- ---- the query
 
@@ -97,3 +109,17 @@ abbrev pub RefusesQuery : Schema → List ℕ → List ℕ → Type 0
 RefusesQuery schema bytes rule =
     RefusesRead (texts.Refuses (ReadsQuery bytes) bytes) rule
     ⊎ ((query : Query) × ReadsAsQuery bytes query × BreaksRule (query_note schema query) rule)
+
+-- ---- the query, by all of its rows
+
+-- the query that the bytes read as, which breaks no rule over the tables of the schema but perhaps the one on answers
+pub record IsRowQuery (schema : Schema) (bytes : List ℕ) : Type 0 where
+  pub written : Query
+  pub reads_as : ReadsAsQuery bytes written
+  pub unbroken : IsUnbroken (rows_note schema written)
+
+-- it isn't read, or it breaks a rule that isn't the one on answers
+abbrev pub RefusesRowQuery : Schema → List ℕ → List ℕ → Type 0
+RefusesRowQuery schema bytes rule =
+    RefusesRead (texts.Refuses (ReadsQuery bytes) bytes) rule
+    ⊎ ((query : Query) × ReadsAsQuery bytes query × BreaksRule (rows_note schema query) rule)

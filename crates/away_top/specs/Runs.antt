@@ -1,6 +1,5 @@
 -- How a run goes along its course, from the state of the files before it to the state that it leaves.
 use Rattle.std.specs.Prelude.{◌≡◌, ◌⊎◌, ℕ, ◌<◌, ◌≤◌, List, length, codes, IfSome}
-use Rattle.std.specs.declared.option.Option.{Option}
 use Rattle.away_top.specs.declared.host.Files.{Ghosts as Files}
 use Rattle.away_top.specs.declared.status.Status.{Status}
 use Rattle.away_top.specs.declared.status.Status.TheVariants.{Refused, ReadFault}
@@ -37,6 +36,7 @@ pub record IsRead {D : Type 0} (F : Files D) (before : D) (name : List ℕ) (aft
   pub leaves : F.read_leaves before name after
   pub kept : Keeps (F.held before) (F.held after)
   pub safe : Stays (F.is_safe before) (F.is_safe after)
+  pub absent : Stays (F.is_absent before) (F.is_absent after)
   pub later : F.faults before ≤ F.faults after
 
 -- It couldn't be read: the count of faults rose, and the name wasn't safe.
@@ -44,17 +44,22 @@ pub record IsUnreadable {D : Type 0} (F : Files D) (before : D) (name : List ℕ
   pub count : Rose (F.faults before) (F.faults after)
   pub not_safe : F.is_safe before name → ⊥
 
+-- It has more bytes than the limit, where that is told, and the name isn't known to be absent.
+pub record IsLong {D : Type 0} (F : Files D) (before : D) (name : List ℕ) (limit : ℕ) : Type 0 where
+  pub more : IfSome (F.held before name) (λ held. limit < length held)
+  pub not_absent : F.is_absent before name → ⊥
+
 -- The run ends at this file, since it can't be read or is too long.
 abbrev pub StopsAt : {D : Type 0} → Files D → D → List ℕ → ℕ → D → Status → List ℕ → Type 0
 StopsAt F before name limit after status output =
     (IsUnreadable F before name after × Exactly ReadFault (read_fault name) status output)
-    ⊎ (IfSome (F.held before name) (λ held. limit < length held)
-    × Exactly Refused (refusal name (codes "LONG")) status output)
+    ⊎ (IsLong F before name limit × Exactly Refused (refusal name (codes "LONG")) status output)
 
--- A file of at most so many bytes, which are those that it holds, where that is told.
-pub record Holds (told : Option (List ℕ)) (limit : ℕ) (bytes : List ℕ) : Type 0 where
-  pub same : IfSome told (λ held. bytes ≡ held)
+-- A file of at most so many bytes, which are those that it holds, where that is told; and the name isn't known to be absent.
+pub record Holds {D : Type 0} (F : Files D) (before : D) (name : List ℕ) (limit : ℕ) (bytes : List ℕ) : Type 0 where
+  pub same : IfSome (F.held before name) (λ held. bytes ≡ held)
   pub fits : length bytes ≤ limit
+  pub not_absent : F.is_absent before name → ⊥
 
 -- The run goes along the course: each file of it is read in turn, and no other, up to where the run comes out.
 abbrev pub Follows : {D A : Type 0} → Files D → D → Course A → D → End A → Type 0
@@ -66,7 +71,7 @@ Follows {D = D} F before (reads name limit next) after end =
     ReadsNoMore before after (IsEnd (λ status output. ⊥)) end
     ⊎ ((middle : D) × IsRead F before name middle
     × (ReadsNoMore middle after (IsEnd (StopsAt F before name limit middle)) end
-    ⊎ ((bytes : List ℕ) × Holds (F.held before name) limit bytes × Follows F middle (next bytes) after end)))
+    ⊎ ((bytes : List ℕ) × Holds F before name limit bytes × Follows F middle (next bytes) after end)))
 
 -- The same, for some text that the compiler gave in this run.
 pub record Runs {D : Type 0} (F : Files D) (before : D) (course : List ℕ → Course ⊥) (after : D)

@@ -5,11 +5,11 @@ use Rattle.std.specs.Io.KnownBytes.{Appends}
 use Rattle.away_trees.specs.declared.queries.Query.{Query}
 use Rattle.away_types.specs.CheckedQueries.{resolved_query}
 use Rattle.away_types.specs.FunctionChecks.{resolved_function, slots_of}
-use Rattle.cert_json.specs.declared.cert.Cert.{Cert}
+use Rattle.cert_json.specs.Forms.{Cert}
 use Rattle.compiling.specs.Compiled.{IsCompiled}
 use Rattle.equivalence.specs.Accepted.{EquivalentWith}
 use Rattle.away_top.specs.declared.compile.Wanted.{Wanted}
-use Rattle.away_top.specs.CompileCourse.{IsOutput, command_of}
+use Rattle.away_top.specs.CompileCourse.{IsOutput, word_of}
 use Rattle.away_top.specs.Refusals.{IsFunction, IsSchema}
 
 -- The bytes of one file read as a schema, and those of the other as a function; neither breaks a rule. The text reads as a query that breaks no rule, and
@@ -29,6 +29,6 @@ pub record IsTranslation (wanted : Wanted) (schema func output : List ℕ) : Typ
 -- Where the words are those of the command and the files tell what they hold, a translation of them was written.
 abbrev pub Translates : Wanted → (List ℕ → Option (List ℕ)) → Option (List ℕ) → Option (List ℕ) → List (List ℕ) → Type 0
 Translates wanted held before after words =
-    (schema func tables function : List ℕ) → words ≡ command_of wanted ∷ schema ∷ func ∷ []
+    (schema func tables function : List ℕ) → words ≡ word_of wanted ∷ schema ∷ func ∷ []
     → held schema ≡ Some tables → held func ≡ Some function
     → (text : List ℕ) × IsTranslation wanted tables function text × Appends before after text

@@ -3,12 +3,11 @@
 ghost use Rattle.std.specs.Prelude.{◌≡◌, ◌++◌, IfOk, codes};
 ghost use Rattle.std.specs.Fmt.{decimal};
 ghost use Rattle.away_top.specs.Certificates.{IsCert, RefusesCert, cert_course, field_name};
-ghost use Rattle.away_top.specs.CheckCourse.{IsJudgedSo, TellsVerdict, check_course, stage_number, with_function as with_function_course, with_query as with_query_course, with_schema as with_schema_course};
+ghost use Rattle.away_top.specs.CheckCourse.{IsJudgedSo, TellsVerdict, check_course, stage_number};
 ghost use Rattle.away_top.specs.Course.{RefusedBy};
-ghost use Rattle.away_top.specs.Files.{as_callable};
+ghost use Rattle.away_top.specs.Files.{as_asked, as_callable};
 ghost use Rattle.away_top.specs.Lines.{line, refusal};
 ghost use Rattle.away_top.specs.Runs.{Follows, IsEnd};
-ghost use Rattle.away_top.specs.SqlCourse.{as_asked};
 ghost use Rattle.away_top.specs.Steps.{IsEnding, IsJudged, run_end, stretch_end};
 
 use crate::ending::{Ending, Halt, refused, with_output};
@@ -32,54 +31,10 @@ pub fn check<F: Files>(
     ensures { Follows F.Files files.old (check_course schema.now func.now query.now cert.now) files.new (run_end result) }
 {
     let tables = schema_of(alloc, schema, files)?;
-    with_schema(alloc, &tables, func, query, cert, files)
-}
-
-/// Goes on behind the schema.
-fn with_schema<F: Files>(
-    alloc: Global,
-    tables: &CheckedSchema,
-    func: &str,
-    query: &str,
-    cert: &str,
-    files: &mut F,
-) -> Result<Ending, Halt>
-    ensures { Follows F.Files files.old (with_schema_course tables.now.schema func.now query.now cert.now) files.new (run_end result) }
-{
-    let function = function_of(alloc, tables, func, files)?;
-    with_function(alloc, tables, function.get(), query, cert, files)
-}
-
-/// Goes on behind the function.
-fn with_function<F: Files>(
-    alloc: Global,
-    tables: &CheckedSchema,
-    function: &CheckedFunction,
-    query: &str,
-    cert: &str,
-    files: &mut F,
-) -> Result<Ending, Halt>
-    ensures { Follows F.Files files.old (with_function_course tables.now.schema (as_callable function.now) query.now cert.now) files.new
-        (run_end result) }
-{
-    let query = query_of(alloc, tables, query, files)?;
-    with_query(alloc, tables, function, query.get(), cert, files)
-}
-
-/// Goes on behind the query.
-fn with_query<F: Files>(
-    alloc: Global,
-    tables: &CheckedSchema,
-    function: &CheckedFunction,
-    query: &CheckedQuery,
-    cert: &str,
-    files: &mut F,
-) -> Result<Ending, Halt>
-    ensures { Follows F.Files files.old
-        (with_query_course tables.now.schema (as_callable function.now) (as_asked query.now) cert.now) files.new (run_end result) }
-{
+    let function = function_of(alloc, &tables, func, files)?;
+    let query = query_of(alloc, &tables, query, files)?;
     let forms = cert_of(alloc, cert, files)?;
-    verdict_on(alloc, tables, function, query, &forms)
+    verdict_on(alloc, &tables, function.get(), query.get(), &forms)
 }
 
 /// The verdict on the forms.

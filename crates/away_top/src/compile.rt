@@ -6,7 +6,7 @@ ghost use Rattle.away_top.specs.declared.compile.Wanted.TheVariants as made;
 ghost use Rattle.away_top.specs.Files.{as_callable};
 ghost use Rattle.away_top.specs.Runs.{IsEnd, Runs};
 ghost use Rattle.away_top.specs.Steps.{run_end};
-ghost use Rattle.cert_json.specs.Writable.{HasSpelling};
+ghost use Rattle.call_forms.specs.Writable.{HasSpelling};
 ghost use Rattle.cte_prints.specs.Texts.{IsOfTexts};
 
 use crate::ending::{Ending, Halt};
@@ -71,7 +71,8 @@ fn output_of(alloc: Global, wanted: Wanted, compiled: Compiled) -> Result<Vec<u8
 
 /// The certificate of a compiled function, a line, and behind it the query.
 fn certified(alloc: Global, compiled: &Compiled) -> Result<Vec<u8>, NoMemory>
-    ensures { IfOk result (λ output. HasSpelling compiled.now.cert → IsOutput made.Certificate compiled.now.cert (string_bytes compiled.now.text) output.items) }
+    ensures { IfOk result (λ output. HasSpelling compiled.now.cert
+        → IsOutput made.Certificate compiled.now.cert (string_bytes compiled.now.text) output.items) }
 {
     let cert = write_cert(alloc, &compiled.cert)?;
     Ok(line_before(cert, compiled.text.as_str())?)

@@ -1,18 +1,20 @@
 //! How a run ends: a status and all that it writes.
 
 ghost use Rattle.std.specs.Prelude.{◌≡◌, IfOk, codes};
+ghost use Rattle.away_names.specs.Rules.{number};
 ghost use Rattle.away_top.specs.Lines.{bad_token, limit_rule, limit_name, line, numbered_rule, outside_word, read_fault, refusal};
 ghost use Rattle.away_top.specs.Help.{help_text, version_text};
 ghost use Rattle.away_top.specs.Steps.{IsEnding};
 
 use crate::Status;
 use away_lex::LimitKind;
+use away_names::rule::Rule;
 use away_values::{Name, NoMemory};
 use itoa::Buffer;
 use std::alloc::{AllocError, Global};
 
 const HELP: &[u8] =
-    b"away compile SCHEMA FUNC                 write the query that the function in FUNC becomes, over the tables of SCHEMA\naway certify SCHEMA FUNC                 write a certificate of that query, a line, and behind it the query\naway check SCHEMA FUNC QUERY CERT         write whether the certificate in CERT shows that the query in QUERY answers as the function in FUNC\naway sql BOUND SCHEMA QUERY DIR ARG..    write what the query in QUERY answers over the tables in DIR, within BOUND iterations\naway fn BOUND SCHEMA FUNC DIR ARG..      write what the function in FUNC answers over the tables in DIR, within BOUND turns\naway demo N                              make the case of the number N, and write how long its function and its query are and what they answer\naway --help                              write these lines\naway --version                           write the program's name and version\n";
+    b"away compile SCHEMA FUNC                 write the query that the function in FUNC becomes, over the tables of SCHEMA\naway certify SCHEMA FUNC                 write a certificate of that query, a line, and behind it the query\naway check SCHEMA FUNC QUERY CERT         write whether the certificate in CERT shows that the query in QUERY answers as the function in FUNC\naway sql BOUND SCHEMA QUERY DIR ARG..    write what the query in QUERY answers over the tables in DIR, within BOUND iterations\naway rows BOUND SCHEMA QUERY DIR ARG..   write the rows that the query in QUERY gives over the tables in DIR, within BOUND iterations\naway fn BOUND SCHEMA FUNC DIR ARG..      write what the function in FUNC answers over the tables in DIR, within BOUND turns\naway demo N                              make the case of the number N, and write how long its function and its query are and what they answer\naway --help                              write these lines\naway --version                           write the program's name and version\n";
 
 /// A status with the whole output of the run.
 #[derive(Drop)]
@@ -134,13 +136,13 @@ pub fn refused_word(alloc: Global, name: &str, word: &Name) -> Result<Ending, Al
 }
 
 /// The file is refused for a rule of names, scopes or types.
-pub fn refused_rule(alloc: Global, name: &str, number: u8) -> Result<Ending, AllocError>
-    ensures { IfOk result (λ ending. IsEnding ending Status.Refused (refusal name.now (numbered_rule number))) }
+pub fn refused_rule(alloc: Global, name: &str, rule: Rule) -> Result<Ending, AllocError>
+    ensures { IfOk result (λ ending. IsEnding ending Status.Refused (refusal name.now (numbered_rule (number rule)))) }
 {
     let mut buffer = Buffer::new();
-    let mut rule = b"X".to_vec(alloc)?;
-    rule.extend_from_slice(buffer.format(number).as_bytes())?;
-    refused(alloc, name, &rule)
+    let mut word = b"X".to_vec(alloc)?;
+    word.extend_from_slice(buffer.format(rule.number()).as_bytes())?;
+    refused(alloc, name, &word)
 }
 
 /// The file is refused for a limit.

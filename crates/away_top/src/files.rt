@@ -4,12 +4,14 @@ ghost use Rattle.std.specs.Prelude.{◌≡◌, IfErr, IfOk};
 ghost use Rattle.away_trees.specs.Limits.{KeepsLimits};
 ghost use Rattle.away_types.specs.CheckedFunctions.{IsChecked};
 ghost use Rattle.away_types.specs.CheckedQueries.{IsCheckedQuery, query_note};
+ghost use Rattle.away_types.specs.CheckedRows.{IsCheckedRows, rows_note};
 ghost use Rattle.away_types.specs.FunctionChecks.{function_note};
 ghost use Rattle.away_names.specs.Schemas.{schema_note};
-ghost use Rattle.away_top.specs.Files.{as_callable, callable_of, function_course, schema_course};
-ghost use Rattle.away_top.specs.SqlCourse.{as_asked, asked_of, query_course};
+ghost use Rattle.away_top.specs.Files.{as_asked, as_callable, as_row_query, asked_of, callable_of, row_query_of as row_query_written};
+ghost use Rattle.away_top.specs.Files.{function_course, query_course, row_query_course, schema_course};
 ghost use Rattle.away_top.specs.Course.{RefusedBy};
-ghost use Rattle.away_top.specs.Refusals.{BreaksRule, IsFunction, IsKept, IsQuery, IsSchema, RefusesFunction, RefusesQuery, RefusesSchema};
+ghost use Rattle.away_top.specs.Refusals.{BreaksRule, HasFinding, IsFunction, IsKept, IsQuery, IsRowQuery, IsSchema};
+ghost use Rattle.away_top.specs.Refusals.{RefusesFunction, RefusesQuery, RefusesRowQuery, RefusesSchema};
 ghost use Rattle.away_top.specs.Runs.{Follows, Holds, IsRead, StopsAt};
 ghost use Rattle.away_top.specs.Steps.{IsHalt, IsJudged, ReadRefused, stretch_end};
 
@@ -20,8 +22,8 @@ use crate::{Files, ReadError};
 use away_lex::ReadRefusal;
 use away_trees::{Function, Query, Schema};
 use away_types::{
-    CheckedFunction, CheckedQuery, CheckedSchema, RuleRefusal, check_function, check_query,
-    check_schema,
+    CheckedFunction, CheckedQuery, CheckedRows, CheckedSchema, FunctionRefusal, RuleRefusal,
+    check_function, check_query, check_rows, check_schema,
 };
 use plsql_parse::read_function;
 use sql_text::{read_query, read_schema};
@@ -70,6 +72,20 @@ pub fn query_of<F: Files>(
     query_in(alloc, tables, name, &bytes)
 }
 
+/// The query that a file reads as, judged over the tables of the schema for all of its rows.
+pub fn row_query_of<F: Files>(
+    alloc: Global,
+    tables: &CheckedSchema,
+    name: &str,
+    files: &mut F,
+) -> Result<Boxed<CheckedRows>, Halt>
+    ensures { Follows F.Files files.old (row_query_course tables.now.schema name.now) files.new
+        (stretch_end as_row_query result) }
+{
+    let bytes = bytes_of(alloc, name, MAX_FILE, files)?;
+    row_query_in(alloc, tables, name, &bytes)
+}
+
 fn schema_in(alloc: Global, name: &str, bytes: &[u8]) -> Result<CheckedSchema, Halt>
     ensures { IsJudged (RefusedBy name.now (RefusesSchema bytes.now))
         (λ c. (s : IsSchema bytes.now) × (c.schema ≡ s.schema)) result }
@@ -85,7 +101,7 @@ fn checked_schema(alloc: Global, name: &str, schema: Schema) -> Result<CheckedSc
 {
     match check_schema(alloc, schema) {
         Ok(checked) => Ok(checked),
-        Err(RuleRefusal::Rule(rule)) => Err(Halt::Ended(refused_rule(alloc, name, rule)?)),
+        Err(RuleRefusal::Broken(rule)) => Err(Halt::Ended(refused_rule(alloc, name, rule)?)),
         Err(RuleRefusal::NoMemory) => Err(Halt::NoMemory),
     }
 }
@@ -113,13 +129,15 @@ fn checked_function(
     function: Function,
 ) -> Result<Boxed<CheckedFunction>, Halt>
     requires { KeepsLimits function }
-    ensures { IsJudged (RefusedBy name.now (BreaksRule (function_note tables.now.schema function)))
+    ensures { IsJudged (RefusedBy name.now (HasFinding (function_note tables.now.schema function)))
         (λ c. IsChecked tables.now.schema function c.function c.slots) result }
 {
     match check_function(alloc, tables, function) {
         Ok(checked) => Ok(Boxed::new(alloc, checked)?),
-        Err(RuleRefusal::Rule(rule)) => Err(Halt::Ended(refused_rule(alloc, name, rule)?)),
-        Err(RuleRefusal::NoMemory) => Err(Halt::NoMemory),
+        Err(FunctionRefusal::Broken(finding)) => {
+            Err(Halt::Ended(refused_rule(alloc, name, finding.rule)?))
+        }
+        Err(FunctionRefusal::NoMemory) => Err(Halt::NoMemory),
     }
 }
 
@@ -150,7 +168,39 @@ fn checked_query(
 {
     match check_query(alloc, tables, query) {
         Ok(checked) => Ok(Boxed::new(alloc, checked)?),
-        Err(RuleRefusal::Rule(rule)) => Err(Halt::Ended(refused_rule(alloc, name, rule)?)),
+        Err(RuleRefusal::Broken(rule)) => Err(Halt::Ended(refused_rule(alloc, name, rule)?)),
+        Err(RuleRefusal::NoMemory) => Err(Halt::NoMemory),
+    }
+}
+
+fn row_query_in(
+    alloc: Global,
+    tables: &CheckedSchema,
+    name: &str,
+    bytes: &[u8],
+) -> Result<Boxed<CheckedRows>, Halt>
+    ensures { IsJudged (RefusedBy name.now (RefusesRowQuery tables.now.schema bytes.now))
+        (λ c. (q : IsRowQuery tables.now.schema bytes.now)
+        × (as_row_query c ≡ row_query_written tables.now.schema q.written)) result }
+{
+    match read_query(alloc, bytes) {
+        Ok(query) => checked_rows(alloc, tables, name, query),
+        Err(error) => Err(Halt::Ended(refuse(alloc, name, error)?)),
+    }
+}
+
+fn checked_rows(
+    alloc: Global,
+    tables: &CheckedSchema,
+    name: &str,
+    query: Query,
+) -> Result<Boxed<CheckedRows>, Halt>
+    ensures { IsJudged (RefusedBy name.now (BreaksRule (rows_note tables.now.schema query)))
+        (λ c. IsCheckedRows tables.now.schema query c.query c.params c.columns) result }
+{
+    match check_rows(alloc, tables, query) {
+        Ok(checked) => Ok(Boxed::new(alloc, checked)?),
+        Err(RuleRefusal::Broken(rule)) => Err(Halt::Ended(refused_rule(alloc, name, rule)?)),
         Err(RuleRefusal::NoMemory) => Err(Halt::NoMemory),
     }
 }
@@ -163,7 +213,7 @@ pub(crate) fn bytes_of<F: Files>(
     files: &mut F,
 ) -> Result<Vec<u8>, Halt>
     ensures read { IsRead F.Files files.old name.now files.new }
-    ensures bytes { IfOk result (λ bytes. Holds (F.held files.old name.now) limit bytes.items) }
+    ensures bytes { IfOk result (λ bytes. Holds F.Files files.old name.now limit bytes.items) }
     ensures stops { IfErr result (IsHalt (StopsAt F.Files files.old name.now limit files.new)) }
 {
     match files.read(alloc, name, limit) {

@@ -2,7 +2,7 @@
 
 ghost use Rattle.std.specs.Prelude.{◌≡◌, ◌↔◌, ◌+◌, ◌<◌, ◌≤◌, ℕ, List, length, map, IfErr, IfOk, IfSome, IsErrOf, IsTrue, MatchOption, MatchResult, string_bytes, Contains};
 ghost use Rattle.away_top.specs.Host.{next_count, IsTooLong, Keeps, Rose, Stays};
-ghost use Rattle.away_top.specs.MemoryFiles.{held_at, IsCountedFailure, IsNextFiles, IsSafeName};
+ghost use Rattle.away_top.specs.MemoryFiles.{held_at, IsCountedFailure, IsAbsentName, IsNextFiles, IsSafeName};
 
 use crate::{Files, ReadError};
 use std::alloc::Global;
@@ -54,23 +54,29 @@ impl Files for MemoryFiles {
 
     ghost is_safe = { IsSafeName };
 
+    ghost is_absent = { IsAbsentName };
+
     ghost faults = { λ m. m.faults };
 
     ghost read_leaves = { λ old _ new. IsNextFiles old new };
 
     ghost safe_is_told = { λ m name safe. safe.held };
 
+    ghost absent_is_untold = { λ m name absent. absent };
+
     fn read(&mut self, alloc: Global, name: &str, limit: u64) -> Result<Vec<u8>, ReadError>
         // As of every implementation:
         ensures read { IsNextFiles self.old self.new }
         ensures kept { Keeps (held_at self.old.held) (held_at self.new.held) }
         ensures safe { Stays (IsSafeName self.old) (IsSafeName self.new) }
+        ensures absent { Stays (IsAbsentName self.old) (IsAbsentName self.new) }
         ensures later { self.old.faults ≤ self.new.faults }
         ensures bytes { IfOk result (λ v. IfSome (held_at self.old.held name.now) (λ bytes. v.items ≡ bytes)) }
         ensures limit { IfOk result (λ v. length v.items ≤ limit) }
         ensures long { IfErr result (IsTooLong limit (held_at self.old.held name.now)) }
         ensures failed { IsErrOf result ReadError.Failed → Rose self.old.faults self.new.faults }
         ensures unsafe_name { IsErrOf result ReadError.Failed → IsSafeName self.old name.now → ⊥ }
+        ensures absent_name { IsAbsentName self.old name.now → result ≡ Err ReadError.Failed }
 
         // And exactly:
         ensures listed { Contains self.old.fails (next_count self.old.calls)

@@ -72,10 +72,13 @@ impl Sink for MemorySink {
 
     ghost faults = { λ m. m.faults };
 
+    ghost writes = { λ m. m.calls };
+
     fn write(&mut self, piece: &[u8]) -> Result<(), WriteFailed>
         // As of every implementation:
         ensures whole { OnOk result (Appends (Some self.old.bytes) (Some self.new.bytes) piece.now) }
         ensures part { OnErr result (AppendsPrefix (Some self.old.bytes) (Some self.new.bytes) piece.now) }
+        ensures counted { self.new.calls ≡ next_count self.old.calls }
         ensures later { self.old.faults ≤ self.new.faults }
         ensures failed { OnErr result (Rose self.old.faults self.new.faults) }
         ensures room { 0 < length piece.now → length piece.now ≤ safe_room self.old
@@ -89,7 +92,7 @@ impl Sink for MemorySink {
             → IsErr result × (self.new.bytes ≡ self.old.bytes ++ take (front self.old (length piece.now)) piece.now)
             × (self.new.room + front self.old (length piece.now) ≡ self.old.room)
             × (self.new.faults ≡ next_count self.old.faults) }
-        ensures stays { (self.new.fails ≡ self.old.fails) × (self.new.calls ≡ next_count self.old.calls) }
+        ensures stays { self.new.fails ≡ self.old.fails }
     {
         self.calls = self.calls.saturating_add(1);
         let failure = failure_at(&self.fails, self.calls);

@@ -9,12 +9,17 @@ use std::io::{ErrorKind, Write};
 #[derive(Drop)]
 pub struct RealSink<W> {
     out: W,
+    calls: u64,
     faults: u64,
 }
 
 impl<W: Write> RealSink<W> {
     pub fn new(out: W) -> RealSink<W> {
-        RealSink { out, faults: 0 }
+        RealSink {
+            out,
+            calls: 0,
+            faults: 0,
+        }
     }
 }
 
@@ -25,7 +30,10 @@ impl<W: Write> Sink for RealSink<W> {
 
     ghost faults = { λ s. s.faults };
 
+    ghost writes = { λ s. s.calls };
+
     fn write(&mut self, piece: &[u8]) -> Result<(), WriteFailed> {
+        self.calls = self.calls.saturating_add(1);
         if write_whole(&mut self.out, piece) {
             return Ok(());
         }

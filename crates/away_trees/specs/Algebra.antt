@@ -56,7 +56,8 @@ abbrev mutual
   expr_of a (b.Is' p e test negative) = a.expr (ex.Is (head_or a.no_expr (exprs_of a e)) test negative)
   expr_of a (b.Chain' p e s links) = a.expr (ex.Chain (head_or a.no_expr (exprs_of a e)) (links_of a links))
   expr_of a (b.Compare' op p x q y) = a.expr (ex.Compare op (head_or a.no_expr (exprs_of a x)) (head_or a.no_expr (exprs_of a y)))
-  expr_of a (b.Between' negative p x q y r z) = a.expr (ex.Between negative (head_or a.no_expr (exprs_of a x)) (head_or a.no_expr (exprs_of a y)) (head_or a.no_expr (exprs_of a z)))
+  expr_of a (b.Between' negative p x q y r z) = a.expr (ex.Between negative (head_or a.no_expr (exprs_of a x))
+      (head_or a.no_expr (exprs_of a y)) (head_or a.no_expr (exprs_of a z)))
   expr_of a (b.OneOf' negative p e s choices) = a.expr (ex.OneOf negative (head_or a.no_expr (exprs_of a e)) (exprs_of a choices))
   expr_of a (b.Cast' p e ty) = a.expr (ex.Cast (head_or a.no_expr (exprs_of a e)) ty)
   expr_of a (b.Cases' s arms other) = a.expr (ex.Cases (arms_of a arms) (other_of a other))
@@ -99,7 +100,8 @@ abbrev mutual
 
   pub froms_of : {m : _} → (a : Algebra) → b.Row_of-FromItem m → List a.AFrom
   froms_of a b.end_of-FromItem = []
-  froms_of a (b.more_of-FromItem source alias columns rest) = a.from (record { source = source_of a source; alias = alias; columns = columns }) ∷ froms_of a rest
+  froms_of a (b.more_of-FromItem source alias columns rest) = a.from (record { source = source_of a source; alias = alias; columns = columns })
+      ∷ froms_of a rest
 
   pub select_of : (a : Algebra) → Select → a.ASelect
   select_of a (b.struct-Select s list t from filter u order limit) =
@@ -110,7 +112,12 @@ abbrev mutual
   selects_of a (b.more_of-Select s rest) = select_of a s ∷ selects_of a rest
 
   pub recursive_of : (a : Algebra) → Recursive → a.ARecursive
-  recursive_of a (b.struct-Recursive name columns s first second) = a.recursive (record { name = name; columns = columns; first = selects_of a first; second = select_of a second })
+  recursive_of a (b.struct-Recursive name columns s first second) = a.recursive (record {
+    name = name;
+    columns = columns;
+    first = selects_of a first;
+    second = select_of a second;
+  })
 
   pub with_of : (a : Algebra) → b.Held-Query-recursive → Option a.ARecursive
   with_of a b.Query-recursive-None' = None

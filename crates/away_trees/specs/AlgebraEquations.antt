@@ -33,7 +33,8 @@ pub record Steps (AnExpr ASource AFrom AnItem AKey AQuery ARecursive ASelect : T
   pub recursive : Recursive-F AnExpr ASource AFrom AnItem AKey AQuery ARecursive ASelect → ARecursive
   pub select : Select-F AnExpr ASource AFrom AnItem AKey AQuery ARecursive ASelect → ASelect
 
-abbrev pub algebra : {AnExpr ASource AFrom AnItem AKey AQuery ARecursive ASelect : Type 0} → Steps AnExpr ASource AFrom AnItem AKey AQuery ARecursive ASelect → Algebra
+abbrev pub algebra : {AnExpr ASource AFrom AnItem AKey AQuery ARecursive ASelect : Type 0}
+    → Steps AnExpr ASource AFrom AnItem AKey AQuery ARecursive ASelect → Algebra
 algebra {AnExpr} {ASource} {AFrom} {AnItem} {AKey} {AQuery} {ARecursive} {ASelect} s = record {
   AnExpr = AnExpr;
   ASource = ASource;
@@ -86,14 +87,21 @@ pub record Equations (a : Algebra) : Type 0 where
   pub table : (name : List ℕ) → source_of a (source.Table name) ≡ a.source (ex.Table name)
   pub sub : (q : Query) (lateral : Bool) → source_of a (source.Sub q lateral) ≡ a.source (ex.Sub (query_of a q) lateral)
   pub from : (s : Source) (alias : List ℕ) (columns : List (List ℕ)) →
-      from_of a (roll-FromItem (record { source = s; alias = alias; columns = columns })) ≡ a.from (record { source = source_of a s; alias = alias; columns = columns })
+      from_of a (roll-FromItem (record { source = s; alias = alias; columns = columns }))
+      ≡ a.from (record { source = source_of a s; alias = alias; columns = columns })
   pub item : (e : Expr) (alias : Option (List ℕ)) →
       item_of a (roll-Item (record { expr = e; alias = alias })) ≡ a.item (record { expr = expr_of a e; alias = alias })
   pub key : (e : Expr) (descending : Bool) →
       key_of a (roll-Key (record { expr = e; descending = descending })) ≡ a.key (record { expr = expr_of a e; descending = descending })
   pub select : (list : List Item) (from : List FromItem) (filter : Option Expr) (order : List Key) (limit : Option Expr) →
       select_of a (roll-Select (record { list = list; from = from; filter = filter; order = order; limit = limit }))
-      ≡ a.select (record { list = map (λ x. item_of a x) list; from = map (λ x. from_of a x) from; filter = option_map (λ e. expr_of a e) filter; order = map (λ x. key_of a x) order; limit = option_map (λ e. expr_of a e) limit })
+      ≡ a.select (record {
+        list = map (λ x. item_of a x) list;
+        from = map (λ x. from_of a x) from;
+        filter = option_map (λ e. expr_of a e) filter;
+        order = map (λ x. key_of a x) order;
+        limit = option_map (λ e. expr_of a e) limit;
+      })
   pub recursive : (name : List ℕ) (columns : List (List ℕ)) (first : List Select) (second : Select) →
       recursive_of a (roll-Recursive (record { name = name; columns = columns; first = first; second = second }))
       ≡ a.recursive (record { name = name; columns = columns; first = map (λ x. select_of a x) first; second = select_of a second })

@@ -38,4 +38,5 @@ pub record StatementEquations (a : StatementAlgebra) : Type 0 where
       stmt_of a (stmt.Into strict targets query) ≡ a.stmt (st.Into strict targets query)
   pub nothing : stmt_of a stmt.Nothing ≡ a.stmt st.Nothing
   -- an arm's value in a list of arms is the step over its test and the values of its statements
-  pub arm : (test : Expr) (body : List Stmt) → branch_of a (record { test = test; body = body }) ≡ a.arm (record { test = test; body = map (λ s. stmt_of a s) body })
+  pub arm : (test : Expr) (body : List Stmt) → branch_of a (record { test = test; body = body })
+      ≡ a.arm (record { test = test; body = map (λ s. stmt_of a s) body })

@@ -38,7 +38,11 @@ assign name e = stmt.Assign name None e
 --   END;
 abbrev halved_or_tripled : Stmt
 halved_or_tripled = stmt.If
-    (record { test = expr.Compare cmp.Eq (arithmetic int.Rem n (literal 2)) (literal 0); body = assign (codes "n") (arithmetic int.Div n (literal 2)) ∷ [] } ∷ [])
+    (record {
+      test = expr.Compare cmp.Eq (arithmetic int.Rem n (literal 2)) (literal 0);
+      body = assign (codes "n")
+          (arithmetic int.Div n (literal 2)) ∷ [];
+    } ∷ [])
     (Some (assign (codes "n") (arithmetic int.Add (arithmetic int.Mul (literal 3) n) (literal 1)) ∷ []))
 
 abbrev one_step_more : Stmt

@@ -13,7 +13,7 @@ pub struct Col {
 }
 
 /// An expression. The bool of `Is`, `Between` and `OneOf` says NOT. The operators of a chain are of one level, and its
-/// list isn't empty.
+/// list isn't empty. The manual: 4.2, Value Expressions.
 #[cycle(query)]
 #[derive(Drop)]
 pub enum Expr {
@@ -48,7 +48,7 @@ pub enum Expr {
     Exists(Boxed<Query>),
 }
 
-/// An item of a select list.
+/// An item of a select list. The manual: 7.3, Select Lists; the alias is a column label (7.3.2).
 #[cycle(query)]
 #[derive(Drop)]
 pub struct Item {
@@ -56,7 +56,7 @@ pub struct Item {
     pub alias: Option<Name>,
 }
 
-/// What a FROM item takes its rows from.
+/// What a FROM item takes its rows from. The manual: 7.2.1.3, Subqueries, and 7.2.1.5, LATERAL Subqueries.
 #[cycle(query)]
 #[derive(Drop)]
 pub enum Source {
@@ -65,6 +65,7 @@ pub enum Source {
     Sub(Boxed<Query>, bool),
 }
 
+/// An item of FROM. The manual: 7.2.1.2, Table and Column Aliases; the list of columns is empty where none is written.
 #[cycle(query)]
 #[derive(Drop)]
 pub struct FromItem {
@@ -73,7 +74,7 @@ pub struct FromItem {
     pub columns: Items<Name>,
 }
 
-/// A key of ORDER BY.
+/// A key of ORDER BY. The manual: 7.5, Sorting Rows (ORDER BY).
 #[cycle(query)]
 #[derive(Drop)]
 pub struct Key {
@@ -81,6 +82,7 @@ pub struct Key {
     pub descending: bool,
 }
 
+/// A select. The manual: 7.1, Overview of Queries, with 7.2.2 for the filter, 7.5 for the order and 7.6 for the limit, which is in rows.
 #[cycle(query)]
 #[derive(Drop)]
 pub struct Select {
@@ -92,6 +94,7 @@ pub struct Select {
 }
 
 /// WITH RECURSIVE: the selects of its first term, and the second term.
+/// The manual: 7.8.2, Recursive Queries. The second term is the only one that may name the table.
 #[cycle(query)]
 #[derive(Drop)]
 pub struct Recursive {
@@ -101,7 +104,7 @@ pub struct Recursive {
     pub second: Select,
 }
 
-/// Selects that UNION ALL joins.
+/// Selects that UNION ALL joins. The manual: 7.4, Combining Queries.
 #[cycle(query)]
 #[derive(Drop)]
 pub struct Query {

@@ -3,6 +3,7 @@
 use away_values::{Name, Ty};
 use sqlite_items::Items;
 
+/// A column of a table. The manual: 5.4.2, Not-Null Constraints.
 #[derive(Drop)]
 pub struct ColumnSchema {
     pub name: Name,
@@ -10,6 +11,7 @@ pub struct ColumnSchema {
     pub not_null: bool,
 }
 
+/// A table, with its columns in their order. The manual: 5.1, Table Basics.
 #[derive(Drop)]
 pub struct TableSchema {
     pub name: Name,

@@ -4,7 +4,7 @@ use crate::queries::{Expr, Select};
 use away_values::{Name, Ty, Word};
 use sqlite_items::Items;
 
-/// A declaration.
+/// A declaration. The manual: 43.3, Declarations.
 #[derive(Drop)]
 pub struct Decl {
     pub name: Name,
@@ -14,7 +14,7 @@ pub struct Decl {
     pub default: Option<Expr>,
 }
 
-/// A condition of IF, ELSIF or CASE with its statements.
+/// A condition of IF, ELSIF or CASE with its statements. The manual: 43.6.4, Conditionals. A condition that is NULL isn't true.
 #[cycle(statement)]
 #[derive(Drop)]
 pub struct Arm {
@@ -22,6 +22,7 @@ pub struct Arm {
     pub body: Items<Stmt>,
 }
 
+/// The head of a loop. The manual: 43.6.5, Simple Loops.
 #[derive(Drop)]
 pub enum LoopKind {
     Plain,
@@ -37,13 +38,14 @@ pub enum LoopKind {
 }
 
 /// What RAISE raises: a message's fault, or a SQLSTATE.
+/// The manual: 43.9.1, Reporting Errors and Messages. A message raises P0001, raise_exception.
 #[derive(Drop)]
 pub enum Raised {
     Message(Word),
     State(Word),
 }
 
-/// A statement (PostgreSQL manual, PL/pgSQL: Basic Statements and Control Structures). The number beside an assigned name
+/// A statement (PostgreSQL manual, 43.5, Basic Statements, and 43.6, Control Structures). The number beside an assigned name
 /// is its slot, and None before names are resolved.
 #[cycle(statement)]
 #[derive(Drop)]
@@ -76,6 +78,7 @@ pub enum Stmt {
     Nothing,
 }
 
+/// A function. The manual: CREATE FUNCTION; a STRICT function is NULL where an argument is, and doesn't run.
 #[derive(Drop)]
 pub struct Function {
     pub name: Name,

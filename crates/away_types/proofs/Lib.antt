@@ -1,2 +1,3 @@
 pub mod ResolvingRules
 pub mod AskingRules
+pub mod ClearReports

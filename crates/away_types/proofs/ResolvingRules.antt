@@ -12,9 +12,10 @@ use Rattle.away_trees.specs.StatementAlgebra.{stmt_of, branch_of}
 use Rattle.away_trees.proofs.StatementEquations as e
 use Rattle.away_types.specs.declared.resolved.Resolved.{Resolved}
 use Rattle.away_types.specs.declared.slots.Slots.{Slots}
-use Rattle.away_names.specs.Notes.{joined, clean}
+use Rattle.away_names.specs.Notes.{clean}
 use Rattle.away_names.specs.Lookups.{Name}
 use Rattle.away_names.specs.Trees.{named_expr}
+use Rattle.away_types.specs.Findings.{own, followed, branched}
 use Rattle.away_types.specs.StatementRules as r
 use Rattle.away_types.specs.Statements as n
 use Rattle.away_types.specs.Statements.{Spot, resolving}
@@ -31,7 +32,7 @@ arms_are spot slots xs = fold_map _ _ _ xs
 
 other_is : (spot : Spot) (slots : Slots) (o : Option (List Stmt)) → n.maybe_resolved (n.other_by (option_map (λ xs. map (λ x. stmt_of resolving x) xs) o)) spot slots ≡ resolved_other spot slots o
 other_is spot slots None = refl
-other_is spot slots (Some xs) = ap (λ x. record { it = Some x.it; note = x.note; slots = x.slots }) (body_is spot slots xs)
+other_is spot slots (Some xs) = ap (λ x. record { it = Some x.it; note = followed (own 1 clean) x.note; slots = x.slots }) (body_is spot slots xs)
 
 pub block_rule : (label : Option Name) (decls : List Decl) (body : List Stmt) (closing : Option Name) (spot : Spot) (slots : Slots) →
     resolved_stmt spot slots (stmt.Block label decls body closing)
@@ -51,7 +52,7 @@ loop_rule label k body closing spot slots =
     ap (λ f. f spot slots) (e.of_loop resolving label k body closing) ∙ ap (n.loop_with spot label closing h.it h.note) (body_is (n.within label true h.variables spot) h.slots body)
 
 abbrev pub branches_with : (List Arm → Option (List Stmt) → Stmt) → Resolved (List Arm) → Resolved (Option (List Stmt)) → Resolved Stmt
-branches_with form xs y = record { it = form xs.it y.it; note = joined xs.note y.note; slots = y.slots }
+branches_with form xs y = record { it = form xs.it y.it; note = branched xs.note y.note; slots = y.slots }
 
 pub if_rule : (arms : List Arm) (other : Option (List Stmt)) (spot : Spot) (slots : Slots) →
     resolved_stmt spot slots (stmt.If arms other)
@@ -88,7 +89,7 @@ unfolding resolved_stmt
 continue_rule label when spot slots = refl
 
 pub return_rule : (x : Expr) (spot : Spot) (slots : Slots) →
-    resolved_stmt spot slots (stmt.Return x) ≡ record { it = stmt.Return (named_expr x spot.scope).it; note = (named_expr x spot.scope).note; slots = slots }
+    resolved_stmt spot slots (stmt.Return x) ≡ record { it = stmt.Return (named_expr x spot.scope).it; note = own 1 (named_expr x spot.scope).note; slots = slots }
 unfolding resolved_stmt
 return_rule x spot slots = refl
 
@@ -101,14 +102,14 @@ pub into_rule : (strict : Bool) (targets : List (Name × Option ℕ)) (query : S
 unfolding resolved_stmt
 into_rule strict targets query spot slots = refl
 
-pub nothing_rule : (spot : Spot) (slots : Slots) → resolved_stmt spot slots stmt.Nothing ≡ record { it = stmt.Nothing; note = clean; slots = slots }
+pub nothing_rule : (spot : Spot) (slots : Slots) → resolved_stmt spot slots stmt.Nothing ≡ record { it = stmt.Nothing; note = own 1 clean; slots = slots }
 unfolding resolved_stmt
 nothing_rule spot slots = refl
 
 pub arm_rule : (a : Arm) (spot : Spot) (slots : Slots) →
     resolved_arm spot slots a
-    ≡ record { it = record { test = (named_expr a.test spot.scope).it; body = (resolved_body spot slots a.body).it }; note = joined (named_expr a.test spot.scope).note (resolved_body spot slots a.body).note; slots = (resolved_body spot slots a.body).slots }
+    ≡ record { it = record { test = (named_expr a.test spot.scope).it; body = (resolved_body spot slots a.body).it }; note = followed (own 1 (named_expr a.test spot.scope).note) (resolved_body spot slots a.body).note; slots = (resolved_body spot slots a.body).slots }
 unfolding resolved_arm
-arm_rule a spot slots = ap (λ xs. record { it = record { test = (named_expr a.test spot.scope).it; body = xs.it }; note = joined (named_expr a.test spot.scope).note xs.note; slots = xs.slots }) (body_is spot slots a.body)
+arm_rule a spot slots = ap (λ xs. record { it = record { test = (named_expr a.test spot.scope).it; body = xs.it }; note = followed (own 1 (named_expr a.test spot.scope).note) xs.note; slots = xs.slots }) (body_is spot slots a.body)
 
 pub ruleset statement_rules = (block_rule, loop_rule, if_rule, cases_rule, assign_rule, exit_rule, continue_rule, return_rule, raise_rule, into_rule, nothing_rule)

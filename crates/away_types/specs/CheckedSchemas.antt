@@ -1,9 +1,5 @@
 -- What a checked schema is.
-use Rattle.std.specs.Prelude.{◌≡◌, Bool, true, List}
-use Rattle.std.specs.List.{list_all}
-use Rattle.away_trees.specs.declared.schemas.ColumnSchema.{ColumnSchema}
 use Rattle.away_trees.specs.declared.schemas.Schema.{Schema}
-use Rattle.away_trees.specs.declared.schemas.TableSchema.{TableSchema}
 use Rattle.away_names.specs.Schemas.{schema_note}
 use Rattle.away_types.specs.Refusals.{IsUnbroken}
 

@@ -1,20 +1,23 @@
 -- A function with what its names stand for, its slots, and the least rule that it breaks. A rule above the least may be judged wrongly, which shows
 -- nowhere.
-use Rattle.std.specs.Prelude.{true, false, List, [], ◌++◌, map, fold}
+use Rattle.std.specs.Prelude.{true, false, List, [], ◌++◌, map, fold, length}
 use Rattle.away_values.specs.declared.types.Ty.{Ty}
 use Rattle.away_trees.specs.declared.schemas.Schema.{Schema}
 use Rattle.away_trees.specs.declared.statements.Function.{Function}
 use Rattle.away_trees.specs.declared.statements.Stmt.{Stmt}
+use Rattle.away_names.specs.declared.rule.Rule.TheVariants as rule
 use Rattle.away_names.specs.declared.note.Note.{Note}
 use Rattle.away_names.specs.Notes.{joined, breaks, all_notes}
 use Rattle.away_names.specs.Lookups.{Name}
 use Rattle.away_names.specs.Schemas.{kept}
 use Rattle.away_names.specs.Tables.{outermost}
 use Rattle.away_typing.specs.Wholes.{column_types}
+use Rattle.away_types.specs.declared.finding.Report.{Report}
 use Rattle.away_types.specs.declared.slots.Slot.{Slot}
 use Rattle.away_types.specs.declared.slots.Slots.{Slots}
 use Rattle.away_types.specs.declared.resolved.Resolved.{Resolved}
 use Rattle.away_types.specs.declared.parameters.Start.{Start}
+use Rattle.away_types.specs.Findings.{own, followed, both}
 use Rattle.away_types.specs.StatementRules.{takes_twice}
 use Rattle.away_types.specs.Statements.{Spot, with_slot, with_variable}
 use Rattle.away_types.specs.ResolvedBodies.{resolved_stmt}
@@ -58,17 +61,18 @@ asked_in s slots result = record { places = record { slots = slot_types slots; f
 -- ---- rules
 
 abbrev pub params_note : List (Name × Ty) → Note
-params_note params = joined (breaks 6 (takes_twice params)) (all_notes (λ p. kept p.0) params)
+params_note params = joined (breaks rule.Duplicates (takes_twice params)) (all_notes (λ p. kept p.0) params)
 
 abbrev pub head_note : Function → Note
 head_note f = joined (kept f.name) (params_note f.params)
 
 -- of a resolved body over its slots
-abbrev pub body_note : Schema → List Slot → Ty → Stmt → Note
+abbrev pub body_note : Schema → List Slot → Ty → Stmt → Report
 body_note s slots result body = asked_stmt (asked_in s slots result) body
 
-abbrev pub types_note : Schema → Function → Note
+abbrev pub types_note : Schema → Function → Report
 types_note s f = body_note s (slots_of s f) f.result (body_of s f).it
 
-abbrev pub function_note : Schema → Function → Note
-function_note s f = joined (head_note f) (joined (body_of s f).note (types_note s f))
+-- the head is told by the number of the first node, and the nodes of the body come behind the parameters
+abbrev pub function_note : Schema → Function → Report
+function_note s f = followed (own (length f.params) (head_note f)) (both (body_of s f).note (types_note s f))

@@ -1,3 +1,4 @@
+pub mod Findings
 pub mod StatementRules
 pub mod Statements
 pub mod ResolvedBodies
@@ -8,3 +9,4 @@ pub mod Refusals
 pub mod CheckedFunctions
 pub mod CheckedSchemas
 pub mod CheckedQueries
+pub mod CheckedRows

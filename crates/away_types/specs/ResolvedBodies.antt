@@ -8,6 +8,7 @@ use Rattle.away_types.specs.declared.slots.Slots.{Slots}
 use Rattle.away_types.specs.declared.around.Spot.{Spot as Here}
 use Rattle.away_names.specs.Places.{scope}
 use Rattle.away_names.specs.Notes.{clean}
+use Rattle.away_types.specs.Findings.{own, nothing, followed}
 use Rattle.away_types.specs.Statements.{Spot, resolving, with_resolved, none_resolved}
 
 abbrev pub spot : Here → Spot
@@ -26,5 +27,6 @@ abbrev pub resolved_arms : Spot → Slots → List Arm → Resolved (List Arm)
 resolved_arms spot slots = fold (λ a x. with_resolved a (resolved_arm spot a.slots x)) (none_resolved slots)
 
 abbrev pub resolved_other : Spot → Slots → Option (List Stmt) → Resolved (Option (List Stmt))
-resolved_other spot slots None = record { it = None; note = clean; slots = slots }
-resolved_other spot slots (Some body) = let x = resolved_body spot slots body in record { it = Some x.it; note = x.note; slots = x.slots }
+resolved_other spot slots None = record { it = None; note = nothing; slots = slots }
+resolved_other spot slots (Some body) = let x = resolved_body spot slots body
+    in record { it = Some x.it; note = followed (own 1 clean) x.note; slots = x.slots }

@@ -9,7 +9,7 @@ use Rattle.away_trees.specs.declared.statements.Raised.TheVariants as raised
 use Rattle.away_names.specs.Lookups.{Name, has_double}
 use Rattle.away_types.specs.declared.around.Around.{Around}
 
--- ---- 6
+-- ---- Duplicates (X6)
 
 -- two parameters have one name
 abbrev pub takes_twice : List (Name × Ty) → Bool
@@ -19,7 +19,7 @@ takes_twice params = has_double (map (λ p. p.0) params)
 abbrev pub declares_twice : List Decl → Bool
 declares_twice decls = has_double (map (λ (d : Decl). d.name) decls)
 
--- ---- 10
+-- ---- Labels (X10)
 
 abbrev pub has_label : Name → Around → Bool
 has_label l a = elim a.label as (λ _. Bool) [ None ↦ false | Some m ↦ bytes_eq m l ]
@@ -47,13 +47,13 @@ closes opening None = true
 closes None (Some closing) = false
 closes (Some opening) (Some closing) = bytes_eq opening closing
 
--- ---- 12
+-- ---- Defaults (X12)
 
 -- NOT NULL without a default
 unfoldable pub lacks_default : Decl → Bool
 lacks_default d = d.not_null && not (is_some d.default)
 
--- ---- 16
+-- ---- Raises (X16)
 
 -- an ASCII digit or an upper-case letter
 abbrev pub is_state_character : ℕ → Bool

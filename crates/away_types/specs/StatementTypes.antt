@@ -1,5 +1,5 @@
 -- The types that a function's statements ask of their expressions, and that no aggregate stands in these.
-use Rattle.std.specs.Prelude.{ℕ, true, not, ◌||◌, List, Option, Some, None, slice_get}
+use Rattle.std.specs.Prelude.{ℕ, true, not, ◌||◌, List, fold, length, Option, Some, None, slice_get}
 use Rattle.away_values.specs.declared.types.Ty.{Ty}
 use Rattle.away_values.specs.declared.types.Ty.TheVariants.{Bigint, Boolean}
 use Rattle.away_trees.specs.declared.queries.Expr.{Expr}
@@ -12,12 +12,15 @@ use Rattle.away_trees.specs.declared.statements.Stmt.TheOpen.{Stmt-F, Arm-F}
 use Rattle.away_trees.specs.declared.statements.Stmt.TheOpen as st
 use Rattle.away_trees.specs.StatementAlgebra.{StatementAlgebra, stmt_of, branch_of}
 use Rattle.away_trees.specs.StatementEquations.{statement_algebra}
+use Rattle.away_names.specs.declared.rule.Rule.TheVariants as rule
 use Rattle.away_names.specs.declared.note.Note.{Note}
 use Rattle.away_names.specs.Notes.{clean, joined, breaks, all_notes}
 use Rattle.away_typing.specs.Kinds.{fits}
 use Rattle.away_typing.specs.Aggregates.{outside}
 use Rattle.away_typing.specs.Typing.{Places}
 use Rattle.away_typing.specs.Trees.{kind_of, uses_of}
+use Rattle.away_types.specs.declared.finding.Report.{Report}
+use Rattle.away_types.specs.Findings.{own, own_with, nothing, followed, branched}
 
 -- the places of a function, and the type of its result
 pub record Asked : Type 0 where
@@ -25,14 +28,14 @@ pub record Asked : Type 0 where
   pub result : Ty
 
 unfoldable pub asked : Asked → Ty → Expr → Note
-asked a ty e = joined (breaks 13 (not (fits ty (kind_of e a.places)) || (uses_of e).limited)) (breaks 15 (outside (uses_of e)).misused)
+asked a ty e = joined (breaks rule.Types (not (fits ty (kind_of e a.places)) || (uses_of e).limited)) (breaks rule.Aggregates (outside (uses_of e)).misused)
 
 abbrev pub maybe_asked : Asked → Ty → Option Expr → Note
 maybe_asked a ty None = clean
 maybe_asked a ty (Some e) = asked a ty e
 
 unfoldable pub asked_of_slot : Asked → Option Ty → Expr → Note
-asked_of_slot a None e = breaks 13 true
+asked_of_slot a None e = breaks rule.Types true
 asked_of_slot a (Some ty) e = asked a ty e
 
 abbrev pub slot_of : Asked → Option ℕ → Option Ty
@@ -40,56 +43,57 @@ slot_of a None = None
 slot_of a (Some i) = slice_get a.places.slots i
 
 abbrev pub By : Type 0
-By = Asked → Note
+By = Asked → Report
 
 abbrev pub all_by : List By → By
-all_by fs a = all_notes (λ f. f a) fs
+all_by fs a = fold (λ r f. followed r (f a)) nothing fs
 
+-- an ELSE is a node
 abbrev pub maybe_by : Option (List By) → By
-maybe_by None a = clean
-maybe_by (Some fs) a = all_by fs a
+maybe_by None a = nothing
+maybe_by (Some fs) a = followed (own 1 clean) (all_by fs a)
 
-abbrev pub defaults : List Decl → By
+abbrev pub defaults : List Decl → Asked → Note
 defaults ds a = all_notes (λ (d : Decl). maybe_asked a d.ty d.default) ds
 
-abbrev pub head_asked : LoopKind → By
+abbrev pub head_asked : LoopKind → Asked → Note
 head_asked kind.Plain a = clean
 head_asked (kind.While e) a = asked a Boolean e
 head_asked (kind.Count var reverse first last step) a = joined (asked a Bigint first) (joined (asked a Bigint last) (maybe_asked a Bigint step))
 
 abbrev pub statement : Stmt-F By By → By
-statement (st.Block label decls body closing) a = joined (defaults decls a) (all_by body a)
-statement (st.Assign name slot e) a = asked_of_slot a (slot_of a slot) e
-statement (st.If arms other) a = joined (all_by arms a) (maybe_by other a)
-statement (st.Cases arms other) a = joined (all_by arms a) (maybe_by other a)
-statement (st.Loop label k body closing) a = joined (head_asked k a) (all_by body a)
-statement (st.Exit label when) a = maybe_asked a Boolean when
-statement (st.Continue label when) a = maybe_asked a Boolean when
-statement (st.Return e) a = asked a a.result e
-statement (st.Raise r) a = clean
-statement (st.Into strict targets query) a = breaks 13 true
-statement st.Nothing a = clean
+statement (st.Block label decls body closing) a = followed (own_with (length decls) (defaults decls a)) (all_by body a)
+statement (st.Assign name slot e) a = own 1 (asked_of_slot a (slot_of a slot) e)
+statement (st.If arms other) a = branched (all_by arms a) (maybe_by other a)
+statement (st.Cases arms other) a = branched (all_by arms a) (maybe_by other a)
+statement (st.Loop label k body closing) a = followed (own 1 (head_asked k a)) (all_by body a)
+statement (st.Exit label when) a = own 1 (maybe_asked a Boolean when)
+statement (st.Continue label when) a = own 1 (maybe_asked a Boolean when)
+statement (st.Return e) a = own 1 (asked a a.result e)
+statement (st.Raise r) a = own 1 clean
+statement (st.Into strict targets query) a = own_with (length targets) (breaks rule.Types true)
+statement st.Nothing a = own 1 clean
 
 abbrev pub arm : Arm-F By By → By
-arm x a = joined (asked a Boolean x.test) (all_by x.body a)
+arm x a = followed (own 1 (asked a Boolean x.test)) (all_by x.body a)
 
 abbrev pub asking : StatementAlgebra
 asking = statement_algebra (record { stmt = statement; arm = arm })
 
 -- ---- by name, for the contracts of loops
 
-unfoldable pub asked_stmt : Asked → Stmt → Note
+unfoldable pub asked_stmt : Asked → Stmt → Report
 asked_stmt a x = stmt_of asking x a
 
-unfoldable pub asked_arm : Asked → Arm → Note
+unfoldable pub asked_arm : Asked → Arm → Report
 asked_arm a x = branch_of asking x a
 
-abbrev pub asked_body : Asked → List Stmt → Note
-asked_body a = all_notes (asked_stmt a)
+abbrev pub asked_body : Asked → List Stmt → Report
+asked_body a = fold (λ r x. followed r (asked_stmt a x)) nothing
 
-abbrev pub asked_arms : Asked → List Arm → Note
-asked_arms a = all_notes (asked_arm a)
+abbrev pub asked_arms : Asked → List Arm → Report
+asked_arms a = fold (λ r x. followed r (asked_arm a x)) nothing
 
-abbrev pub asked_other : Asked → Option (List Stmt) → Note
-asked_other a None = clean
-asked_other a (Some body) = asked_body a body
+abbrev pub asked_other : Asked → Option (List Stmt) → Report
+asked_other a None = nothing
+asked_other a (Some body) = followed (own 1 clean) (asked_body a body)

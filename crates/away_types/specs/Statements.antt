@@ -15,6 +15,7 @@ use Rattle.away_trees.specs.declared.statements.Stmt.TheOpen.{Stmt-F, Arm-F}
 use Rattle.away_trees.specs.declared.statements.Stmt.TheOpen as st
 use Rattle.away_trees.specs.StatementAlgebra.{StatementAlgebra}
 use Rattle.away_trees.specs.StatementEquations.{statement_algebra}
+use Rattle.away_names.specs.declared.rule.Rule.TheVariants as rule
 use Rattle.away_names.specs.declared.note.Note.{Note}
 use Rattle.away_names.specs.declared.note.Noted.{Noted}
 use Rattle.away_names.specs.declared.scope.Variable.{Variable}
@@ -28,6 +29,7 @@ use Rattle.away_names.specs.Notes.{clean, joined, breaks, held}
 use Rattle.away_names.specs.Lookups.{Name, Scope, variable_named}
 use Rattle.away_names.specs.Naming.{written, maybe_written}
 use Rattle.away_names.specs.Trees.{named_expr}
+use Rattle.away_types.specs.Findings.{own, own_with, nothing, followed, branched as branch_reports}
 use Rattle.away_types.specs.StatementRules.{declares_twice, may_exit, may_continue, closes, lacks_default, may_raise}
 
 -- what names see at a statement, and the blocks and loops around it, the innermost last
@@ -38,21 +40,19 @@ pub record Spot : Type 0 where
 abbrev pub By : Type 0 → Type 0
 By A = Spot → Slots → Resolved A
 
-abbrev pub without : {A : Type 0} → Slots → Noted A → Resolved A
-without slots n = record { it = n.it; note = n.note; slots = slots }
-
 abbrev pub with_resolved : {A : Type 0} → Resolved (List A) → Resolved A → Resolved (List A)
-with_resolved a x = record { it = a.it ++ x.it ∷ []; note = joined a.note x.note; slots = x.slots }
+with_resolved a x = record { it = a.it ++ x.it ∷ []; note = followed a.note x.note; slots = x.slots }
 
 abbrev pub none_resolved : {A : Type 0} → Slots → Resolved (List A)
-none_resolved slots = record { it = []; note = clean; slots = slots }
+none_resolved slots = record { it = []; note = nothing; slots = slots }
 
 abbrev pub each_resolved : {A : Type 0} → List (By A) → By (List A)
 each_resolved fs spot slots = fold (λ a f. with_resolved a (f spot a.slots)) (none_resolved slots) fs
 
+-- an ELSE is a node
 abbrev pub maybe_resolved : {A : Type 0} → Option (By A) → By (Option A)
-maybe_resolved None spot slots = record { it = None; note = clean; slots = slots }
-maybe_resolved (Some f) spot slots = let x = f spot slots in record { it = Some x.it; note = x.note; slots = x.slots }
+maybe_resolved None spot slots = record { it = None; note = nothing; slots = slots }
+maybe_resolved (Some f) spot slots = let x = f spot slots in record { it = Some x.it; note = followed (own 1 clean) x.note; slots = x.slots }
 
 -- ---- variables
 
@@ -77,13 +77,18 @@ declared d scope =
     let default = held (λ e. named_expr e scope) d.default in
     record {
       it = record { name = d.name; ty = d.ty; constant = d.constant; not_null = d.not_null; default = default.it };
-      note = joined (written scope d.name) (joined (breaks 12 (lacks_default d)) default.note);
+      note = joined (written scope d.name) (joined (breaks rule.Defaults (lacks_default d)) default.note);
     }
 
 abbrev pub with_declared : Scope → Declared → Decl → Declared
 with_declared scope a d =
     let x = declared d (seeing a.variables scope) in
-    record { it = a.it ++ x.it ∷ []; variables = with_variable d.name d.constant a.slots a.variables; note = joined a.note x.note; slots = with_slot d.ty d.not_null a.slots }
+    record {
+      it = a.it ++ x.it ∷ [];
+      variables = with_variable d.name d.constant a.slots a.variables;
+      note = joined a.note x.note;
+      slots = with_slot d.ty d.not_null a.slots;
+    }
 
 abbrev pub none_declared : Scope → Slots → Declared
 none_declared scope slots = record { it = []; variables = scope.variables; note = clean; slots = slots }
@@ -92,13 +97,13 @@ abbrev pub declared_all : List Decl → Scope → Slots → Declared
 declared_all ds scope slots = fold (with_declared scope) (none_declared scope slots) ds
 
 unfoldable pub assigned : Name → Option Variable → Noted Expr → Noted Stmt
-assigned name None e = record { it = stmt.Assign name None e.it; note = joined (breaks 7 true) e.note }
-assigned name (Some v) e = record { it = stmt.Assign name (Some v.slot) e.it; note = joined (breaks 11 v.constant) e.note }
+assigned name None e = record { it = stmt.Assign name None e.it; note = joined (breaks rule.Names true) e.note }
+assigned name (Some v) e = record { it = stmt.Assign name (Some v.slot) e.it; note = joined (breaks rule.Constants v.constant) e.note }
 
 -- ---- labels
 
 abbrev pub labelled : Scope → Option Name → Option Name → Note
-labelled scope label closing = joined (maybe_written scope label) (joined (maybe_written scope closing) (breaks 10 (not (closes label closing))))
+labelled scope label closing = joined (maybe_written scope label) (joined (maybe_written scope closing) (breaks rule.Labels (not (closes label closing))))
 
 abbrev pub within : Option Name → Bool → List Variable → Spot → Spot
 within label is_loop variables spot = record { scope = seeing variables spot.scope; around = spot.around ++ record { label = label; is_loop = is_loop } ∷ [] }
@@ -108,7 +113,11 @@ within label is_loop variables spot = record { scope = seeing variables spot.sco
 abbrev pub jump : (Option Name → Option Expr → Stmt) → (Option Name → List Around → Bool) → Option Name → Option Expr → By Stmt
 jump form may label when spot slots =
     let test = held (λ e. named_expr e spot.scope) when in
-    record { it = form label test.it; note = joined (maybe_written spot.scope label) (joined (breaks 10 (not (may label spot.around))) test.note); slots = slots }
+    record {
+      it = form label test.it;
+      note = own 1 (joined (maybe_written spot.scope label) (joined (breaks rule.Labels (not (may label spot.around))) test.note));
+      slots = slots;
+    }
 
 -- the loop's head
 abbrev pub headed : LoopKind → Scope → Slots → Headed
@@ -130,60 +139,61 @@ abbrev pub other_by : Option (List (By Stmt)) → Option (By (List Stmt))
 other_by None = None
 other_by (Some body) = Some (each_resolved body)
 
-abbrev pub branched : (List Arm → Option (List Stmt) → Stmt) → List (By Arm) → Option (List (By Stmt)) → By Stmt
-branched form arms other spot slots =
+abbrev pub branching : (List Arm → Option (List Stmt) → Stmt) → List (By Arm) → Option (List (By Stmt)) → By Stmt
+branching form arms other spot slots =
     let xs = each_resolved arms spot slots in
     let y = maybe_resolved (other_by other) spot xs.slots in
-    record { it = form xs.it y.it; note = joined xs.note y.note; slots = y.slots }
+    record { it = form xs.it y.it; note = branch_reports xs.note y.note; slots = y.slots }
 
 -- a block, by its declarations and its statements
 abbrev pub block_with : Spot → Option Name → List Decl → Option Name → List Decl → Note → Resolved (List Stmt) → Resolved Stmt
 block_with spot label decls closing declarations found xs =
     record {
       it = stmt.Block label declarations xs.it closing;
-      note = joined (joined (labelled spot.scope label closing) (breaks 6 (declares_twice decls))) (joined found xs.note);
+      note = followed (own_with (length decls)
+          (joined (joined (labelled spot.scope label closing) (breaks rule.Duplicates (declares_twice decls))) found)) xs.note;
       slots = xs.slots;
     }
 
 -- a loop, by its head and its statements
 abbrev pub loop_with : Spot → Option Name → Option Name → LoopKind → Note → Resolved (List Stmt) → Resolved Stmt
 loop_with spot label closing head found xs =
-    record { it = stmt.Loop label head xs.it closing; note = joined (labelled spot.scope label closing) (joined found xs.note); slots = xs.slots }
+    record { it = stmt.Loop label head xs.it closing; note = followed (own 1 (joined (labelled spot.scope label closing) found)) xs.note; slots = xs.slots }
 
 abbrev pub assign_with : Spot → Name → Expr → Slots → Resolved Stmt
 assign_with spot name e slots =
     let x = assigned name (variable_named name spot.scope.variables) (named_expr e spot.scope) in
-    record { it = x.it; note = joined (written spot.scope name) x.note; slots = slots }
+    record { it = x.it; note = own 1 (joined (written spot.scope name) x.note); slots = slots }
 
 abbrev pub raise_with : Raised → Slots → Resolved Stmt
-raise_with r slots = record { it = stmt.Raise r; note = breaks 16 (not (may_raise r)); slots = slots }
+raise_with r slots = record { it = stmt.Raise r; note = own 1 (breaks rule.Raises (not (may_raise r))); slots = slots }
 
 -- no reader gives INTO yet, and it has no type
 abbrev pub into_with : Bool → List (Name × Option ℕ) → Select → Slots → Resolved Stmt
-into_with strict targets query slots = record { it = stmt.Into strict targets query; note = breaks 13 true; slots = slots }
+into_with strict targets query slots = record { it = stmt.Into strict targets query; note = own_with (length targets) (breaks rule.Types true); slots = slots }
 
 abbrev pub statement : Stmt-F (By Stmt) (By Arm) → By Stmt
 statement (st.Block label decls body closing) spot slots =
     let ds = declared_all decls spot.scope slots in
     block_with spot label decls closing ds.it ds.note (each_resolved body (within label false ds.variables spot) ds.slots)
 statement (st.Assign name slot e) spot slots = assign_with spot name e slots
-statement (st.If arms other) spot slots = branched (λ arms other. stmt.If arms other) arms other spot slots
-statement (st.Cases arms other) spot slots = branched (λ arms other. stmt.Cases arms other) arms other spot slots
+statement (st.If arms other) spot slots = branching (λ arms other. stmt.If arms other) arms other spot slots
+statement (st.Cases arms other) spot slots = branching (λ arms other. stmt.Cases arms other) arms other spot slots
 statement (st.Loop label k body closing) spot slots =
     let h = headed k spot.scope slots in
     loop_with spot label closing h.it h.note (each_resolved body (within label true h.variables spot) h.slots)
 statement (st.Exit label when) spot slots = jump (λ label when. stmt.Exit label when) may_exit label when spot slots
 statement (st.Continue label when) spot slots = jump (λ label when. stmt.Continue label when) may_continue label when spot slots
-statement (st.Return e) spot slots = let x = named_expr e spot.scope in record { it = stmt.Return x.it; note = x.note; slots = slots }
+statement (st.Return e) spot slots = let x = named_expr e spot.scope in record { it = stmt.Return x.it; note = own 1 x.note; slots = slots }
 statement (st.Raise r) spot slots = raise_with r slots
 statement (st.Into strict targets query) spot slots = into_with strict targets query slots
-statement st.Nothing spot slots = record { it = stmt.Nothing; note = clean; slots = slots }
+statement st.Nothing spot slots = record { it = stmt.Nothing; note = own 1 clean; slots = slots }
 
 abbrev pub arm : Arm-F (By Stmt) (By Arm) → By Arm
 arm a spot slots =
     let test = named_expr a.test spot.scope in
     let xs = each_resolved a.body spot slots in
-    record { it = record { test = test.it; body = xs.it }; note = joined test.note xs.note; slots = xs.slots }
+    record { it = record { test = test.it; body = xs.it }; note = followed (own 1 test.note) xs.note; slots = xs.slots }
 
 abbrev pub resolving : StatementAlgebra
 resolving = statement_algebra (record { stmt = statement; arm = arm })

@@ -13,6 +13,7 @@ use crate::variables::{copy_variables, with_slot, with_variable};
 use away_names::naming::named_maybe;
 use away_names::note::{Noted, breaks, clean, joined};
 use away_names::references::written;
+use away_names::rule::Rule;
 use away_names::scope::Scope;
 use away_trees::Decl;
 use away_values::{Name, NoMemory};
@@ -42,12 +43,12 @@ fn declared(alloc: Global, d: &Decl, s: &Scope<'_>) -> Result<Noted<Decl>, NoMem
         },
         note: joined(
             written(s, &d.name),
-            joined(breaks(12, lacks_default(d)), default.note),
+            joined(breaks(Rule::Defaults, lacks_default(d)), default.note),
         ),
     })
 }
 
-/// Declarations, each of which sees those before it.
+/// Declarations, each of which sees those before it. The manual: 43.3, Declarations.
 pub fn declared_all(
     alloc: Global,
     decls: &[Decl],

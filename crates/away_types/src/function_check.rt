@@ -6,17 +6,19 @@ ghost use Rattle.away_types.specs.ResolvedBodies.{spot as spot_of};
 ghost use Rattle.away_types.specs.CheckedFunctions.{IsChecked};
 ghost use Rattle.away_types.specs.FunctionChecks as spec;
 ghost use Rattle.away_trees.specs.Limits.{KeepsLimits};
-ghost use Rattle.away_types.specs.Refusals.{Refuses};
+ghost use Rattle.away_types.specs.Refusals.{RefusesFunction};
 
 use crate::around::Spot;
-use crate::checked::RuleRefusal;
+use crate::checked::FunctionRefusal;
 use crate::checked_function::CheckedFunction;
 use crate::checked_schema::CheckedSchema;
+use crate::finding::{Report, both, followed, own};
 use crate::parameters::{Start, kept, params_note, started};
 use crate::resolved::Resolved;
 use crate::resolving::resolved_stmt;
 use crate::slots::{Slot, Slots};
 use crate::statement_types::{Asking, asked_stmt};
+use away_names::lookups::narrow;
 use away_names::note::{Note, joined};
 use away_names::scope::{Listed, Scope, Tables, Variable};
 use away_names::tables::tables_of;
@@ -28,18 +30,26 @@ use indexmap::IndexMap;
 use sqlite_items::{Boxed, Items};
 use std::alloc::Global;
 
-/// The body, the slots and the least rule that is broken.
+/// The body, the slots and what was found.
 #[derive(Drop)]
 struct Verdict {
     body: Boxed<Stmt>,
     slots: Items<Slot>,
-    note: Note,
+    note: Report,
 }
 
 /// What a function's statements see.
 #[tactic(auto, unfolding(away_names::specs::Places::tables))]
 fn entry<'a>(known: &'a IndexMap<String, Listed>, variables: &'a [Variable]) -> Spot<'a>
-    ensures { spot_of result ≡ record { scope = record { table = λ n. get_by_text known.now n; levels = []; variables = variables.now; in_function = true }; around = [] } }
+    ensures { spot_of result ≡ record {
+      scope = record {
+        table = λ n. get_by_text known.now n;
+        levels = [];
+        variables = variables.now;
+        in_function = true;
+      };
+      around = [];
+    } }
 {
     Spot {
         scope: Scope {
@@ -97,7 +107,7 @@ fn types_note(
     slots: &[Slot],
     answer: Ty,
     body: &Stmt,
-) -> Result<Note, NoMemory>
+) -> Result<Report, NoMemory>
     ensures { IfOk result (λ n. n ≡ spec.body_note s.now slots.now answer body.now) }
 {
     let columns = column_types(alloc, s)?;
@@ -126,28 +136,30 @@ fn verdict_of(alloc: Global, s: &Schema, f: &Function) -> Result<Verdict, NoMemo
     let body = Boxed::new(alloc, it)?;
     let slots = in_order(slots)?;
     let types = types_note(alloc, s, slots.as_slice(), f.result, body.get())?;
+    let head = own(narrow(f.params.len())?, head_note(f));
     Ok(Verdict {
         body,
         slots,
-        note: joined(head_note(f), joined(note, types)),
+        note: followed(head, both(note, types))?,
     })
 }
 
-/// The function with what its names stand for, where it breaks no rule.
+/// The function with what its names stand for, where it breaks no rule; else the first finding of the least rule that it breaks.
+/// The manual: 43.2, Structure of PL/pgSQL, 43.3, Declarations, and 43.6, Control Structures.
 pub fn check_function(
     alloc: Global,
     s: &CheckedSchema,
     f: Function,
-) -> Result<CheckedFunction, RuleRefusal>
+) -> Result<CheckedFunction, FunctionRefusal>
     requires { KeepsLimits f }
     ensures ok { IfOk result (λ c. IsChecked s.now.schema f c.function c.slots) }
-    ensures err { IfErr result (λ e. Refuses (spec.function_note s.now.schema f) e) }
+    ensures err { IfErr result (λ e. RefusesFunction (spec.function_note s.now.schema f) e) }
 {
     match verdict_of(alloc, &s.schema, &f) {
-        Err(NoMemory) => Err(RuleRefusal::NoMemory),
+        Err(NoMemory) => Err(FunctionRefusal::NoMemory),
         Ok(Verdict { body, slots, note }) => {
-            if note.least == 255 {
-                Ok(CheckedFunction {
+            match note.first {
+                None => Ok(CheckedFunction {
                     function: Function {
                         name: f.name,
                         strict: f.strict,
@@ -156,9 +168,8 @@ pub fn check_function(
                         body: body.into_inner(),
                     },
                     slots,
-                })
-            } else {
-                Err(RuleRefusal::Rule(note.least))
+                }),
+                Some(finding) => Err(FunctionRefusal::Broken(finding)),
             }
         }
     }

@@ -10,6 +10,7 @@ use crate::around::Around;
 use away_names::listings::copy_alias;
 use away_names::note::{Note, breaks, joined};
 use away_names::references::maybe_written;
+use away_names::rule::Rule;
 use away_names::scope::Scope;
 use away_values::{Name, NoMemory};
 use sqlite_items::Items;
@@ -58,6 +59,7 @@ fn labels_loop(l: &Name, around: &[Around]) -> bool
     found
 }
 
+/// Whether EXIT may stand there. The manual: 43.6.5.2, EXIT: a label may be a block's, and without one there is a loop around it.
 #[tactic(auto, unfolding(crate::specs::StatementRules::may_exit))]
 pub fn may_exit(label: &Option<Name>, around: &[Around]) -> bool
     ensures { result ≡ rules.may_exit label.now around.now }
@@ -68,6 +70,7 @@ pub fn may_exit(label: &Option<Name>, around: &[Around]) -> bool
     }
 }
 
+/// Whether CONTINUE may stand there. The manual: 43.6.5.3, CONTINUE: the label is a loop's.
 #[tactic(auto, unfolding(crate::specs::StatementRules::may_continue))]
 pub fn may_continue(label: &Option<Name>, around: &[Around]) -> bool
     ensures { result ≡ rules.may_continue label.now around.now }
@@ -91,6 +94,7 @@ fn closes(label: &Option<Name>, closing: &Option<Name>) -> bool
     }
 }
 
+/// What the label and the closing label break. The manual: 43.2, Structure of PL/pgSQL: a closing label is the block's own.
 pub fn labelled(s: &Scope<'_>, label: &Option<Name>, closing: &Option<Name>) -> Note
     ensures { result ≡ spec.labelled (scope s.now) label.now closing.now }
 {
@@ -98,7 +102,7 @@ pub fn labelled(s: &Scope<'_>, label: &Option<Name>, closing: &Option<Name>) -> 
         maybe_written(s, label),
         joined(
             maybe_written(s, closing),
-            breaks(10, !closes(label, closing)),
+            breaks(Rule::Labels, !closes(label, closing)),
         ),
     )
 }

@@ -11,6 +11,7 @@ use crate::slots::Slots;
 use crate::variables::{with_slot, with_variable};
 use away_names::lookups::is_kept;
 use away_names::note::{Note, breaks, clean, joined};
+use away_names::rule::Rule;
 use away_names::scope::Variable;
 use away_values::{Name, NoMemory, Ty};
 use sqlite_items::Items;
@@ -41,7 +42,7 @@ pub fn started(alloc: Global, params: &[(Name, Ty)]) -> Result<Start, NoMemory>
 pub fn kept(n: &Name) -> Note
     ensures { result ≡ schemas.kept n.now }
 {
-    breaks(14, is_kept(n))
+    breaks(Rule::Reserved, is_kept(n))
 }
 
 fn param_among(n: &Name, params: &[(Name, Ty)]) -> bool
@@ -82,5 +83,8 @@ fn names_note(params: &[(Name, Ty)]) -> Note
 pub fn params_note(params: &[(Name, Ty)]) -> Note
     ensures { result ≡ spec.params_note params.now }
 {
-    joined(breaks(6, takes_twice(params)), names_note(params))
+    joined(
+        breaks(Rule::Duplicates, takes_twice(params)),
+        names_note(params),
+    )
 }

@@ -45,14 +45,13 @@ fn checked(alloc: Global, s: &CheckedSchema, q: &Query) -> Result<CheckedQuery, 
                 params,
                 result,
             } = judged;
-            if note.least == 255 {
-                Ok(CheckedQuery {
+            match note.least {
+                None => Ok(CheckedQuery {
                     query: query.into_inner(),
                     params,
                     result,
-                })
-            } else {
-                Err(RuleRefusal::Rule(note.least))
+                }),
+                Some(rule) => Err(RuleRefusal::Broken(rule)),
             }
         }
     }

@@ -43,6 +43,7 @@ fn is_state(text: &str) -> bool
 }
 
 /// A message without `%`, or a SQLSTATE of five digits or upper-case letters other than 00000.
+/// The manual: 43.9.1, Reporting Errors and Messages. That a message has no `%` is our own choice.
 #[tactic(auto, unfolding(crate::specs::StatementRules::may_raise))]
 pub fn may_raise(r: &Raised) -> bool
     ensures { result ≡ rules.may_raise r.now }

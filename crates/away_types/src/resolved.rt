@@ -1,5 +1,6 @@
 //! Parts of a function whose names are resolved.
 
+use crate::finding::Report;
 use crate::slots::Slots;
 use away_names::note::Note;
 use away_names::scope::Variable;
@@ -10,7 +11,7 @@ use sqlite_items::{Boxed, Items};
 #[derive(Drop)]
 pub struct Resolved<T> {
     pub it: T,
-    pub note: Note,
+    pub note: Report,
     pub slots: Slots,
 }
 

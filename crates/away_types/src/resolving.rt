@@ -7,12 +7,13 @@ ghost use Rattle.away_types.specs.Statements as spec;
 
 use crate::around::Spot;
 use crate::declarations::declared_all;
+use crate::finding::{branched, followed, nothing, own};
 use crate::labels::around_with;
 use crate::resolved::{Declared, Headed, Resolved};
 use crate::slots::Slots;
 use crate::steps::{assign_of, block_of, continue_of, exit_of, headed, into_of, loop_of, raise_of};
 use away_names::naming::named_expr;
-use away_names::note::{clean, joined};
+use away_names::note::clean;
 use away_names::scope::{Scope, Variable};
 use away_trees::{Arm, Stmt};
 use away_values::{Name, NoMemory};
@@ -60,14 +61,14 @@ pub fn resolved_stmt(
             match other {
                 None => Ok(Resolved {
                     it: Stmt::If(it, None),
-                    note: joined(note, clean()),
+                    note: branched(note, nothing())?,
                     slots,
                 }),
                 Some(body) => {
                     let y = resolved_body(alloc, body.as_slice(), spot, slots)?;
                     Ok(Resolved {
                         it: Stmt::If(it, Some(y.it)),
-                        note: joined(note, y.note),
+                        note: branched(note, followed(own(1, clean()), y.note)?)?,
                         slots: y.slots,
                     })
                 }
@@ -78,14 +79,14 @@ pub fn resolved_stmt(
             match other {
                 None => Ok(Resolved {
                     it: Stmt::Cases(it, None),
-                    note: joined(note, clean()),
+                    note: branched(note, nothing())?,
                     slots,
                 }),
                 Some(body) => {
                     let y = resolved_body(alloc, body.as_slice(), spot, slots)?;
                     Ok(Resolved {
                         it: Stmt::Cases(it, Some(y.it)),
-                        note: joined(note, y.note),
+                        note: branched(note, followed(own(1, clean()), y.note)?)?,
                         slots: y.slots,
                     })
                 }
@@ -120,7 +121,7 @@ pub fn resolved_stmt(
             let x = named_expr(alloc, e, &spot.scope)?;
             Ok(Resolved {
                 it: Stmt::Return(x.it),
-                note: x.note,
+                note: own(1, x.note),
                 slots,
             })
         }
@@ -132,7 +133,7 @@ pub fn resolved_stmt(
         } => into_of(alloc, *strict, targets, query, slots),
         Stmt::Nothing => Ok(Resolved {
             it: Stmt::Nothing,
-            note: clean(),
+            note: own(1, clean()),
             slots,
         }),
     }
@@ -173,7 +174,7 @@ fn resolved_body(
     ensures { IfOk result (λ x. x ≡ bodies.resolved_body (spot_of spot.now) slots list.now) }
 {
     let mut done = Items::new(alloc);
-    let mut note = clean();
+    let mut note = nothing();
     let mut so_far = slots;
     for s in list {
         let Resolved {
@@ -182,7 +183,7 @@ fn resolved_body(
             slots,
         } = resolved_stmt(alloc, s, spot, so_far)?;
         done.push(it)?;
-        note = joined(note, more);
+        note = followed(note, more)?;
         so_far = slots;
     }
     Ok(Resolved {
@@ -202,7 +203,7 @@ fn resolved_arms(
     ensures { IfOk result (λ x. x ≡ bodies.resolved_arms (spot_of spot.now) slots list.now) }
 {
     let mut done = Items::new(alloc);
-    let mut note = clean();
+    let mut note = nothing();
     let mut so_far = slots;
     for a in list {
         let Resolved {
@@ -211,7 +212,7 @@ fn resolved_arms(
             slots,
         } = resolved_arm(alloc, a, spot, so_far)?;
         done.push(it)?;
-        note = joined(note, more);
+        note = followed(note, more)?;
         so_far = slots;
     }
     Ok(Resolved {
@@ -238,7 +239,7 @@ fn resolved_arm(
             test: test.it,
             body: xs.it,
         },
-        note: joined(test.note, xs.note),
+        note: followed(own(1, test.note), xs.note)?,
         slots: xs.slots,
     })
 }

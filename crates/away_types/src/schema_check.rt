@@ -19,12 +19,9 @@ pub fn check_schema(alloc: Global, s: Schema) -> Result<CheckedSchema, RuleRefus
 {
     match schema_note(alloc, &s) {
         Err(NoMemory) => Err(RuleRefusal::NoMemory),
-        Ok(note) => {
-            if note.least == 255 {
-                Ok(CheckedSchema { schema: s })
-            } else {
-                Err(RuleRefusal::Rule(note.least))
-            }
-        }
+        Ok(note) => match note.least {
+            None => Ok(CheckedSchema { schema: s }),
+            Some(rule) => Err(RuleRefusal::Broken(rule)),
+        },
     }
 }

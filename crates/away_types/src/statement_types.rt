@@ -4,7 +4,9 @@ ghost use Rattle.std.specs.Prelude.{◌≡◌, IfOk};
 ghost use Rattle.away_types.specs.AskedBy.{asked_by};
 ghost use Rattle.away_types.specs.StatementTypes as spec;
 
+use crate::finding::{Report, branched, followed, nothing, own, own_with};
 use away_names::note::{Note, breaks, clean, joined};
+use away_names::rule::Rule;
 use away_trees::{Arm, Decl, Expr, LoopKind, Stmt};
 use away_typing::kind::fits;
 use away_typing::types::{Places, kind};
@@ -26,8 +28,8 @@ fn asked(alloc: Global, a: &Asking<'_>, ty: Ty, e: &Expr) -> Result<Note, NoMemo
     let k = kind(alloc, e, &a.places)?;
     let u = used(e)?;
     Ok(joined(
-        breaks(13, !fits(ty, k) || u.limited),
-        breaks(15, outside(u).misused),
+        breaks(Rule::Types, !fits(ty, k) || u.limited),
+        breaks(Rule::Aggregates, outside(u).misused),
     ))
 }
 
@@ -54,7 +56,7 @@ fn asked_of_slot(alloc: Global, a: &Asking<'_>, ty: Option<Ty>, e: &Expr) -> Res
     ensures { IfOk result (λ n. n ≡ spec.asked_of_slot (asked_by a.now) ty e.now) }
 {
     match ty {
-        None => Ok(breaks(13, true)),
+        None => Ok(breaks(Rule::Types, true)),
         Some(ty) => asked(alloc, a, ty, e),
     }
 }
@@ -89,70 +91,79 @@ fn head_asked(alloc: Global, kind: &LoopKind, a: &Asking<'_>) -> Result<Note, No
     }
 }
 
-/// The least rule that the types of a statement break.
+/// What the types of a statement break, and of what stands in it.
 #[cycle(asking)]
 #[tactic(auto, using(crate::proofs::AskingRules::asking_rules))]
-pub fn asked_stmt(alloc: Global, a: &Asking<'_>, s: &Stmt) -> Result<Note, NoMemory>
+pub fn asked_stmt(alloc: Global, a: &Asking<'_>, s: &Stmt) -> Result<Report, NoMemory>
     ensures { IfOk result (λ n. n ≡ spec.asked_stmt (asked_by a.now) s.now) }
 {
     match s {
         Stmt::Block { decls, body, .. } => {
             let x = defaults(alloc, decls.as_slice(), a)?;
             let y = asked_body(alloc, a, body.as_slice())?;
-            Ok(joined(x, y))
+            followed(own_with(decls.len(), x)?, y)
         }
-        Stmt::Assign(_, slot, e) => asked_of_slot(alloc, a, slot_type(a, *slot), e),
+        Stmt::Assign(_, slot, e) => {
+            let x = asked_of_slot(alloc, a, slot_type(a, *slot), e)?;
+            Ok(own(1, x))
+        }
         Stmt::If(arms, other) | Stmt::Cases(arms, other) => {
             let x = asked_arms(alloc, a, arms.as_slice())?;
             match other {
-                None => Ok(joined(x, clean())),
+                None => branched(x, nothing()),
                 Some(body) => {
                     let y = asked_body(alloc, a, body.as_slice())?;
-                    Ok(joined(x, y))
+                    branched(x, followed(own(1, clean()), y)?)
                 }
             }
         }
         Stmt::Loop { kind, body, .. } => {
             let x = head_asked(alloc, kind, a)?;
             let y = asked_body(alloc, a, body.as_slice())?;
-            Ok(joined(x, y))
+            followed(own(1, x), y)
         }
-        Stmt::Exit(_, when) | Stmt::Continue(_, when) => maybe_asked(alloc, a, Ty::Boolean, when),
-        Stmt::Return(e) => asked(alloc, a, a.result, e),
-        Stmt::Raise(_) => Ok(clean()),
-        Stmt::Into { .. } => Ok(breaks(13, true)),
-        Stmt::Nothing => Ok(clean()),
+        Stmt::Exit(_, when) | Stmt::Continue(_, when) => {
+            let x = maybe_asked(alloc, a, Ty::Boolean, when)?;
+            Ok(own(1, x))
+        }
+        Stmt::Return(e) => {
+            let x = asked(alloc, a, a.result, e)?;
+            Ok(own(1, x))
+        }
+        Stmt::Raise(_) => Ok(own(1, clean())),
+        Stmt::Into { targets, .. } => own_with(targets.len(), breaks(Rule::Types, true)),
+        Stmt::Nothing => Ok(own(1, clean())),
     }
 }
 
 #[cycle(asking)]
-fn asked_body(alloc: Global, a: &Asking<'_>, list: &[Stmt]) -> Result<Note, NoMemory>
+fn asked_body(alloc: Global, a: &Asking<'_>, list: &[Stmt]) -> Result<Report, NoMemory>
     ensures { IfOk result (λ n. n ≡ spec.asked_body (asked_by a.now) list.now) }
 {
-    let mut note = clean();
+    let mut note = nothing();
     for s in list {
-        note = joined(note, asked_stmt(alloc, a, s)?);
+        note = followed(note, asked_stmt(alloc, a, s)?)?;
     }
     Ok(note)
 }
 
 #[cycle(asking)]
-fn asked_arms(alloc: Global, a: &Asking<'_>, list: &[Arm]) -> Result<Note, NoMemory>
+fn asked_arms(alloc: Global, a: &Asking<'_>, list: &[Arm]) -> Result<Report, NoMemory>
     ensures { IfOk result (λ n. n ≡ spec.asked_arms (asked_by a.now) list.now) }
 {
-    let mut note = clean();
+    let mut note = nothing();
     for arm in list {
-        note = joined(note, asked_arm(alloc, a, arm)?);
+        note = followed(note, asked_arm(alloc, a, arm)?)?;
     }
     Ok(note)
 }
 
 #[cycle(asking)]
 #[tactic(auto, using(crate::proofs::AskingRules::arm_asks))]
-fn asked_arm(alloc: Global, a: &Asking<'_>, arm: &Arm) -> Result<Note, NoMemory>
+fn asked_arm(alloc: Global, a: &Asking<'_>, arm: &Arm) -> Result<Report, NoMemory>
     ensures { IfOk result (λ n. n ≡ spec.asked_arm (asked_by a.now) arm.now) }
 {
     let test = asked(alloc, a, Ty::Boolean, &arm.test)?;
     let body = asked_body(alloc, a, arm.body.as_slice())?;
-    Ok(joined(test, body))
+    followed(own(1, test), body)
 }

@@ -1,15 +1,19 @@
 //! Statements, by their parts whose names are resolved.
 
-ghost use Rattle.std.specs.Prelude.{◌≡◌, IfOk};
+ghost use Rattle.std.specs.Prelude.{◌≡◌, IfOk, length};
 ghost use Rattle.std.specs.Option.{option_copied};
 ghost use Rattle.away_trees.specs.declared.statements.Stmt.TheVariants as stmt;
+ghost use Rattle.away_names.specs.declared.rule.Rule.TheVariants as rule;
+ghost use Rattle.away_names.specs.Notes as notes;
 ghost use Rattle.away_names.specs.Places.{scope};
+ghost use Rattle.away_types.specs.Findings as findings;
 ghost use Rattle.away_types.specs.ResolvedBodies.{spot as spot_of};
 ghost use Rattle.away_types.specs.StatementRules as rules;
 ghost use Rattle.away_types.specs.Statements as spec;
 
 use crate::around::Spot;
 use crate::declarations::declares_twice;
+use crate::finding::{Report, followed, own, own_with};
 use crate::labels::{labelled, may_continue, may_exit};
 use crate::raising::may_raise;
 use crate::resolved::{Headed, Resolved};
@@ -21,6 +25,7 @@ use away_names::lookups::variable_named;
 use away_names::naming::{named_expr, named_maybe};
 use away_names::note::{Note, Noted, breaks, clean, joined};
 use away_names::references::{maybe_written, written};
+use away_names::rule::Rule;
 use away_names::scope::{Scope, Variable};
 use away_trees::{Decl, Expr, LoopKind, Raised, Select, Stmt};
 use away_values::{Name, NoMemory, Ty};
@@ -40,13 +45,65 @@ fn assigned(
     match v {
         None => Ok(Noted {
             it: Stmt::Assign(target, None, e.it),
-            note: joined(breaks(7, true), e.note),
+            note: joined(breaks(Rule::Names, true), e.note),
         }),
         Some(v) => Ok(Noted {
             it: Stmt::Assign(target, Some(v.slot), e.it),
-            note: joined(breaks(11, v.constant), e.note),
+            note: joined(breaks(Rule::Constants, v.constant), e.note),
         }),
     }
+}
+
+/// What was found in a block: by itself, at its declarations, and in its statements.
+fn block_report(
+    spot: &Spot<'_>,
+    label: &Option<Name>,
+    decls: &[Decl],
+    closing: &Option<Name>,
+    found: Note,
+    body: Report,
+) -> Result<Report, NoMemory>
+    ensures { IfOk result (λ r. r ≡ findings.followed
+        (findings.own_with (length decls.now)
+        (notes.joined (notes.joined (spec.labelled (scope spot.now.scope) label.now closing.now) (notes.breaks rule.Duplicates (rules.declares_twice decls.now)))
+        found))
+        body) }
+{
+    let own = joined(
+        joined(
+            labelled(&spot.scope, label, closing),
+            breaks(Rule::Duplicates, declares_twice(decls)),
+        ),
+        found,
+    );
+    followed(own_with(decls.len(), own)?, body)
+}
+
+fn block_by(
+    alloc: Global,
+    label: &Option<Name>,
+    closing: &Option<Name>,
+    head: Items<Decl>,
+    report: Report,
+    body: Resolved<Items<Stmt>>,
+) -> Result<Resolved<Stmt>, NoMemory>
+    ensures { IfOk result (λ x. x ≡ record { it = stmt.Block label.now head body.it closing.now; note = report; slots = body.slots }) }
+{
+    let Resolved {
+        it: statements,
+        note: _,
+        slots,
+    } = body;
+    Ok(Resolved {
+        it: Stmt::Block {
+            label: copy_alias(alloc, label)?,
+            decls: head,
+            body: statements,
+            closing: copy_alias(alloc, closing)?,
+        },
+        note: report,
+        slots,
+    })
 }
 
 pub fn block_of(
@@ -61,23 +118,31 @@ pub fn block_of(
 ) -> Result<Resolved<Stmt>, NoMemory>
     ensures { IfOk result (λ x. x ≡ spec.block_with (spot_of spot.now) label.now decls.now closing.now head note body) }
 {
-    let found = joined(
-        labelled(&spot.scope, label, closing),
-        breaks(6, declares_twice(decls)),
-    );
-    let Resolved {
-        it: statements,
-        note: more,
-        slots,
-    } = body;
+    let report = block_report(spot, label, decls, closing, note, body.note)?;
+    block_by(alloc, label, closing, head, report, body)
+}
+
+fn loop_by(
+    alloc: Global,
+    label: &Option<Name>,
+    closing: &Option<Name>,
+    head: Boxed<LoopKind>,
+    report: Report,
+    body: Resolved<Items<Stmt>>,
+) -> Result<Resolved<Stmt>, NoMemory>
+    ensures { IfOk result (λ x. x ≡ record { it = stmt.Loop label.now head body.it closing.now; note = report; slots = body.slots }) }
+{
+    let label = copy_alias(alloc, label)?;
+    let closing = copy_alias(alloc, closing)?;
+    let Resolved { it, note: _, slots } = body;
     Ok(Resolved {
-        it: Stmt::Block {
-            label: copy_alias(alloc, label)?,
-            decls: head,
-            body: statements,
-            closing: copy_alias(alloc, closing)?,
+        it: Stmt::Loop {
+            label,
+            kind: head.into_inner(),
+            body: it,
+            closing,
         },
-        note: joined(found, joined(note, more)),
+        note: report,
         slots,
     })
 }
@@ -93,24 +158,9 @@ pub fn loop_of(
 ) -> Result<Resolved<Stmt>, NoMemory>
     ensures { IfOk result (λ x. x ≡ spec.loop_with (spot_of spot.now) label.now closing.now head found body) }
 {
-    let note = labelled(&spot.scope, label, closing);
-    let label = copy_alias(alloc, label)?;
-    let closing = copy_alias(alloc, closing)?;
-    let Resolved {
-        it,
-        note: more,
-        slots,
-    } = body;
-    Ok(Resolved {
-        it: Stmt::Loop {
-            label,
-            kind: head.into_inner(),
-            body: it,
-            closing,
-        },
-        note: joined(note, joined(found, more)),
-        slots,
-    })
+    let own = own(1, joined(labelled(&spot.scope, label, closing), found));
+    let report = followed(own, body.note)?;
+    loop_by(alloc, label, closing, head, report, body)
 }
 
 pub fn assign_of(
@@ -131,7 +181,7 @@ pub fn assign_of(
     )?;
     Ok(Resolved {
         it: x.it,
-        note: joined(written(&spot.scope, name), x.note),
+        note: own(1, joined(written(&spot.scope, name), x.note)),
         slots,
     })
 }
@@ -148,9 +198,15 @@ pub fn exit_of(
     let test = named_maybe(alloc, when, &spot.scope)?;
     Ok(Resolved {
         it: Stmt::Exit(copy_alias(alloc, label)?, test.it),
-        note: joined(
-            maybe_written(&spot.scope, label),
-            joined(breaks(10, !may_exit(label, spot.around)), test.note),
+        note: own(
+            1,
+            joined(
+                maybe_written(&spot.scope, label),
+                joined(
+                    breaks(Rule::Labels, !may_exit(label, spot.around)),
+                    test.note,
+                ),
+            ),
         ),
         slots,
     })
@@ -168,9 +224,15 @@ pub fn continue_of(
     let test = named_maybe(alloc, when, &spot.scope)?;
     Ok(Resolved {
         it: Stmt::Continue(copy_alias(alloc, label)?, test.it),
-        note: joined(
-            maybe_written(&spot.scope, label),
-            joined(breaks(10, !may_continue(label, spot.around)), test.note),
+        note: own(
+            1,
+            joined(
+                maybe_written(&spot.scope, label),
+                joined(
+                    breaks(Rule::Labels, !may_continue(label, spot.around)),
+                    test.note,
+                ),
+            ),
         ),
         slots,
     })
@@ -181,7 +243,7 @@ pub fn raise_of(alloc: Global, raised: &Raised, slots: Slots) -> Result<Resolved
 {
     Ok(Resolved {
         it: Stmt::Raise(raised.copy(alloc)?),
-        note: breaks(16, !may_raise(raised)),
+        note: own(1, breaks(Rule::Raises, !may_raise(raised))),
         slots,
     })
 }
@@ -209,6 +271,7 @@ pub fn into_of(
 ) -> Result<Resolved<Stmt>, NoMemory>
     ensures { IfOk result (λ x. x ≡ spec.into_with strict targets.now query.now slots) }
 {
+    let note = own_with(targets.len(), breaks(Rule::Types, true))?;
     let targets = copy_targets(alloc, targets.as_slice())?;
     Ok(Resolved {
         it: Stmt::Into {
@@ -216,7 +279,7 @@ pub fn into_of(
             targets,
             query: query.copy(alloc)?,
         },
-        note: breaks(13, true),
+        note,
         slots,
     })
 }

@@ -131,8 +131,10 @@ limit_of t = (maybe t).names 0
 abbrev pub listing : Select-F Term Term Term Term Term Term Term Term → Term
 listing s =
     record {
-      uses = select_uses (all s.list).uses (all s.from).uses (maybe s.filter).uses (all s.order).uses (maybe s.limit).uses (is_some_of s.order) (limit_of s.limit);
-      names = λ level. or_ ((all s.list).names level) (or_ ((all s.from).names level) (or_ ((maybe s.filter).names level) (or_ ((all s.order).names level) ((maybe s.limit).names level))));
+      uses = select_uses (all s.list).uses (all s.from).uses (maybe s.filter).uses (all s.order).uses (maybe s.limit).uses (is_some_of s.order)
+          (limit_of s.limit);
+      names = λ level. or_ ((all s.list).names level)
+          (or_ ((all s.from).names level) (or_ ((maybe s.filter).names level) (or_ ((all s.order).names level) ((maybe s.limit).names level))));
     }
 
 abbrev pub whole : Query-F Term Term Term Term Term Term Term Term → Term

@@ -7,3 +7,4 @@ pub mod UsesLists
 pub mod Parameters
 pub mod ParameterLists
 pub mod Wholes
+pub mod RowQueries

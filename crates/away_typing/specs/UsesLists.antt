@@ -77,7 +77,8 @@ abbrev pub selects_used : List Select → Uses
 selects_used = fold (λ u x. either u (uses_of_select x)) unused
 
 abbrev pub uses_over : Select-F Expr Source FromItem Item Key Query Recursive Select → Uses
-uses_over x = select_uses (items_used x.list) (from_used x.from) (maybe_used x.filter) (keys_used x.order) (maybe_used x.limit) (is_some_of x.order) (maybe_at 0 x.limit)
+uses_over x = select_uses (items_used x.list) (from_used x.from) (maybe_used x.filter) (keys_used x.order)
+    (maybe_used x.limit) (is_some_of x.order) (maybe_at 0 x.limit)
 
 -- ---- the terms of a recursive table
 

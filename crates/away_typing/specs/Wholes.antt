@@ -12,6 +12,7 @@ use Rattle.away_trees.specs.declared.queries.Select.{Select}
 use Rattle.away_trees.specs.declared.queries.Recursive.{Recursive}
 use Rattle.away_trees.specs.declared.queries.Query.{Query}
 use Rattle.away_trees.specs.declared.queries.Expr.TheViews.{out-Query, out-Recursive, out-Select, out-FromItem}
+use Rattle.away_names.specs.declared.rule.Rule.TheVariants as rule
 use Rattle.away_names.specs.declared.note.File.{File}
 use Rattle.away_names.specs.declared.note.Note.{Note}
 use Rattle.away_names.specs.declared.note.Times.{Times}
@@ -65,11 +66,12 @@ unfoldable pub is_once : Times → Bool
 is_once Once = true
 is_once _ = false
 
--- A column of the recursive table has the type of the first term's column at its place. Where the first term names the table or has no such column, it is bigint.
+-- A column of the recursive table has the type of the first term's column at its place. Where the first term names the table
+-- or has no such column, it is bigint.
 unfoldable pub recursive_types : Times → List Name → Shape → List Ty
 recursive_types first columns shape = padded columns (if is_never first then types_or_none shape else [])
 
--- ---- X17
+-- ---- Recursion (X17)
 
 unfoldable pub is_table : Name → Source → Bool
 is_table name (b.Table n) = bytes_eq n name
@@ -108,7 +110,7 @@ recursion_by s first second r shape =
     let kinds = kinds_of_select (out-Recursive r).second (over_tables tables) in
     record {
       tables = tables;
-      note = joined (breaks 13 (not (is_some shape && is_some kinds))) (breaks 17 (not (is_recursion first second r shape kinds)));
+      note = joined (breaks rule.Types (not (is_some shape && is_some kinds))) (breaks rule.Recursion (not (is_recursion first second r shape kinds)));
     }
 
 abbrev pub recursion : Schema → Times → Times → Option Recursive → Recursion
@@ -117,7 +119,7 @@ recursion s first second (Some r) = recursion_by s first second r (first_shape s
 
 -- ---- the whole
 
--- X18: two columns, and the second is text
+-- Answer (X18): two columns, and the second is text
 unfoldable pub is_answer : Shape → Bool
 is_answer (Some (t ∷ u ∷ [])) = same u Text
 is_answer _ = false
@@ -127,10 +129,10 @@ first_type (Some (t ∷ ts)) = t
 first_type _ = Text
 
 abbrev pub answer_note : Shape → Note
-answer_note shape = joined (breaks 13 (not (is_some shape))) (breaks 18 (not (is_answer shape)))
+answer_note shape = joined (breaks rule.Types (not (is_some shape))) (breaks rule.Answer (not (is_answer shape)))
 
 abbrev pub uses_note : Query → Note
-uses_note q = joined (breaks 13 (uses_of_query q).limited) (breaks 15 (uses_of_query q).misused)
+uses_note q = joined (breaks rule.Types (uses_of_query q).limited) (breaks rule.Aggregates (uses_of_query q).misused)
 
 abbrev pub final_shape : Query → Recursion → Shape
 final_shape q r = shape_of (union_in (over_tables r.tables) (out-Query q).selects)
@@ -140,7 +142,7 @@ judged_by f r =
     let shape = final_shape f.query r in
     let params = params_of f.query in
     record {
-      note = joined (joined f.note (uses_note f.query)) (joined (breaks 13 params.clash) (joined r.note (answer_note shape)));
+      note = joined (joined f.note (uses_note f.query)) (joined (breaks rule.Types params.clash) (joined r.note (answer_note shape)));
       params = params.list;
       result = first_type shape;
     }

@@ -6,6 +6,7 @@ ghost use Rattle.away_typing.specs.Kinds as spec;
 use away_values::Ty;
 
 /// A type, or the literal NULL, which fits every type, or a sum, which asks for a cast to bigint, or no type.
+/// PostgreSQL's sum of bigint is numeric (the manual: 9.21, Aggregate Functions); that it asks for a cast is our own choice.
 #[derive(Clone, Copy, Debug, PartialEq, Eq)]
 pub enum Kind {
     Null,
@@ -37,7 +38,7 @@ pub fn same(a: Ty, b: Ty) -> bool
     }
 }
 
-/// The common type of two operands.
+/// The common type of two operands. The manual: 10.5, UNION, CASE, and Related Constructs.
 #[tactic(auto, unfolding(crate::specs::Kinds::meet, crate::specs::Kinds::only_if))]
 pub fn meet(a: Kind, b: Kind) -> Kind
     ensures { result ≡ spec.meet a b }
@@ -84,7 +85,7 @@ pub fn only_if(test: bool, k: Kind) -> Kind
     if test { k } else { Kind::Wrong }
 }
 
-/// NULL is text where nothing asks for a type.
+/// NULL is text where nothing asks for a type. The manual: 10.5, UNION, CASE, and Related Constructs, and 10.6, SELECT Output Columns.
 #[tactic(auto, unfolding(crate::specs::Kinds::settled))]
 pub fn settled(k: Kind) -> Kind
     ensures { result ≡ spec.settled k }

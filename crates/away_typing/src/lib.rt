@@ -7,6 +7,7 @@ pub mod operands;
 pub mod parameters;
 pub mod params;
 pub mod recursion;
+pub mod row_queries;
 pub mod shapes;
 pub mod types;
 pub mod uses;

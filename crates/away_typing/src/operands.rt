@@ -47,6 +47,7 @@ pub fn column(c: Col, p: &Places<'_>) -> Kind
     of_type(*t)
 }
 
+/// The type of two operands. The manual: 9.1, 9.3 and 9.4; one operand of `||` at least is a text.
 #[tactic(auto, unfolding(crate::specs::Typing::pair))]
 pub fn pair(op: ChainOp, a: Kind, b: Kind) -> Kind
     ensures { result ≡ spec.pair op a b }
@@ -68,6 +69,7 @@ pub fn pair(op: ChainOp, a: Kind, b: Kind) -> Kind
     }
 }
 
+/// Whether a test fits. The manual: 9.2, Comparison Functions and Operators: IS TRUE and IS FALSE take a boolean.
 #[tactic(auto, unfolding(crate::specs::Typing::passed))]
 pub fn passed(test: IsTest, k: Kind) -> bool
     ensures { result ≡ spec.passed test k }
@@ -88,6 +90,7 @@ fn castable(from: Ty, to: Ty) -> bool
     }
 }
 
+/// The manual: 4.2.9, Type Casts. Which casts there are is our own choice.
 #[tactic(auto, unfolding(crate::specs::Typing::cast_kind))]
 pub fn cast_kind(to: Ty, k: Kind) -> Kind
     ensures { result ≡ spec.cast_kind to k }
@@ -103,6 +106,7 @@ pub fn cast_kind(to: Ty, k: Kind) -> Kind
     }
 }
 
+/// The common type of several operands. The manual: 10.5, UNION, CASE, and Related Constructs.
 pub fn common(list: &[Kind]) -> Kind
     ensures { result ≡ kinds.common list.now }
 {
@@ -168,6 +172,7 @@ fn call_kind(f: Known, list: &[Kind]) -> Kind
     }
 }
 
+/// The manual: 9.4, 9.18 and 9.21. That `length` is bigint is our own choice; the manual's is an integer.
 #[tactic(auto, unfolding(crate::specs::Typing::called))]
 pub fn kind_of_call(f: Option<Known>, list: &[Kind]) -> Kind
     ensures { result ≡ spec.called f list.now }
@@ -178,6 +183,7 @@ pub fn kind_of_call(f: Option<Known>, list: &[Kind]) -> Kind
     }
 }
 
+/// The manual: 4.2.11, Scalar Subqueries: one column.
 #[tactic(auto, unfolding(crate::specs::Typing::scalar_kind))]
 pub fn scalar_kind(shape: &Option<Items<Ty>>) -> Kind
     ensures { result ≡ spec.scalar_kind shape.now }
@@ -191,6 +197,7 @@ pub fn scalar_kind(shape: &Option<Items<Ty>>) -> Kind
     }
 }
 
+/// The manual: 9.23.1, EXISTS.
 #[tactic(auto, unfolding(crate::specs::Typing::exists_kind, crate::specs::Kinds::only_if))]
 pub fn exists_kind(shape: &Option<Items<Ty>>) -> Kind
     ensures { result ≡ spec.exists_kind shape.now }

@@ -12,6 +12,7 @@ use crate::types::{Places, select_shape, union};
 use crate::uses::{is_some_of, select_used};
 use crate::wholes::Recursion;
 use away_names::note::{Times, breaks, clean, joined};
+use away_names::rule::Rule;
 use away_trees::{FromItem, Recursive, Schema, Select, Source, TableSchema};
 use away_values::{Name, NoMemory, Ty};
 use sqlite_items::Items;
@@ -215,13 +216,14 @@ fn recursion_by(
     let kinds = select_shape(alloc, &r.second, &over_tables(&tables))?;
     let right = is_recursion(first, second, r, shape, &kinds)?;
     let note = joined(
-        breaks(13, !(shape.is_some() && kinds.is_some())),
-        breaks(17, !right),
+        breaks(Rule::Types, !(shape.is_some() && kinds.is_some())),
+        breaks(Rule::Recursion, !right),
     );
     Ok(Recursion { tables, note })
 }
 
 /// The tables for what stands behind WITH, and what was found in its terms.
+/// The manual: 7.8.2, Recursive Queries. 42P19 is invalid_recursion.
 pub fn recursion_found(
     alloc: Global,
     s: &Schema,

@@ -29,6 +29,7 @@ pub fn nested<'a>(
     Ok(all)
 }
 
+/// The manual: 7.2.1.5, LATERAL Subqueries.
 pub fn before<'a>(
     lateral: bool,
     frame: &'a Items<Items<Ty>>,
@@ -179,6 +180,7 @@ fn maybe_fits(ty: Ty, k: Option<Kind>) -> bool
     }
 }
 
+/// The kinds of a select's columns, where its parts fit. The manual: 7.2.2, The WHERE Clause, which asks for a boolean.
 #[tactic(auto, unfolding(crate::specs::Typing::select_kinds))]
 pub fn select_kinds(
     list: Items<Kind>,
@@ -266,7 +268,7 @@ pub fn or_none(kinds: Option<Option<Items<Kind>>>) -> Option<Items<Kind>>
     }
 }
 
-/// The types of a union's columns, where a literal NULL alone is text.
+/// The types of a union's columns, where a literal NULL alone is text. The manual: 10.5, UNION, CASE, and Related Constructs.
 pub fn shape_of(alloc: Global, kinds: Option<Items<Kind>>) -> Result<Option<Items<Ty>>, NoMemory>
     ensures { IfOk result (λ s. s ≡ spec.shape_of kinds) }
 {

@@ -202,7 +202,7 @@ pub fn query_shape(alloc: Global, q: &Query, p: &Places<'_>) -> Result<Option<It
     }
 }
 
-/// The kinds of selects that UNION ALL joins.
+/// The kinds of selects that UNION ALL joins. The manual: 7.4, Combining Queries, and 10.5, UNION, CASE, and Related Constructs.
 #[cycle(types)]
 pub fn union(
     alloc: Global,

@@ -139,7 +139,7 @@ fn apart(u: Uses) -> Uses
     }
 }
 
-/// Outside a list no aggregate may stand.
+/// Outside a list no aggregate may stand. The manual: 4.2.7, Aggregate Expressions. 42803 is grouping_error.
 #[tactic(auto, unfolding(crate::specs::Aggregates::outside, crate::specs::Aggregates::unused))]
 pub fn outside(u: Uses) -> Uses
     ensures { result ≡ spec.outside u }

@@ -10,6 +10,7 @@ use crate::shapes::shape_of;
 use crate::types::union;
 use crate::uses::query_used;
 use away_names::note::{File, Note, breaks, joined};
+use away_names::rule::Rule;
 use away_trees::{Query, Schema};
 use away_values::{NoMemory, Ty};
 use sqlite_items::Items;
@@ -59,17 +60,25 @@ fn first_type(shape: &Option<Items<Ty>>) -> Ty
 fn answer_note(shape: &Option<Items<Ty>>) -> Note
     ensures { result ≡ spec.answer_note shape.now }
 {
-    joined(breaks(13, shape.is_none()), breaks(18, !is_answer(shape)))
+    joined(
+        breaks(Rule::Types, shape.is_none()),
+        breaks(Rule::Answer, !is_answer(shape)),
+    )
 }
 
-fn uses_note(q: &Query) -> Result<Note, NoMemory>
+/// Where aggregates stand, and what their number limits.
+pub fn uses_note(q: &Query) -> Result<Note, NoMemory>
     ensures { IfOk result (λ n. n ≡ spec.uses_note q.now) }
 {
     let uses = query_used(q)?;
-    Ok(joined(breaks(13, uses.limited), breaks(15, uses.misused)))
+    Ok(joined(
+        breaks(Rule::Types, uses.limited),
+        breaks(Rule::Aggregates, uses.misused),
+    ))
 }
 
-fn final_shape(alloc: Global, q: &Query, r: &Recursion) -> Result<Option<Items<Ty>>, NoMemory>
+/// The types of the columns of a query, by the tables behind its selects.
+pub fn final_shape(alloc: Global, q: &Query, r: &Recursion) -> Result<Option<Items<Ty>>, NoMemory>
     ensures { IfOk result (λ s. s ≡ spec.final_shape q.now r.now) }
 {
     let kinds = union(alloc, q.selects.as_slice(), &over_tables(&r.tables))?;
@@ -85,7 +94,7 @@ fn judged_by(alloc: Global, f: &File, r: &Recursion) -> Result<QueryVerdict, NoM
     let note = joined(
         joined(f.note, uses),
         joined(
-            breaks(13, params.clash),
+            breaks(Rule::Types, params.clash),
             joined(r.note, answer_note(&shape)),
         ),
     );

@@ -32,4 +32,5 @@ pub record IsDivision (a b q r : ℤ) : Type 0 where
 pub record IsDivided : Type 0 where
   pub by_zero : (a : ℤ) → int_op int.Div (val.Int a) (val.Int (pos 0)) ≡ Err (class (codes "22012"))
   pub rest_by_zero : (a : ℤ) → int_op int.Rem (val.Int a) (val.Int (pos 0)) ≡ Err (class (codes "22012"))
-  pub otherwise : (a b : ℤ) → (b ≡ pos 0 → ⊥) → (q : ℤ) × ((r : ℤ) × (IsDivision a b q r × IsExactly q (int_op int.Div (val.Int a) (val.Int b)) × IsExactly r (int_op int.Rem (val.Int a) (val.Int b))))
+  pub otherwise : (a b : ℤ) → (b ≡ pos 0 → ⊥) → (q : ℤ)
+      × ((r : ℤ) × (IsDivision a b q r × IsExactly q (int_op int.Div (val.Int a) (val.Int b)) × IsExactly r (int_op int.Rem (val.Int a) (val.Int b))))

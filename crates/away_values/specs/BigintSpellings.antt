@@ -20,4 +20,5 @@ signed sign (Some n) = in_range (sign n)
 -- The bigint that a text writes: `-` is 45 and `+` is 43. None where the text isn't the spelling of a bigint.
 abbrev pub bigint_of : List ℕ → Option ℤ
 bigint_of [] = None
-bigint_of (c ∷ cs) = if nat_eq c 45 then signed (λ n. neg_ℤ (pos n)) (number_of cs) else (if nat_eq c 43 then signed pos (number_of cs) else signed pos (number_of (c ∷ cs)))
+bigint_of (c ∷ cs) = if nat_eq c 45 then signed (λ n. neg_ℤ (pos n)) (number_of cs)
+    else (if nat_eq c 43 then signed pos (number_of cs) else signed pos (number_of (c ∷ cs)))

@@ -7,7 +7,7 @@ use crate::operators::IntOp;
 use crate::sqlstate;
 use crate::values::{Class, Value};
 
-/// Applies the operator to two bigints; NULL where an operand is NULL (PostgreSQL manual, Mathematical Functions and
+/// Applies the operator to two bigints; NULL where an operand is NULL (PostgreSQL manual, 9.3, Mathematical Functions and
 /// Operators). 22003 is a result out of range, 22012 a zero divisor.
 pub fn int_op(op: IntOp, a: &Value, b: &Value) -> Result<Value, Class>
     ensures { result ≡ int_value op a.now b.now }
@@ -48,6 +48,7 @@ fn int_result(op: IntOp, a: i64, b: i64) -> Result<Value, Class>
 }
 
 /// The value as an integer of 32 bits: itself, or 22003 where it is a number outside -2147483648 to 2147483647.
+/// The manual: 8.1.1, Integer Types. 22003 is numeric_value_out_of_range; NULL stays NULL.
 pub fn small(v: &Value) -> Result<Value, Class>
     ensures { result ≡ small_value v.now }
 {

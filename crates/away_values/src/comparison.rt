@@ -8,8 +8,8 @@ use crate::values::Value;
 use crate::words::Word;
 use std::cmp::Ordering;
 
-/// Compares two values of one type; NULL where one of them is NULL (PostgreSQL manual, Comparison Functions and Operators).
-/// Texts compare by code point, which is our own choice.
+/// Compares two values of one type; NULL where one of them is NULL (PostgreSQL manual, 9.2, Comparison Functions and Operators).
+/// Texts compare by code point, which is our own choice. The manual leaves the order of texts to collations (24.2).
 pub fn compare(op: CmpOp, a: &Value, b: &Value) -> Value
     ensures { result ≡ compare_value op a.now b.now }
 {

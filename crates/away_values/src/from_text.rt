@@ -9,7 +9,7 @@ use crate::words::{LONGEST_NAME, LONGEST_TEXT, Name, Word};
 use std::alloc::Global;
 
 /// The text as a word, or None where it is longer than a text may be or contains U+0000. PostgreSQL has no U+0000 in a text
-/// either (PostgreSQL manual, Character Types).
+/// either (PostgreSQL manual, 8.3, Character Types).
 pub fn word(alloc: Global, text: &str) -> Result<Option<Word>, NoMemory>
     ensures { IfOk result (λ found. MatchOption found (¬ (IsWord text.now)) (λ w. IsWord text.now × (w ≡ chars text.now))) }
 {
@@ -20,6 +20,7 @@ pub fn word(alloc: Global, text: &str) -> Result<Option<Word>, NoMemory>
 }
 
 /// The text as a name, or None where it isn't one to 63 characters, each a lower-case ASCII letter, a digit or `_`.
+/// The manual: 4.1.1, Identifiers and Key Words; that no other letters stand in a name is our own choice.
 pub fn name(alloc: Global, text: &str) -> Result<Option<Name>, NoMemory>
     ensures { IfOk result (λ found. MatchOption found (¬ (IsName text.now)) (λ n. IsName text.now × (n ≡ text.now))) }
 {

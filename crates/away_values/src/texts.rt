@@ -16,7 +16,7 @@ use crate::words::{LONGEST_TEXT, Word};
 use std::alloc::Global;
 
 /// Applies the operator to its operands: two for `||`, one for `length` and for the cast, three for `substr`; NULL where one
-/// of them is NULL (PostgreSQL manual, String Functions and Operators). 22011 is a negative length of `substr`, 54000 a
+/// of them is NULL (PostgreSQL manual, 9.4). 22011 is a negative length of `substr`, 54000 a
 /// result of `||` of more than 1,048,576 bytes.
 pub fn text_op(alloc: Global, op: TextOp, args: &[Value]) -> Result<Value, OpError>
     ensures { Answers (text_value op args.now) result }

@@ -10,7 +10,7 @@ pub struct Class {
     pub code: [u8; 5],
 }
 
-/// A value of SQL.
+/// A value of SQL. NULL is of every type. Of the types, the manual: 8.1, Numeric Types, 8.3, Character Types, and 8.6, Boolean Type.
 #[derive(Drop)]
 pub enum Value {
     Null,
@@ -33,6 +33,7 @@ pub struct Tables {
 
 /// What a function or a query answers at a bound: a value, a fault, that it needs more, or a result of another shape than
 /// one row of a value and a fault, with the number of its rows.
+/// The bound is in turns of loops for a function, and in iterations of the recursive table for a query; `More` is our own choice.
 #[derive(Drop)]
 pub enum Answer {
     Value(Value),

@@ -11,9 +11,11 @@ use std::marker::Model;
 pub const LONGEST_TEXT: usize = 1_048_576;
 
 /// The characters of the longest name.
+/// The manual: 4.1.1, Identifiers and Key Words. PostgreSQL cuts longer names off; here they are no names, which is our own choice.
 pub const LONGEST_NAME: usize = 63;
 
 /// A text of at most 1,048,576 bytes of UTF-8 without U+0000. Contracts see it as its list of code points.
+/// The limit is our own; U+0000 is left out by the manual, 8.3, Character Types.
 #[derive(Debug, Drop)]
 pub struct Word {
     text: String,
@@ -59,6 +61,7 @@ impl Word {
 }
 
 /// A name of one to 63 characters, each a lower-case ASCII letter, a digit or `_`. Contracts see it as its list of bytes.
+/// The limit is that of the manual, 4.1.1, Identifiers and Key Words (63 bytes); that it has no other letters is our own choice.
 #[derive(Debug, Drop)]
 pub struct Name {
     text: String,

@@ -3,7 +3,8 @@ use Rattle.std.proofs.Common.{◌≡◌, ℕ, zero, suc, ◌+◌, ◌≤◌, Boo
 use Rattle.block_forms.specs.Machines.{Move, ends, moves, stuck, Machine, counted, then_goes, go, IsOver, Stays, HeadsFew}
 
 module _ {S : Type 0} (m : Machine S) where
-  then_stays : (j k : ℕ) → ((s : S) (h : ℕ) → IsOver (go m j s h).answer → go m k s h ≡ go m j s h) → (x : Move S) (h : ℕ) → IsOver (then_goes x (go m j) h).answer → then_goes x (go m k) h ≡ then_goes x (go m j) h
+  then_stays : (j k : ℕ) → ((s : S) (h : ℕ) → IsOver (go m j s h).answer → go m k s h ≡ go m j s h) → (x : Move S)
+      (h : ℕ) → IsOver (then_goes x (go m j) h).answer → then_goes x (go m k) h ≡ then_goes x (go m j) h
   then_stays j k further (ends r) h over = refl
   then_stays j k further (moves s) h over = further s h over
   then_stays j k further stuck h over = refl

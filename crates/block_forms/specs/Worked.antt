@@ -39,7 +39,8 @@ sign_of = record {
   strict = false;
   params = (codes "a", ty.Bigint) ∷ [];
   result = ty.Bigint;
-  body = stmt.Block None [] (stmt.If (record { test = expr.Compare cmp.Gt (expr.Slot 0) (literal 0); body = stmt.Return (literal 1) ∷ [] } ∷ []) None ∷ stmt.Return (literal 2) ∷ []) None;
+  body = stmt.Block None [] (stmt.If (record { test = expr.Compare cmp.Gt (expr.Slot 0) (literal 0); body = stmt.Return (literal 1) ∷ [] } ∷ []) None
+      ∷ stmt.Return (literal 2) ∷ []) None;
 }
 
 abbrev pub sign_of_form : Goto
@@ -70,7 +71,10 @@ collatz = record {
   body = stmt.Block None
       (record { name = codes "steps"; ty = ty.Bigint; constant = false; not_null = false; default = Some (literal 0) } ∷ [])
       (stmt.Loop None (kind.While (expr.Compare cmp.Ne (expr.Slot 0) (literal 1)))
-      (stmt.If (record { test = expr.Compare cmp.Eq (arithmetic int.Rem (expr.Slot 0) (literal 2)) (literal 0); body = assign (codes "n") 0 (arithmetic int.Div (expr.Slot 0) (literal 2)) ∷ [] } ∷ [])
+      (stmt.If (record {
+        test = expr.Compare cmp.Eq (arithmetic int.Rem (expr.Slot 0) (literal 2)) (literal 0);
+        body = assign (codes "n") 0 (arithmetic int.Div (expr.Slot 0) (literal 2)) ∷ [];
+      } ∷ [])
       (Some (assign (codes "n") 0 (arithmetic int.Add (arithmetic int.Mul (literal 3) (expr.Slot 0)) (literal 1)) ∷ []))
       ∷ assign (codes "steps") 1 (arithmetic int.Add (expr.Slot 1) (literal 1)) ∷ [])
       None

@@ -26,7 +26,8 @@ pub trait Stage {
         ensures { IfOk result (λ yes. IsTrue yes ↔ relation self.now src.now dst.now) };
 
     /// A yes gives both bounds.
-    ghost law: { (s : Self) (x : Self.Src) (y : Self.Dst) → relation s x y → (frame : Frame) → IsFrameOf frame (setting s) → (args : List Value) → length args ≡ frame.params → Bounds (Self.Src.run x frame args) (Self.Dst.run y frame args) };
+    ghost law: { (s : Self) (x : Self.Src) (y : Self.Dst) → relation s x y → (frame : Frame) → IsFrameOf frame (setting s)
+        → (args : List Value) → length args ≡ frame.params → Bounds (Self.Src.run x frame args) (Self.Dst.run y frame args) };
 }
 
 /// Two stages in a row, in one setting, with the form between them.
@@ -54,5 +55,6 @@ impl<A: Stage, B: Stage<Src = A::Dst>> Stage for Then<A, B> {
         self.second.check(alloc, &self.middle, dst)
     }
 
-    ghost law = { λ t x z related frame frame_of args typed. bounds_join (A.law t.first x t.middle related.0 frame frame_of args typed) (B.law t.second t.middle z related.1 frame (frame_of_same frame t.same_setting frame_of) args typed) };
+    ghost law = { λ t x z related frame frame_of args typed. bounds_join (A.law t.first x t.middle related.0 frame frame_of args typed)
+        (B.law t.second t.middle z related.1 frame (frame_of_same frame t.same_setting frame_of) args typed) };
 }

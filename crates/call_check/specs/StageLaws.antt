@@ -19,20 +19,21 @@ use Rattle.call_law.proofs.InSettings.{called_bounds, merged_bounds}
 
 -- the setting of a function with these slots, and its goto form
 abbrev pub setting_of : Function → List Slot → Goto → Setting
-setting_of f slots g = record { slots = length slots; params = length f.params; goto = g }
+setting_of f slots goto = record { slots = length slots; params = length f.params; goto = goto }
 
-pub call_stage_bounds : (f : Function) (slots : List Slot) (g : Goto) (z : Ssa) (a : Anf) → Called g z a → (frame : Frame)
-    → IsFrameOf frame (setting_of f slots g) → (args : List Value) → Bounds (ssa_runs frame z args) (anf_runs frame a args)
-call_stage_bounds f slots g z a called = called_bounds (setting_of f slots g) z a called
+pub call_stage_bounds : (f : Function) (slots : List Slot) (goto : Goto) (ssa : Ssa) (anf : Anf) → Called goto ssa anf → (frame : Frame)
+    → IsFrameOf frame (setting_of f slots goto) → (args : List Value) → Bounds (ssa_runs frame ssa args) (anf_runs frame anf args)
+call_stage_bounds f slots goto ssa anf called = called_bounds (setting_of f slots goto) ssa anf called
 
 -- the tail form is that of this normal form, with labels and places that fit
-pub record Merging (slots : List Slot) (g : Goto) (z : Ssa) (a b : Anf) (r : Tail) : Type 0 where
-  pub same : a ≡ b
-  pub merged : Merged g b r
-  pub columned : Columned slots z b r
+pub record Merging (slots : List Slot) (goto : Goto) (ssa : Ssa) (anf tail_anf : Anf) (tail : Tail) : Type 0 where
+  pub same : anf ≡ tail_anf
+  pub merged : Merged goto tail_anf tail
+  pub columned : Columned slots ssa tail_anf tail
 
-pub merge_stage_bounds : (f : Function) (slots : List Slot) (g : Goto) (z : Ssa) (a b : Anf) (r : Tail) → Merging slots g z a b r
-    → (frame : Frame) → IsFrameOf frame (setting_of f slots g) → (args : List Value) → Bounds (anf_runs frame a args) (tail_runs frame b r args)
-merge_stage_bounds f slots g z a b r merging frame of args =
-    subst (λ a. Bounds (anf_runs frame a args) (tail_runs frame b r args)) (sym merging.same)
-    (merged_bounds (setting_of f slots g) slots z b r merging.merged merging.columned frame of args)
+pub merge_stage_bounds : (f : Function) (slots : List Slot) (goto : Goto) (ssa : Ssa) (anf tail_anf : Anf) (tail : Tail)
+    → Merging slots goto ssa anf tail_anf tail → (frame : Frame) → IsFrameOf frame (setting_of f slots goto) → (args : List Value)
+    → Bounds (anf_runs frame anf args) (tail_runs frame tail_anf tail args)
+merge_stage_bounds f slots goto ssa anf tail_anf tail merging frame of args =
+    subst (λ anf. Bounds (anf_runs frame anf args) (tail_runs frame tail_anf tail args)) (sym merging.same)
+    (merged_bounds (setting_of f slots goto) slots ssa tail_anf tail merging.merged merging.columned frame of args)

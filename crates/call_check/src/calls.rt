@@ -34,28 +34,28 @@ fn passes(b: usize, ys: &[SsaBlock], xs: &[AnfBlock], c: u32, args: &[u32]) -> b
 }
 
 /// The call stands for the way from block b to block c.
-fn is_call_of(s: &Ssa, a: &Anf, b: usize, c: u32, call: &Call) -> bool
-    ensures { IsTrue result ↔ CallOf s.now a.now b c call.now }
+fn is_call_of(ssa: &Ssa, anf: &Anf, b: usize, c: u32, call: &Call) -> bool
+    ensures { IsTrue result ↔ CallOf ssa.now anf.now b c call.now }
 {
     if call.target != c {
         return false;
     }
     passes(
         b,
-        s.blocks.as_slice(),
-        a.blocks.as_slice(),
+        ssa.blocks.as_slice(),
+        anf.blocks.as_slice(),
         c,
         call.args.as_slice(),
     )
 }
 
 /// The same end, with calls in place of ways.
-fn end_called(s: &Ssa, a: &Anf, b: usize, y: &End, x: &CallEnd) -> bool
-    ensures { IsTrue result ↔ EndCalled s.now a.now b y.now x.now }
+fn end_called(ssa: &Ssa, anf: &Anf, b: usize, y: &End, x: &CallEnd) -> bool
+    ensures { IsTrue result ↔ EndCalled ssa.now anf.now b y.now x.now }
 {
     match y {
         End::Jump(c) => match x {
-            CallEnd::Go(call) => is_call_of(s, a, b, *c, call),
+            CallEnd::Go(call) => is_call_of(ssa, anf, b, *c, call),
             _ => false,
         },
         End::Branch(t, c, d) => match x {
@@ -63,10 +63,10 @@ fn end_called(s: &Ssa, a: &Anf, b: usize, y: &End, x: &CallEnd) -> bool
                 if !same_term(u, t) {
                     return false;
                 }
-                if !is_call_of(s, a, b, *c, yes) {
+                if !is_call_of(ssa, anf, b, *c, yes) {
                     return false;
                 }
-                is_call_of(s, a, b, *d, no)
+                is_call_of(ssa, anf, b, *d, no)
             }
             _ => false,
         },
@@ -81,13 +81,13 @@ fn end_called(s: &Ssa, a: &Anf, b: usize, y: &End, x: &CallEnd) -> bool
     }
 }
 
-pub(crate) fn block_called(s: &Ssa, a: &Anf, b: usize, y: &SsaBlock, x: &AnfBlock) -> bool
-    ensures { IsTrue result ↔ BlockCalled s.now a.now b y.now x.now }
+pub(crate) fn block_called(ssa: &Ssa, anf: &Anf, b: usize, y: &SsaBlock, x: &AnfBlock) -> bool
+    ensures { IsTrue result ↔ BlockCalled ssa.now anf.now b y.now x.now }
 {
     if !same_assignment(&x.set, &y.set) {
         return false;
     }
-    end_called(s, a, b, &y.end, &x.end)
+    end_called(ssa, anf, b, &y.end, &x.end)
 }
 
 /// Whether the map has the name.
@@ -109,12 +109,12 @@ fn has_names(y: &SsaBlock, params: &[u32]) -> bool
 }
 
 /// The entry's parameters stand in the entry's map.
-pub(crate) fn entry_parameters(s: &Ssa, a: &Anf, entry: u32) -> bool
-    ensures { IsTrue result ↔ EntryParameters (slice_get s.now.blocks entry) (slice_get a.now.blocks entry) }
+pub(crate) fn entry_parameters(ssa: &Ssa, anf: &Anf, entry: u32) -> bool
+    ensures { IsTrue result ↔ EntryParameters (slice_get ssa.now.blocks entry) (slice_get anf.now.blocks entry) }
 {
-    match s.blocks.as_slice().get(entry as usize) {
+    match ssa.blocks.as_slice().get(entry as usize) {
         None => false,
-        Some(y) => match a.blocks.as_slice().get(entry as usize) {
+        Some(y) => match anf.blocks.as_slice().get(entry as usize) {
             None => false,
             Some(x) => has_names(y, x.params.as_slice()),
         },

@@ -29,83 +29,83 @@ fn all_read_own(blocks: &[AnfBlock]) -> bool
     blocks.iter().all(|x| reads_own(x))
 }
 
-fn blocks_called(s: &Ssa, a: &Anf, ys: &[SsaBlock], xs: &[AnfBlock]) -> bool
+fn blocks_called(ssa: &Ssa, anf: &Anf, ys: &[SsaBlock], xs: &[AnfBlock]) -> bool
     requires { length ys.now ≡ length xs.now }
-    ensures { IsTrue result ↔ EachPair (λ b y x. BlockCalled s.now a.now b y x) ys.now xs.now }
+    ensures { IsTrue result ↔ EachPair (λ b y x. BlockCalled ssa.now anf.now b y x) ys.now xs.now }
 {
     for b in 0..ys.len() {
-        if !block_called(s, a, b, &ys[b], &xs[b]) {
+        if !block_called(ssa, anf, b, &ys[b], &xs[b]) {
             return false;
         }
     }
     true
 }
 
-fn is_called(g: &Goto, s: &Ssa, a: &Anf) -> bool
-    ensures { IsTrue result ↔ Called g.now s.now a.now }
+fn is_called(goto: &Goto, ssa: &Ssa, anf: &Anf) -> bool
+    ensures { IsTrue result ↔ Called goto.now ssa.now anf.now }
 {
-    if a.blocks.len() != s.blocks.len() {
+    if anf.blocks.len() != ssa.blocks.len() {
         return false;
     }
-    if !all_have_parameters(s.names.len(), a.blocks.as_slice()) {
+    if !all_have_parameters(ssa.names.len(), anf.blocks.as_slice()) {
         return false;
     }
-    if !all_read_own(a.blocks.as_slice()) {
+    if !all_read_own(anf.blocks.as_slice()) {
         return false;
     }
-    if !blocks_called(s, a, s.blocks.as_slice(), a.blocks.as_slice()) {
+    if !blocks_called(ssa, anf, ssa.blocks.as_slice(), anf.blocks.as_slice()) {
         return false;
     }
-    entry_parameters(s, a, g.entry)
+    entry_parameters(ssa, anf, goto.entry)
 }
 
 /// Whether the normal form is that of the SSA form.
-pub fn check_called(_alloc: Global, g: &Goto, s: &Ssa, a: &Anf) -> Result<bool, NoMemory>
-    ensures { IfOk result (λ yes. IsTrue yes ↔ Called g.now s.now a.now) }
+pub fn check_called(_alloc: Global, goto: &Goto, ssa: &Ssa, anf: &Anf) -> Result<bool, NoMemory>
+    ensures { IfOk result (λ yes. IsTrue yes ↔ Called goto.now ssa.now anf.now) }
 {
-    Ok(is_called(g, s, a))
+    Ok(is_called(goto, ssa, anf))
 }
 
 /// Whether the labels of the tail form are distinct blocks, and every other block may be merged into the block that calls it.
-pub fn check_merged(alloc: Global, g: &Goto, a: &Anf, t: &Tail) -> Result<bool, NoMemory>
-    ensures { IfOk result (λ yes. IsTrue yes ↔ Merged g.now a.now t.now) }
+pub fn check_merged(alloc: Global, goto: &Goto, anf: &Anf, tail: &Tail) -> Result<bool, NoMemory>
+    ensures { IfOk result (λ yes. IsTrue yes ↔ Merged goto.now anf.now tail.now) }
 {
-    if !all_below(a.blocks.len(), t.labels.as_slice()) {
+    if !all_below(anf.blocks.len(), tail.labels.as_slice()) {
         return Ok(false);
     }
-    if !stands_in(t.labels.as_slice(), g.entry) {
+    if !stands_in(tail.labels.as_slice(), goto.entry) {
         return Ok(false);
     }
-    if !all_call_blocks(a.blocks.as_slice()) {
+    if !all_call_blocks(anf.blocks.as_slice()) {
         return Ok(false);
     }
-    let labels = label_counts(alloc, a.blocks.len(), t.labels.as_slice())?;
-    if !all_once(&labels, t.labels.as_slice()) {
+    let labels = label_counts(alloc, anf.blocks.len(), tail.labels.as_slice())?;
+    if !all_once(&labels, tail.labels.as_slice()) {
         return Ok(false);
     }
-    let calls = call_counts(alloc, a.blocks.as_slice())?;
-    Ok(others_merge(g, a, t, &labels, &calls))
+    let calls = call_counts(alloc, anf.blocks.as_slice())?;
+    Ok(others_merge(goto, anf, tail, &labels, &calls))
 }
 
-pub(crate) fn is_columned(slots: &[Slot], s: &Ssa, a: &Anf, t: &Tail) -> bool
-    ensures { IsTrue result ↔ Columned slots.now s.now a.now t.now }
+pub(crate) fn is_columned(slots: &[Slot], ssa: &Ssa, anf: &Anf, tail: &Tail) -> bool
+    ensures { IsTrue result ↔ Columned slots.now ssa.now anf.now tail.now }
 {
-    if t.places.len() != t.labels.len() {
+    if tail.places.len() != tail.labels.len() {
         return false;
     }
     all_places(
         slots,
-        s.names.as_slice(),
-        t.columns.as_slice(),
-        a.blocks.as_slice(),
-        t.labels.as_slice(),
-        t.places.as_slice(),
+        ssa.names.as_slice(),
+        tail.columns.as_slice(),
+        anf.blocks.as_slice(),
+        tail.labels.as_slice(),
+        tail.places.as_slice(),
     )
 }
 
 /// Whether each label has a column of its type for each parameter.
-pub fn check_columned(f: &CheckedFunction, s: &Ssa, a: &Anf, t: &Tail) -> bool
-    ensures { IsTrue result ↔ Columned f.now.slots s.now a.now t.now }
+pub fn check_columned(f: &CheckedFunction, ssa: &Ssa, anf: &Anf, tail: &Tail) -> bool
+    ensures { IsTrue result ↔ Columned f.now.slots ssa.now anf.now tail.now }
 {
-    is_columned(f.slots.as_slice(), s, a, t)
+    is_columned(f.slots.as_slice(), ssa, anf, tail)
 }

@@ -104,38 +104,45 @@ fn is_head(blocks: &[Block], b: usize) -> bool
 }
 
 /// The block is no head, and at most one call goes to it.
-fn may_merge(g: &Goto, a: &Anf, calls: &[u8], b: usize) -> bool
-    requires counted { CountsOf (length a.now.blocks) (λ b. calls_to b a.now.blocks) calls.now }
-    requires of_form { b < length a.now.blocks }
-    ensures { IsTrue result ↔ MayMerge g.now a.now b }
+fn may_merge(goto: &Goto, anf: &Anf, calls: &[u8], b: usize) -> bool
+    requires counted { CountsOf (length anf.now.blocks) (λ b. calls_to b anf.now.blocks) calls.now }
+    requires of_form { b < length anf.now.blocks }
+    ensures { IsTrue result ↔ MayMerge goto.now anf.now b }
 {
-    if is_head(g.blocks.as_slice(), b) {
+    if is_head(goto.blocks.as_slice(), b) {
         return false;
     }
     seen(calls, b) <= 1
 }
 
 /// The block is a label, or may be merged.
-fn label_or_merged(g: &Goto, a: &Anf, t: &Tail, labels: &[u8], calls: &[u8], b: usize) -> bool
-    requires labels { CountsOf (length a.now.blocks) (times t.now.labels) labels.now }
-    requires calls { CountsOf (length a.now.blocks) (λ b. calls_to b a.now.blocks) calls.now }
-    requires of_form { b < length a.now.blocks }
-    ensures { IsTrue result ↔ (label_of t.now b ≡ None → MayMerge g.now a.now b) }
+fn label_or_merged(
+    goto: &Goto,
+    anf: &Anf,
+    tail: &Tail,
+    labels: &[u8],
+    calls: &[u8],
+    b: usize,
+) -> bool
+    requires labels { CountsOf (length anf.now.blocks) (times tail.now.labels) labels.now }
+    requires calls { CountsOf (length anf.now.blocks) (λ b. calls_to b anf.now.blocks) calls.now }
+    requires of_form { b < length anf.now.blocks }
+    ensures { IsTrue result ↔ (label_of tail.now b ≡ None → MayMerge goto.now anf.now b) }
 {
     if seen(labels, b) > 0 {
         return true;
     }
-    may_merge(g, a, calls, b)
+    may_merge(goto, anf, calls, b)
 }
 
 /// Each block that is no label may be merged.
-pub(crate) fn others_merge(g: &Goto, a: &Anf, t: &Tail, labels: &[u8], calls: &[u8]) -> bool
-    requires labels { CountsOf (length a.now.blocks) (times t.now.labels) labels.now }
-    requires calls { CountsOf (length a.now.blocks) (λ b. calls_to b a.now.blocks) calls.now }
-    ensures { IsTrue result ↔ ((b : ℕ) → b < length a.now.blocks → label_of t.now b ≡ None → MayMerge g.now a.now b) }
+pub(crate) fn others_merge(goto: &Goto, anf: &Anf, tail: &Tail, labels: &[u8], calls: &[u8]) -> bool
+    requires labels { CountsOf (length anf.now.blocks) (times tail.now.labels) labels.now }
+    requires calls { CountsOf (length anf.now.blocks) (λ b. calls_to b anf.now.blocks) calls.now }
+    ensures { IsTrue result ↔ ((b : ℕ) → b < length anf.now.blocks → label_of tail.now b ≡ None → MayMerge goto.now anf.now b) }
 {
-    for b in 0..a.blocks.len() {
-        if !label_or_merged(g, a, t, labels, calls, b) {
+    for b in 0..anf.blocks.len() {
+        if !label_or_merged(goto, anf, tail, labels, calls, b) {
             return false;
         }
     }

@@ -32,7 +32,8 @@ impl<'a> Stage for CallStage<'a> {
         check_called(alloc, self.goto, src.ssa, dst.anf)
     }
 
-    ghost law = { λ s x y related frame frame_of args typed. call_stage_bounds s.function.now.function s.function.now.slots s.goto.now x.ssa.now y.anf.now related frame frame_of args };
+    ghost law = { λ s x y related frame frame_of args typed.
+        call_stage_bounds s.function.now.function s.function.now.slots s.goto.now x.ssa.now y.anf.now related frame frame_of args };
 }
 
 /// Merged and Columned, in the frames of a function and its goto form.
@@ -67,5 +68,6 @@ impl<'a> Stage for MergeStage<'a> {
         check_merged(alloc, self.goto, dst.anf, dst.tail)
     }
 
-    ghost law = { λ s x y related frame frame_of args typed. merge_stage_bounds s.function.now.function s.function.now.slots s.goto.now s.ssa.now x.anf.now y.anf.now y.tail.now related frame frame_of args };
+    ghost law = { λ s x y related frame frame_of args typed.
+        merge_stage_bounds s.function.now.function s.function.now.slots s.goto.now s.ssa.now x.anf.now y.anf.now y.tail.now related frame frame_of args };
 }

@@ -17,13 +17,13 @@ pub data Body : Type 0 where
   calls : ℕ → List ℕ → List ℕ → Body
   endless : Body
 
-module _ (a : Anf) (r : Tail) where
+module _ (anf : Anf) (tail : Tail) where
   abbrev pub goes_to : (ℕ → Body) → Call → Option ℕ → Body
-  goes_to next c (Some label) = calls label (get_or r.places label []) c.args
-  goes_to next c None = enters (params_of (slice_get a.blocks c.target)) c.args (next c.target)
+  goes_to next c (Some label) = calls label (get_or tail.places label []) c.args
+  goes_to next c None = enters (params_of (slice_get anf.blocks c.target)) c.args (next c.target)
 
   abbrev pub goes : (ℕ → Body) → Call → Body
-  goes next c = goes_to next c (label_of r c.target)
+  goes next c = goes_to next c (label_of tail c.target)
 
   abbrev pub end_body : (ℕ → Body) → CallEnd → Body
   end_body next (Go c) = goes next c
@@ -42,11 +42,11 @@ module _ (a : Anf) (r : Tail) where
   -- the tree from a block on, through so many blocks at most
   abbrev pub tree : ℕ → ℕ → Body
   tree zero b = endless
-  tree (suc n) b = block_body (tree n) (slice_get a.blocks b)
+  tree (suc n) b = block_body (tree n) (slice_get anf.blocks b)
 
   -- the label's own block counts among as many blocks as there are
   abbrev pub body_of : ℕ → Body
-  body_of b = tree (length a.blocks) b
+  body_of b = tree (length anf.blocks) b
 
 -- whether the tree is finite
 abbrev pub Ends : Body → Type 0

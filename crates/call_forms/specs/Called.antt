@@ -62,21 +62,21 @@ Passes b (Some y) None args = ⊥
 Passes b None x args = ⊥
 
 -- the call in place of a way from block b to block c
-pub record CallOf (z : Ssa) (a : Anf) (b c : ℕ) (call : Call) : Type 0 where
+pub record CallOf (ssa : Ssa) (anf : Anf) (b c : ℕ) (call : Call) : Type 0 where
   pub target : call.target ≡ c
-  pub passes : Passes b (slice_get z.blocks c) (slice_get a.blocks c) call.args
+  pub passes : Passes b (slice_get ssa.blocks c) (slice_get anf.blocks c) call.args
 
 -- the same end, with calls in place of ways
 abbrev pub EndCalled : Ssa → Anf → ℕ → End → CallEnd → Type 0
-EndCalled z a b (jump.Jump c) (Go x) = CallOf z a b c x
-EndCalled z a b (jump.Branch t c d) (Pick u x y) = (u ≡ t) × CallOf z a b c x × CallOf z a b d y
-EndCalled z a b (jump.Return t) (Return u) = u ≡ t
-EndCalled z a b (jump.Fail c) (Fail d) = d ≡ c
-EndCalled z a b _ _ = ⊥
+EndCalled ssa anf b (jump.Jump c) (Go x) = CallOf ssa anf b c x
+EndCalled ssa anf b (jump.Branch t c d) (Pick u x y) = (u ≡ t) × CallOf ssa anf b c x × CallOf ssa anf b d y
+EndCalled ssa anf b (jump.Return t) (Return u) = u ≡ t
+EndCalled ssa anf b (jump.Fail c) (Fail d) = d ≡ c
+EndCalled ssa anf b _ _ = ⊥
 
-pub record BlockCalled (z : Ssa) (a : Anf) (b : ℕ) (y : SsaBlock) (x : AnfBlock) : Type 0 where
+pub record BlockCalled (ssa : Ssa) (anf : Anf) (b : ℕ) (y : SsaBlock) (x : AnfBlock) : Type 0 where
   pub set : x.set ≡ y.set
-  pub end : EndCalled z a b y.end x.end
+  pub end : EndCalled ssa anf b y.end x.end
 
 -- ---- the whole
 
@@ -92,9 +92,9 @@ EntryParameters (Some y) None = ⊥
 EntryParameters None x = ⊥
 
 -- the entry's parameters stand in the map of the SSA form's entry
-pub record Called (g : Goto) (z : Ssa) (a : Anf) : Type 0 where
-  pub as_many_blocks : length a.blocks ≡ length z.blocks
-  pub parameters : Each (ParametersOf (length z.names)) a.blocks
-  pub reads : Each ReadsOwn a.blocks
-  pub blocks : EachPair (BlockCalled z a) z.blocks a.blocks
-  pub entry : EntryParameters (slice_get z.blocks g.entry) (slice_get a.blocks g.entry)
+pub record Called (goto : Goto) (ssa : Ssa) (anf : Anf) : Type 0 where
+  pub as_many_blocks : length anf.blocks ≡ length ssa.blocks
+  pub parameters : Each (ParametersOf (length ssa.names)) anf.blocks
+  pub reads : Each ReadsOwn anf.blocks
+  pub blocks : EachPair (BlockCalled ssa anf) ssa.blocks anf.blocks
+  pub entry : EntryParameters (slice_get ssa.blocks goto.entry) (slice_get anf.blocks goto.entry)

@@ -35,6 +35,6 @@ PlacesAt slots names columns None places = ⊥
 PlacesAt slots names columns (Some x) places = PlacesOf slots names columns x.params places
 
 -- the places of each label, over a function's slots
-pub record Columned (slots : List Slot) (z : Ssa) (a : Anf) (r : Tail) : Type 0 where
-  pub as_many : length r.places ≡ length r.labels
-  pub each : EachPair (λ i b places. PlacesAt slots z.names r.columns (slice_get a.blocks b) places) r.labels r.places
+pub record Columned (slots : List Slot) (ssa : Ssa) (anf : Anf) (tail : Tail) : Type 0 where
+  pub as_many : length tail.places ≡ length tail.labels
+  pub each : EachPair (λ i b places. PlacesAt slots ssa.names tail.columns (slice_get anf.blocks b) places) tail.labels tail.places

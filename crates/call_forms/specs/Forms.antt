@@ -19,4 +19,4 @@ place_from i (x ∷ xs) b = if nat_eq x b then Some i else place_from (suc i) xs
 
 -- the label of a block, counted from 0; None where the block is no label
 abbrev pub label_of : Tail → ℕ → Option ℕ
-label_of r b = place_from 0 r.labels b
+label_of tail b = place_from 0 tail.labels b

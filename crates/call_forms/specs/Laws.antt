@@ -8,13 +8,13 @@ use Rattle.call_forms.specs.NormalRuns.{anf_runs}
 use Rattle.call_forms.specs.TailRuns.{tail_runs}
 
 abbrev pub AnfRunsStay : Type 0
-AnfRunsStay = (frame : Frame) (a : Anf) (args : List Value) → Stays (anf_runs frame a args)
+AnfRunsStay = (frame : Frame) (anf : Anf) (args : List Value) → Stays (anf_runs frame anf args)
 
 abbrev pub TailRunsStay : Type 0
-TailRunsStay = (frame : Frame) (a : Anf) (r : Tail) (args : List Value) → Stays (tail_runs frame a r args)
+TailRunsStay = (frame : Frame) (anf : Anf) (tail : Tail) (args : List Value) → Stays (tail_runs frame anf tail args)
 
 abbrev pub AnfHeads : Type 0
-AnfHeads = (frame : Frame) (a : Anf) (args : List Value) → HeadsFew (anf_runs frame a args)
+AnfHeads = (frame : Frame) (anf : Anf) (args : List Value) → HeadsFew (anf_runs frame anf args)
 
 abbrev pub TailHeads : Type 0
-TailHeads = (frame : Frame) (a : Anf) (r : Tail) (args : List Value) → HeadsFew (tail_runs frame a r args)
+TailHeads = (frame : Frame) (anf : Anf) (tail : Tail) (args : List Value) → HeadsFew (tail_runs frame anf tail args)

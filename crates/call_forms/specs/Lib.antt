@@ -9,6 +9,7 @@ pub mod Merged
 pub mod Columned
 pub mod Useful
 pub mod Tight
+pub mod Writable
 pub mod Template
 pub mod Templated
 pub mod Laws

@@ -26,14 +26,14 @@ AtCalls P (Return t) = Unit {0}
 AtCalls P (Fail c) = Unit {0}
 
 -- a block that may be merged into the one that calls it
-pub record MayMerge (g : Goto) (a : Anf) (b : ℕ) : Type 0 where
-  pub no_head : is_head (slice_get g.blocks b) ≡ false
-  pub one_call : calls_to b a.blocks ≤ 1
+pub record MayMerge (goto : Goto) (anf : Anf) (b : ℕ) : Type 0 where
+  pub no_head : is_head (slice_get goto.blocks b) ≡ false
+  pub one_call : calls_to b anf.blocks ≤ 1
 
 -- The labels are distinct blocks, and the entry is one. Every other block may be merged. Each call is of a block.
-pub record Merged (g : Goto) (a : Anf) (r : Tail) : Type 0 where
-  pub labels_differ : Distinct itself r.labels
-  pub labels_are_blocks : Each (λ b. b < length a.blocks) r.labels
-  pub entry : Among r.labels g.entry
-  pub others : (b : ℕ) → b < length a.blocks → label_of r b ≡ None → MayMerge g a b
-  pub calls : Each (λ x. AtCalls (λ b. b < length a.blocks) x.end) a.blocks
+pub record Merged (goto : Goto) (anf : Anf) (tail : Tail) : Type 0 where
+  pub labels_differ : Distinct itself tail.labels
+  pub labels_are_blocks : Each (λ b. b < length anf.blocks) tail.labels
+  pub entry : Among tail.labels goto.entry
+  pub others : (b : ℕ) → b < length anf.blocks → label_of tail b ≡ None → MayMerge goto anf b
+  pub calls : Each (λ x. AtCalls (λ b. b < length anf.blocks) x.end) anf.blocks

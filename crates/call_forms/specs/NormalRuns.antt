@@ -18,10 +18,10 @@ abbrev pub chosen : Bool → Call → Call → Call
 chosen true x y = x
 chosen false x y = y
 
-module _ (frame : Frame) (a : Anf) where
+module _ (frame : Frame) (anf : Anf) where
   -- A call passes values: each parameter takes its argument, and NULL where there is none. Every other name is NULL.
   abbrev pub called : Call → Scope Value → AtBlock
-  called c s = (c.target, paired s val.Null (params_of (slice_get a.blocks c.target)) c.args)
+  called c s = (c.target, paired s val.Null (params_of (slice_get anf.blocks c.target)) c.args)
 
   abbrev pub picked : Or Value → Call → Call → Scope Value → Move AtBlock
   picked (Err c) x y s = ends (Err c)
@@ -49,13 +49,13 @@ module _ (frame : Frame) (a : Anf) where
   abbrev pub anf_machine : Machine AtBlock
   anf_machine = record {
     head = λ s. is_head (slice_get frame.goto.blocks s.0);
-    visit = λ s. anf_visit (slice_get a.blocks s.0) s.1;
+    visit = λ s. anf_visit (slice_get anf.blocks s.0) s.1;
   }
 
   -- the entry's parameters are parameters of the function, by their numbers
   abbrev pub first_scope : List Value → Scope Value
   first_scope args =
-      let params : List ℕ = params_of (slice_get a.blocks frame.goto.entry) in paired (first_values frame args) val.Null params params
+      let params : List ℕ = params_of (slice_get anf.blocks frame.goto.entry) in paired (first_values frame args) val.Null params params
 
   abbrev pub anf_runs : List Value → ℕ → Ran
   anf_runs args k = go anf_machine k (frame.goto.entry, first_scope args) 0

@@ -8,16 +8,16 @@ use Rattle.call_forms.specs.Forms.{Anf, Tail}
 use Rattle.call_forms.specs.NormalRuns.{anf_machine, first_scope, anf_runs}
 use Rattle.call_forms.specs.TailRuns.{tail_machine, entry_label, first_row, tail_runs}
 
-module _ (frame : Frame) (a : Anf) where
-  pub anf_stays : (args : List Value) → Stays (anf_runs frame a args)
-  anf_stays args = run_stays (anf_machine frame a) (frame.goto.entry, first_scope frame a args)
+module _ (frame : Frame) (anf : Anf) where
+  pub anf_stays : (args : List Value) → Stays (anf_runs frame anf args)
+  anf_stays args = run_stays (anf_machine frame anf) (frame.goto.entry, first_scope frame anf args)
 
-  pub anf_heads : (args : List Value) → HeadsFew (anf_runs frame a args)
-  anf_heads args = run_heads_few (anf_machine frame a) (frame.goto.entry, first_scope frame a args)
+  pub anf_heads : (args : List Value) → HeadsFew (anf_runs frame anf args)
+  anf_heads args = run_heads_few (anf_machine frame anf) (frame.goto.entry, first_scope frame anf args)
 
-  module _ (r : Tail) where
-    pub tail_stays : (args : List Value) → Stays (tail_runs frame a r args)
-    tail_stays args = run_stays (tail_machine frame a r) (entry_label frame a r, first_row frame a r args)
+  module _ (tail : Tail) where
+    pub tail_stays : (args : List Value) → Stays (tail_runs frame anf tail args)
+    tail_stays args = run_stays (tail_machine frame anf tail) (entry_label frame anf tail, first_row frame anf tail args)
 
-    pub tail_heads : (args : List Value) → HeadsFew (tail_runs frame a r args)
-    tail_heads args = run_heads_few (tail_machine frame a r) (entry_label frame a r, first_row frame a r args)
+    pub tail_heads : (args : List Value) → HeadsFew (tail_runs frame anf tail args)
+    tail_heads args = run_heads_few (tail_machine frame anf tail) (entry_label frame anf tail, first_row frame anf tail args)

@@ -42,17 +42,17 @@ module _ (frame : Frame) (columns : List Ty) where
   walk (calls label places args) s = moves (label, row_from 0 s places args columns)
   walk endless s = stuck
 
-module _ (frame : Frame) (a : Anf) (r : Tail) where
+module _ (frame : Frame) (anf : Anf) (tail : Tail) where
   abbrev pub places_of : ℕ → List ℕ
-  places_of label = get_or r.places label []
+  places_of label = get_or tail.places label []
 
   -- a block's parameters take the values at the label's places
   abbrev pub scope_of : ℕ → ℕ → List Value → Scope Value
-  scope_of label b row = paired (λ place. get_or row place val.Null) val.Null (params_of (slice_get a.blocks b)) (places_of label)
+  scope_of label b row = paired (λ place. get_or row place val.Null) val.Null (params_of (slice_get anf.blocks b)) (places_of label)
 
   abbrev pub label_visit : ℕ → Option ℕ → List Value → Move AtLabel
   label_visit label None row = stuck
-  label_visit label (Some b) row = walk frame r.columns (body_of a r b) (scope_of label b row)
+  label_visit label (Some b) row = walk frame tail.columns (body_of anf tail b) (scope_of label b row)
 
   -- whether the label's own block is a head
   abbrev pub heads_label : Option ℕ → Bool
@@ -61,17 +61,17 @@ module _ (frame : Frame) (a : Anf) (r : Tail) where
 
   abbrev pub tail_machine : Machine AtLabel
   tail_machine = record {
-    head = λ s. heads_label (slice_get r.labels s.0);
-    visit = λ s. label_visit s.0 (slice_get r.labels s.0) s.1;
+    head = λ s. heads_label (slice_get tail.labels s.0);
+    visit = λ s. label_visit s.0 (slice_get tail.labels s.0) s.1;
   }
 
   -- an entry that is no label has a number that no label has
   abbrev pub entry_label : ℕ
-  entry_label = label_or (length r.labels) (label_of r frame.goto.entry)
+  entry_label = label_or (length tail.labels) (label_of tail frame.goto.entry)
 
   -- the entry's parameters are parameters of the function, by their numbers
   abbrev pub first_row : List Value → List Value
-  first_row args = row_from 0 (first_values frame args) (places_of entry_label) (params_of (slice_get a.blocks frame.goto.entry)) r.columns
+  first_row args = row_from 0 (first_values frame args) (places_of entry_label) (params_of (slice_get anf.blocks frame.goto.entry)) tail.columns
 
   abbrev pub tail_runs : List Value → ℕ → Ran
   tail_runs args k = go tail_machine k (entry_label, first_row args) 0

@@ -136,33 +136,33 @@ argument_cells types i places params (t ∷ ts) =
 
 -- ---- the query
 
-module _ (table : List Expr) (types : ℕ → Ty) (result : Ty) (a : Anf) (r : Tail) (entry : ℕ) where
+module _ (table : List Expr) (types : ℕ → Ty) (result : Ty) (anf : Anf) (tail : Tail) (entry : ℕ) where
   -- the branches of labels, numbered from n + 1
   abbrev pub branches : ℕ → List ℕ → List Select
   branches n [] = []
   branches n (b ∷ bs) =
-      branch table types r.columns result (suc n) (params_of (slice_get a.blocks b)) (get_or r.places n []) (body_of a r b) ∷ branches (suc n) bs
+      branch table types tail.columns result (suc n) (params_of (slice_get anf.blocks b)) (get_or tail.places n []) (body_of anf tail b) ∷ branches (suc n) bs
 
   -- the label of the entry, counted from 0
   abbrev pub entry_place : ℕ
-  entry_place = label_or (length r.labels) (label_of r entry)
+  entry_place = label_or (length tail.labels) (label_of tail entry)
 
   abbrev pub start : Select
   start =
-      let arguments : List Expr = argument_cells types 0 (get_or r.places entry_place []) (params_of (slice_get a.blocks entry)) r.columns in
+      let arguments : List Expr = argument_cells types 0 (get_or tail.places entry_place []) (params_of (slice_get anf.blocks entry)) tail.columns in
       select (truth true ∷ number (pos (suc entry_place)) ∷ arguments ++ (null_of result ∷ null_of ty.Text ∷ [])) [] None
 
   -- the second term, where the recursive table has the place with these digits
   abbrev pub step : List ℕ → Select
   step digits =
-      select (all_of table types r.columns result 1)
-      (table_by digits ∷ lateral (roll-Query (record { recursive = None; selects = branches 0 r.labels })) ∷ []) (Some (col 0 0 0))
+      select (all_of table types tail.columns result 1)
+      (table_by digits ∷ lateral (roll-Query (record { recursive = None; selects = branches 0 tail.labels })) ∷ []) (Some (col 0 0 0))
 
   abbrev pub query_with : List ℕ → Query
   query_with digits =
       roll-Query (record {
         recursive = Some (roll-Recursive (record { name = []; columns = []; first = start ∷ []; second = step digits }));
-        selects = last digits (length r.columns) ∷ [];
+        selects = last digits (length tail.columns) ∷ [];
       })
 
   -- over so many tables

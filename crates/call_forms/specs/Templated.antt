@@ -50,10 +50,10 @@ type_or_bigint (Some t) = t
 
 -- the type of each name: that of its slot
 abbrev pub types_of : List Slot → Ssa → ℕ → Ty
-types_of slots z n = type_or_bigint (type_of_name slots z.names n)
+types_of slots ssa n = type_or_bigint (type_of_name slots ssa.names n)
 
 -- The query is that of the tail form, over so many tables, with names of aliases and columns aside. The entry is a label, and each label has a tree.
-pub record Templated (f : Function) (slots : List Slot) (tables : ℕ) (g : Goto) (z : Ssa) (a : Anf) (r : Tail) (q : Query) : Type 0 where
-  pub entry : Among r.labels g.entry
-  pub trees : Each (λ b. HasTree (expressions f) (params_of (slice_get a.blocks b)) (body_of a r b)) r.labels
-  pub query : bare q ≡ bare (query_of (expressions f) (types_of slots z) f.result a r g.entry tables)
+pub record Templated (f : Function) (slots : List Slot) (tables : ℕ) (goto : Goto) (ssa : Ssa) (anf : Anf) (tail : Tail) (q : Query) : Type 0 where
+  pub entry : Among tail.labels goto.entry
+  pub trees : Each (λ b. HasTree (expressions f) (params_of (slice_get anf.blocks b)) (body_of anf tail b)) tail.labels
+  pub query : bare q ≡ bare (query_of (expressions f) (types_of slots ssa) f.result anf tail goto.entry tables)

@@ -21,18 +21,18 @@ is_type t (Some u) = same t u
 
 -- how many parameters of a type a block has
 abbrev pub parameters_of_type : List Slot → Ssa → Anf → Ty → ℕ → ℕ
-parameters_of_type slots z a t b = count_by (λ p. is_type t (type_of_name slots z.names p)) (params_of (slice_get a.blocks b))
+parameters_of_type slots ssa anf t b = count_by (λ p. is_type t (type_of_name slots ssa.names p)) (params_of (slice_get anf.blocks b))
 
 -- a label with as many parameters of the type as there are columns of it
-pub record NeedsAll (slots : List Slot) (z : Ssa) (a : Anf) (r : Tail) (t : Ty) : Type 0 where
+pub record NeedsAll (slots : List Slot) (ssa : Ssa) (anf : Anf) (tail : Tail) (t : Ty) : Type 0 where
   pub label : ℕ
-  pub is_label : Among r.labels label
-  pub needs : parameters_of_type slots z a t label ≡ count_by (same t) r.columns
+  pub is_label : Among tail.labels label
+  pub needs : parameters_of_type slots ssa anf t label ≡ count_by (same t) tail.columns
 
 -- the columns of a type are as many as the most parameters of that type that one label has
-pub record ColumnsOfType (slots : List Slot) (z : Ssa) (a : Anf) (r : Tail) (t : Ty) : Type 0 where
-  pub enough : Each (λ b. parameters_of_type slots z a t b ≤ count_by (same t) r.columns) r.labels
-  pub none_spare : (count_by (same t) r.columns ≡ 0) ⊎ NeedsAll slots z a r t
+pub record ColumnsOfType (slots : List Slot) (ssa : Ssa) (anf : Anf) (tail : Tail) (t : Ty) : Type 0 where
+  pub enough : Each (λ b. parameters_of_type slots ssa anf t b ≤ count_by (same t) tail.columns) tail.labels
+  pub none_spare : (count_by (same t) tail.columns ≡ 0) ⊎ NeedsAll slots ssa anf tail t
 
 -- ---- depths
 
@@ -44,23 +44,23 @@ DepthAfter (Return t) b above d = ⊥
 DepthAfter (Fail c) b above d = ⊥
 
 -- a block that is no label, called by one with a depth
-pub record CalledAtDepth (HasDepth : ℕ → ℕ → Type 0) (a : Anf) (labels : List ℕ) (b d : ℕ) : Type 0 where
+pub record CalledAtDepth (HasDepth : ℕ → ℕ → Type 0) (anf : Anf) (labels : List ℕ) (b d : ℕ) : Type 0 where
   pub no_label : Among labels b → ⊥
   pub caller : ℕ
   pub block : AnfBlock
-  pub there : slice_get a.blocks caller ≡ Some block
+  pub there : slice_get anf.blocks caller ≡ Some block
   pub above : ℕ
   pub of_caller : HasDepth caller above
   pub after : DepthAfter block.end b above d
 
 -- the depth of a block that so many calls lead to from a label: 0 for the label itself
 abbrev pub DepthWithin : Anf → List ℕ → ℕ → ℕ → ℕ → Type 0
-DepthWithin a labels zero b d = Among labels b × (d ≡ 0)
-DepthWithin a labels (suc k) b d = CalledAtDepth (DepthWithin a labels k) a labels b d
+DepthWithin anf labels zero b d = Among labels b × (d ≡ 0)
+DepthWithin anf labels (suc k) b d = CalledAtDepth (DepthWithin anf labels k) anf labels b d
 
-pub record HasDepth (a : Anf) (labels : List ℕ) (b d : ℕ) : Type 0 where
+pub record HasDepth (anf : Anf) (labels : List ℕ) (b d : ℕ) : Type 0 where
   pub calls : ℕ
-  pub within : DepthWithin a labels calls b d
+  pub within : DepthWithin anf labels calls b d
 
 -- ---- reasons
 
@@ -68,15 +68,15 @@ abbrev pub without : ℕ → List ℕ → List ℕ
 without b labels = filter (λ l. not (nat_eq l b)) labels
 
 -- why a block is a label; `deep` is the depth that it would have if it were none
-pub data Reason (g : Goto) (a : Anf) (r : Tail) (b : ℕ) : Type 0 where
-  entry : b ≡ g.entry → Reason g a r b
-  head : is_head (slice_get g.blocks b) ≡ true → Reason g a r b
-  calls : 2 ≤ calls_to b a.blocks → Reason g a r b
-  deep : HasDepth a (without b r.labels) b 16 → Reason g a r b
+pub data Reason (goto : Goto) (anf : Anf) (tail : Tail) (b : ℕ) : Type 0 where
+  entry : b ≡ goto.entry → Reason goto anf tail b
+  head : is_head (slice_get goto.blocks b) ≡ true → Reason goto anf tail b
+  calls : 2 ≤ calls_to b anf.blocks → Reason goto anf tail b
+  deep : HasDepth anf (without b tail.labels) b 16 → Reason goto anf tail b
 
 -- ---- the whole
 
-pub record Tight (slots : List Slot) (g : Goto) (z : Ssa) (a : Anf) (r : Tail) : Type 0 where
-  pub columns : (t : Ty) → ColumnsOfType slots z a r t
-  pub depths : (b d : ℕ) → HasDepth a r.labels b d → d < 16
-  pub reasons : Each (Reason g a r) r.labels
+pub record Tight (slots : List Slot) (goto : Goto) (ssa : Ssa) (anf : Anf) (tail : Tail) : Type 0 where
+  pub columns : (t : Ty) → ColumnsOfType slots ssa anf tail t
+  pub depths : (b d : ℕ) → HasDepth anf tail.labels b d → d < 16
+  pub reasons : Each (Reason goto anf tail) tail.labels

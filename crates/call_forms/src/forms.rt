@@ -1,7 +1,8 @@
 //! The normal form, where blocks are functions that call one another with names, and the tail form, which tells how they run as rows.
+//! With the goto form and the SSA form they lead from a function to its query.
 
 use away_values::{Class, Ty};
-use block_forms::Term;
+use block_forms::{Goto, Ssa, Term};
 use sqlite_items::Items;
 
 /// A call of a block: each parameter takes the value of one name.
@@ -41,4 +42,13 @@ pub struct Tail {
     pub labels: Items<u32>,
     pub columns: Items<Ty>,
     pub places: Items<Items<u32>>,
+}
+
+/// The four forms of a function on its way to a query, each made from those before it.
+#[derive(Drop)]
+pub struct Forms {
+    pub goto: Goto,
+    pub ssa: Ssa,
+    pub anf: Anf,
+    pub tail: Tail,
 }

@@ -8,5 +8,5 @@ mod laws;
 mod tests;
 
 pub use form::{AnfForm, TailForm};
-pub use forms::{Anf, AnfBlock, Call, CallEnd, Tail};
+pub use forms::{Anf, AnfBlock, Call, CallEnd, Forms, Tail};
 pub use laws::{calls_that_end_stay, unneeded_parameters_are_told, worked_calls_are_related};

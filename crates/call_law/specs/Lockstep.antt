@@ -9,7 +9,7 @@ use Rattle.call_forms.specs.NormalRuns.{anf_runs}
 
 -- k visits come to one answer and one count of heads in both forms, at any arguments
 abbrev pub Lockstep : Frame → Ssa → Anf → Type 0
-Lockstep frame z a = (args : List Value) (k : ℕ) → ssa_runs frame z args k ≡ anf_runs frame a args k
+Lockstep frame ssa anf = (args : List Value) (k : ℕ) → ssa_runs frame ssa args k ≡ anf_runs frame anf args k
 
 abbrev pub CalledRunsInLockstep : Type 0
-CalledRunsInLockstep = (frame : Frame) (z : Ssa) (a : Anf) → Called frame.goto z a → Lockstep frame z a
+CalledRunsInLockstep = (frame : Frame) (ssa : Ssa) (anf : Anf) → Called frame.goto ssa anf → Lockstep frame ssa anf

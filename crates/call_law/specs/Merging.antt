@@ -14,5 +14,5 @@ use Rattle.call_forms.specs.TailRuns.{tail_runs}
 
 abbrev pub TailRunsBound : Type 0
 TailRunsBound =
-    (frame : Frame) (slots : List Slot) (z : Ssa) (a : Anf) (r : Tail) → Merged frame.goto a r → Columned slots z a r → (args : List Value)
-    → Bounds (anf_runs frame a args) (tail_runs frame a r args)
+    (frame : Frame) (slots : List Slot) (ssa : Ssa) (anf : Anf) (tail : Tail) → Merged frame.goto anf tail → Columned slots ssa anf tail → (args : List Value)
+    → Bounds (anf_runs frame anf args) (tail_runs frame anf tail args)

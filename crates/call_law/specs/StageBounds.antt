@@ -17,11 +17,11 @@ use Rattle.call_forms.specs.TailRuns.{tail_runs}
 -- in each frame of the setting the normal form bounds the SSA form
 abbrev pub CalledBound : Type 0
 CalledBound =
-    (setting : Setting) (z : Ssa) (a : Anf) → Called setting.goto z a → (frame : Frame) → IsFrameOf frame setting → (args : List Value)
-    → Bounds (ssa_runs frame z args) (anf_runs frame a args)
+    (setting : Setting) (ssa : Ssa) (anf : Anf) → Called setting.goto ssa anf → (frame : Frame) → IsFrameOf frame setting → (args : List Value)
+    → Bounds (ssa_runs frame ssa args) (anf_runs frame anf args)
 
 -- in each frame of the setting the tail form bounds the normal form
 abbrev pub MergedBound : Type 0
 MergedBound =
-    (setting : Setting) (slots : List Slot) (z : Ssa) (a : Anf) (r : Tail) → Merged setting.goto a r → Columned slots z a r
-    → (frame : Frame) → IsFrameOf frame setting → (args : List Value) → Bounds (anf_runs frame a args) (tail_runs frame a r args)
+    (setting : Setting) (slots : List Slot) (ssa : Ssa) (anf : Anf) (tail : Tail) → Merged setting.goto anf tail → Columned slots ssa anf tail
+    → (frame : Frame) → IsFrameOf frame setting → (args : List Value) → Bounds (anf_runs frame anf args) (tail_runs frame anf tail args)

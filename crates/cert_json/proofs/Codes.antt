@@ -8,8 +8,9 @@ use Rattle.std.specs.Prelude.{IsAscii, IsUtf8}
 use Rattle.serde_json.specs.Data.{null, string}
 use Rattle.away_values.specs.Classes.{is_class_char}
 use Rattle.away_values.specs.Results.{class}
+use Rattle.call_forms.specs.Writable.{is_code}
 use Rattle.cert_json.specs.Forms.{Class}
-use Rattle.cert_json.specs.Spellings.{class_in, is_code}
+use Rattle.cert_json.specs.Spellings.{class_in}
 use Rattle.cert_json.specs.Written.{class_data}
 
 first_true : (a b : Bool) → (a && b) ≡ true → a ≡ true

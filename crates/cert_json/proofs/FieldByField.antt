@@ -3,10 +3,9 @@ use Rattle.std.proofs.Common.{◌≡◌, ℕ, true, List, [], ◌∷◌, is_some
 use Rattle.std.specs.List.{AllByRecursion}
 use Rattle.std.specs.Option.{ok_or}
 use Rattle.serde_json.specs.Find.{get}
-use Rattle.cert_json.specs.declared.cert.Cert.{Cert}
 use Rattle.cert_json.specs.declared.cert.CertField.{CertField}
 use Rattle.cert_json.specs.declared.cert.CertField.TheVariants as field
-use Rattle.cert_json.specs.Forms.{Ty, Block, SsaBlock, AnfBlock}
+use Rattle.cert_json.specs.Forms.{Ty, Block, SsaBlock, AnfBlock, Cert}
 use Rattle.cert_json.specs.Spellings.{many, number_in, type_in}
 use Rattle.cert_json.specs.Blocks.{anf_block_in, block_in, ssa_block_in}
 use Rattle.cert_json.specs.Certificates.{Or, ◌>>=◌, anf_in, cert_in, goto_in, ssa_in, tail_in, within}

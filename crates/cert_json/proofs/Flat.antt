@@ -6,9 +6,8 @@ use Rattle.serde_json.specs.View.{items_of}
 use Rattle.serde_json.specs.Written.{has_float, items_have_float, members_have_float}
 use Rattle.block_forms.specs.declared.forms.End.TheVariants.{Jump, Branch, Return, Fail}
 use Rattle.call_forms.specs.declared.forms.CallEnd.TheVariants as calls
-use Rattle.cert_json.specs.declared.cert.Cert.{Cert}
-use Rattle.cert_json.specs.Forms.{Class, Ty, Term, End, Block, Goto, Phi, SsaBlock, Ssa, CallEnd, AnfBlock, Anf}
-use Rattle.cert_json.specs.Spellings.{is_code}
+use Rattle.call_forms.specs.Writable.{is_code}
+use Rattle.cert_json.specs.Forms.{Class, Ty, Term, End, Block, Goto, Phi, SsaBlock, Ssa, CallEnd, AnfBlock, Anf, Cert}
 use Rattle.cert_json.specs.Written.{anf_block_data, anf_data, block_data, call_end_data, cert_data, class_data, end_data, goto_data, many_data, number_data, pair_data, phi_data, set_data, ssa_block_data, ssa_data, type_data}
 
 record Flat (k : ℕ) (d : Data) : Type 0 where

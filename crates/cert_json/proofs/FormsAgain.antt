@@ -1,7 +1,6 @@
 -- What is written for a form, and for a certificate, spells it again.
 use Rattle.std.proofs.Common.{◌≡◌, Some, Ok, refl}
-use Rattle.cert_json.specs.declared.cert.Cert.{Cert}
-use Rattle.cert_json.specs.Forms.{Goto, Ssa, Anf}
+use Rattle.cert_json.specs.Forms.{Goto, Ssa, Anf, Cert}
 use Rattle.cert_json.specs.Spellings.{many, number_in, type_in}
 use Rattle.cert_json.specs.Blocks.{anf_block_in, block_in, ssa_block_in}
 use Rattle.cert_json.specs.Certificates.{anf_in, cert_in, goto_in, ssa_in, tail_in}

@@ -5,12 +5,11 @@ use Rattle.std.specs.Option.{ok_or}
 use Rattle.serde_json.specs.Data.{Data}
 use Rattle.serde_json.specs.Find.{get}
 use Rattle.serde_json.specs.Read.{read}
-use Rattle.cert_json.specs.declared.cert.Cert.{Cert}
 use Rattle.cert_json.specs.declared.cert.CertField.{CertField}
 use Rattle.cert_json.specs.declared.cert.CertField.TheVariants as field
 use Rattle.cert_json.specs.declared.cert.CertRefusal.{CertRefusal}
 use Rattle.cert_json.specs.declared.cert.CertRefusal.TheVariants as refusal
-use Rattle.cert_json.specs.Forms.{Goto, Ssa, Anf, Tail}
+use Rattle.cert_json.specs.Forms.{Goto, Ssa, Anf, Tail, Cert}
 use Rattle.cert_json.specs.Spellings.{many, number_in, type_in}
 use Rattle.cert_json.specs.Blocks.{anf_block_in, block_in, ssa_block_in}
 

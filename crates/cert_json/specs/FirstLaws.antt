@@ -3,9 +3,9 @@ use Rattle.std.specs.Prelude.{◌≡◌, ℕ, Bool, true, false, List, [], ◌�
 use Rattle.std.specs.List.{AllByRecursion}
 use Rattle.serde_json.specs.Data.{Data}
 use Rattle.serde_json.specs.Find.{get}
-use Rattle.cert_json.specs.declared.cert.Cert.{Cert}
 use Rattle.cert_json.specs.declared.cert.CertField.{CertField}
 use Rattle.cert_json.specs.declared.cert.CertField.TheVariants as field
+use Rattle.cert_json.specs.Forms.{Cert}
 use Rattle.cert_json.specs.Spellings.{many, number_in, type_in}
 use Rattle.cert_json.specs.Blocks.{anf_block_in, block_in, ssa_block_in}
 use Rattle.cert_json.specs.Certificates.{cert_in, within}
@@ -22,8 +22,10 @@ within_ssa name d = within name (get (codes "ssa") d)
 -- for each field in order, whether it has its shape
 abbrev pub shapes : Data → List Bool
 shapes d =
-    has number_in (within_goto (codes "entry") d) ∷ has number_in (within_goto (codes "end") d) ∷ has (many number_in) (within_goto (codes "nodes") d) ∷ has (many block_in) (within_goto (codes "blocks") d)
-    ∷ has (many number_in) (within_ssa (codes "names") d) ∷ has (many ssa_block_in) (within_ssa (codes "blocks") d) ∷ has (many anf_block_in) (within (codes "blocks") (get (codes "anf") d))
+    has number_in (within_goto (codes "entry") d) ∷ has number_in (within_goto (codes "end") d) ∷ has (many number_in)
+    (within_goto (codes "nodes") d) ∷ has (many block_in) (within_goto (codes "blocks") d)
+    ∷ has (many number_in) (within_ssa (codes "names") d) ∷ has (many ssa_block_in) (within_ssa (codes "blocks") d)
+    ∷ has (many anf_block_in) (within (codes "blocks") (get (codes "anf") d))
     ∷ has (many number_in) (get (codes "labels") d) ∷ has (many type_in) (get (codes "columns") d) ∷ has (many (many number_in)) (get (codes "places") d) ∷ []
 
 -- the place of a field in the order

@@ -13,3 +13,4 @@ pub use Rattle.call_forms.specs.declared.forms.CallEnd.{CallEnd}
 pub use Rattle.call_forms.specs.declared.forms.AnfBlock.{AnfBlock}
 pub use Rattle.call_forms.specs.declared.forms.Anf.{Anf}
 pub use Rattle.call_forms.specs.declared.forms.Tail.{Tail}
+pub use Rattle.call_forms.specs.declared.forms.Forms.{Forms as Cert}

@@ -5,6 +5,5 @@ pub mod Blocks
 pub mod Certificates
 pub mod Given
 pub mod Written
-pub mod Writable
 pub mod FirstLaws
 pub mod Lines

@@ -1,11 +1,10 @@
 -- How JSON spells numbers, lists and classes. What has another shape is None.
-use Rattle.std.specs.Prelude.{ℕ, ◌^◌, Bool, ◌&&◌, ◌==◌, nat_lt, if◌then◌else◌, List, [], ◌∷◌, length, bytes_eq, codes, Option, Some, None, option_and_then}
-use Rattle.std.specs.List.{list_all}
+use Rattle.std.specs.Prelude.{ℕ, ◌^◌, nat_lt, if◌then◌else◌, List, [], ◌∷◌, bytes_eq, codes, Option, Some, None, option_and_then}
 use Rattle.serde_json.specs.Data.{Data, Items, no_items, item}
 use Rattle.serde_json.specs.Find.{as_array, as_number, as_str, as_u64}
-use Rattle.away_values.specs.Classes.{is_class_char}
 use Rattle.away_values.specs.Results.{class}
 use Rattle.away_values.specs.declared.types.Ty.TheVariants as ty
+use Rattle.call_forms.specs.Writable.{is_code}
 use Rattle.cert_json.specs.Forms.{Class, Ty}
 
 infixl 10 ◌>>=◌
@@ -76,16 +75,14 @@ pair_in d = do
 
 -- ---- words
 
--- five digits or upper-case letters
-abbrev pub is_code : List ℕ → Bool
-is_code t = length t == 5 && list_all is_class_char t
-
+-- a class is five digits or upper-case letters
 unfoldable pub class_in : Data → Option Class
 class_in d = as_str d >>= λ t. if is_code t then Some (class t) else None
 
 abbrev pub type_named : List ℕ → Option Ty
 type_named t =
-    if bytes_eq t (codes "bigint") then Some ty.Bigint else (if bytes_eq t (codes "boolean") then Some ty.Boolean else (if bytes_eq t (codes "text") then Some ty.Text else None))
+    if bytes_eq t (codes "bigint") then Some ty.Bigint
+    else (if bytes_eq t (codes "boolean") then Some ty.Boolean else (if bytes_eq t (codes "text") then Some ty.Text else None))
 
 unfoldable pub type_in : Data → Option Ty
 type_in d = as_str d >>= type_named

@@ -5,9 +5,8 @@ use Rattle.serde_json.specs.View.{items_of}
 use Rattle.away_values.specs.declared.types.Ty.TheVariants as ty
 use Rattle.block_forms.specs.declared.forms.End.TheVariants.{Jump, Branch, Return, Fail}
 use Rattle.call_forms.specs.declared.forms.CallEnd.TheVariants as calls
-use Rattle.cert_json.specs.declared.cert.Cert.{Cert}
-use Rattle.cert_json.specs.Forms.{Class, Ty, Term, End, Block, Goto, Phi, SsaBlock, Ssa, CallEnd, AnfBlock, Anf}
-use Rattle.cert_json.specs.Spellings.{is_code}
+use Rattle.call_forms.specs.Writable.{is_code}
+use Rattle.cert_json.specs.Forms.{Class, Ty, Term, End, Block, Goto, Phi, SsaBlock, Ssa, CallEnd, AnfBlock, Anf, Cert}
 
 -- ---- numbers, lists and words
 
@@ -61,7 +60,8 @@ end_data (Fail c) = fail_data c
 abbrev pub call_end_data : CallEnd → Data
 call_end_data (calls.Go c) = headed_data (codes "call") (number_data c.target ∷ many_data number_data c.args ∷ [])
 call_end_data (calls.Pick t b c) =
-    headed_data (codes "if") (number_data t.expr ∷ many_data number_data t.names ∷ number_data b.target ∷ many_data number_data b.args ∷ number_data c.target ∷ many_data number_data c.args ∷ [])
+    headed_data (codes "if") (number_data t.expr ∷ many_data number_data t.names ∷ number_data b.target
+    ∷ many_data number_data b.args ∷ number_data c.target ∷ many_data number_data c.args ∷ [])
 call_end_data (calls.Return t) = return_data t
 call_end_data (calls.Fail c) = fail_data c
 
@@ -82,16 +82,20 @@ anf_block_data b = list_data (many_data number_data b.params ∷ set_data b.set 
 -- ---- forms, with their members in the order of the names, as serde_json keeps them
 
 unfoldable pub goto_data : Goto → Data
-goto_data g =
-    object (member (codes "blocks") (many_data block_data g.blocks) (member (codes "end") (number_data g.finish) (member (codes "entry") (number_data g.entry) (member (codes "nodes") (many_data number_data g.nodes) no_members))))
+goto_data goto =
+    object (member (codes "blocks") (many_data block_data goto.blocks)
+    (member (codes "end") (number_data goto.finish)
+    (member (codes "entry") (number_data goto.entry) (member (codes "nodes") (many_data number_data goto.nodes) no_members))))
 
 unfoldable pub ssa_data : Ssa → Data
-ssa_data s = object (member (codes "blocks") (many_data ssa_block_data s.blocks) (member (codes "names") (many_data number_data s.names) no_members))
+ssa_data ssa = object (member (codes "blocks") (many_data ssa_block_data ssa.blocks) (member (codes "names") (many_data number_data ssa.names) no_members))
 
 unfoldable pub anf_data : Anf → Data
-anf_data a = object (member (codes "blocks") (many_data anf_block_data a.blocks) no_members)
+anf_data anf = object (member (codes "blocks") (many_data anf_block_data anf.blocks) no_members)
 
 unfoldable pub cert_data : Cert → Data
 cert_data c =
-    object (member (codes "anf") (anf_data c.anf) (member (codes "columns") (many_data type_data c.tail.columns) (member (codes "goto") (goto_data c.goto) (member (codes "labels") (many_data number_data c.tail.labels)
+    object (member (codes "anf") (anf_data c.anf)
+    (member (codes "columns") (many_data type_data c.tail.columns)
+    (member (codes "goto") (goto_data c.goto) (member (codes "labels") (many_data number_data c.tail.labels)
     (member (codes "places") (many_data (many_data number_data) c.tail.places) (member (codes "ssa") (ssa_data c.ssa) no_members))))))

@@ -4,7 +4,7 @@ ghost use Rattle.std.specs.Prelude.{◌≡◌, IfOk, Some};
 ghost use Rattle.serde_json.specs.View.{view};
 ghost use Rattle.cert_json.specs.Blocks.{anf_block_in, block_in, phi_in, ssa_block_in};
 ghost use Rattle.cert_json.specs.Spellings.{many};
-ghost use Rattle.cert_json.specs.Writable.{CallEndHasCode, EndHasCode};
+ghost use Rattle.call_forms.specs.Writable.{CallEndHasCode, EndHasCode};
 ghost use Rattle.cert_json.specs.Written.{anf_block_data, block_data, many_data, phi_data, ssa_block_data};
 
 use crate::encode::{Encode, list, number, numbers, pairs};

@@ -1,19 +1,9 @@
-//! Certificates, and why bytes are none.
+//! Certificates, which hold the four forms of a function, and why bytes are none.
 
 use away_values::NoMemory;
-use block_forms::{Goto, Ssa};
-use call_forms::{Anf, Tail};
+pub use call_forms::Forms as Cert;
 use std::alloc::AllocError;
 use thiserror::Error;
-
-/// The four forms of a function on its way to a query.
-#[derive(Drop)]
-pub struct Cert {
-    pub goto: Goto,
-    pub ssa: Ssa,
-    pub anf: Anf,
-    pub tail: Tail,
-}
 
 /// The fields of a certificate, in the order in which they are judged.
 #[derive(Clone, Copy, Debug, PartialEq, Eq)]

@@ -4,7 +4,7 @@ ghost use Rattle.std.specs.Prelude.{◌≡◌, map, IfOk, Some};
 ghost use Rattle.std.specs.List.{AllByRecursion};
 ghost use Rattle.serde_json.specs.Data.{Data};
 ghost use Rattle.serde_json.specs.View.{view};
-ghost use Rattle.cert_json.specs.Writable.{HasCode, HasName};
+ghost use Rattle.call_forms.specs.Writable.{HasCode, HasName};
 ghost use Rattle.cert_json.specs.Spellings.{class_in, many, number_in, pair_in, type_in};
 ghost use Rattle.cert_json.specs.Written.{class_data, list_data, many_data, number_data, pair_data, type_data, type_name};
 

@@ -6,7 +6,7 @@ ghost use Rattle.serde_json.specs.View.{view};
 ghost use Rattle.block_forms.specs.declared.forms.End.TheVariants.{Jump, Branch, Return, Fail};
 ghost use Rattle.call_forms.specs.declared.forms.CallEnd.TheVariants as calls;
 ghost use Rattle.cert_json.specs.Ends.{call_end_in, end_in, set_in};
-ghost use Rattle.cert_json.specs.Writable.{CallEndHasCode, EndHasCode, HasCode};
+ghost use Rattle.call_forms.specs.Writable.{CallEndHasCode, EndHasCode, HasCode};
 ghost use Rattle.cert_json.specs.Written.{call_end_data, end_data, fail_data, return_data, set_data};
 
 use crate::encode::{class, list, number, numbers};

@@ -7,7 +7,8 @@ ghost use Rattle.serde_json.specs.View.{view};
 ghost use Rattle.away_values.specs.Classes.{is_class_char};
 ghost use Rattle.away_values.specs.Results.{class as class_of};
 ghost use Rattle.cert_json.specs.Given.{Gives};
-ghost use Rattle.cert_json.specs.Spellings.{class_in, four_in, is_code as is_code_of, list_in, three_in, two_in, type_in};
+ghost use Rattle.call_forms.specs.Writable.{is_code as is_code_of};
+ghost use Rattle.cert_json.specs.Spellings.{class_in, four_in, list_in, three_in, two_in, type_in};
 ghost use Rattle.cert_json.specs.Ends.{headed as headed_of};
 
 use crate::misfit::Misfit;

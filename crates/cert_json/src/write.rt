@@ -6,7 +6,7 @@ ghost use Rattle.serde_json.specs.View.{view};
 ghost use Rattle.serde_json.specs.Written.{compact_text};
 ghost use Rattle.cert_json.specs.Certificates.{Reads, anf_in, cert_in, goto_in, ssa_in};
 ghost use Rattle.cert_json.specs.Lines.{IsLine};
-ghost use Rattle.cert_json.specs.Writable.{CallEndHasCode, EndHasCode, HasSpelling};
+ghost use Rattle.call_forms.specs.Writable.{CallEndHasCode, EndHasCode, HasSpelling};
 ghost use Rattle.cert_json.specs.Written.{anf_data, cert_data, goto_data, ssa_data};
 
 use crate::cert::Cert;

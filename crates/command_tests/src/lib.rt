@@ -21,6 +21,8 @@ mod printed_queries;
 #[cfg(test)]
 mod queries;
 #[cfg(test)]
+mod row_queries;
+#[cfg(test)]
 mod rows;
 #[cfg(test)]
 mod rules;

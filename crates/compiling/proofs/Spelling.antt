@@ -3,6 +3,7 @@ use Rattle.std.proofs.Common.{◌≡◌, refl, sym, subst, ℕ, suc, ◌<◌, Bo
 use Rattle.std.specs.List.{AllByRecursion, list_all}
 use Rattle.std.specs.Prelude.{bytes_eq, codes}
 use Rattle.std.proofs.lemmas.Option.{slice_get_within}
+use Rattle.away_trees.specs.declared.queries.Query.{Query}
 use Rattle.away_trees.specs.declared.schemas.Schema.{Schema}
 use Rattle.away_trees.specs.declared.statements.Function.{Function}
 use Rattle.away_types.specs.declared.slots.Slot.{Slot}
@@ -21,12 +22,12 @@ use Rattle.call_forms.specs.declared.forms.Anf.{Anf}
 use Rattle.call_forms.specs.declared.forms.AnfBlock.{AnfBlock}
 use Rattle.call_forms.specs.declared.forms.CallEnd.{CallEnd}
 use Rattle.call_forms.specs.declared.forms.CallEnd.TheVariants as calls
+use Rattle.call_forms.specs.declared.forms.Forms.{Forms}
 use Rattle.call_forms.specs.Called.{BlockCalled, EndCalled}
+use Rattle.call_forms.specs.Tight.{Tight}
+use Rattle.call_forms.specs.Writable.{is_code, CallEndHasCode, EndHasCode, HasCode, HasName, HasSpelling}
 use Rattle.call_law.proofs.Labels.{element_there}
-use Rattle.cert_json.specs.declared.cert.Cert.{Cert}
-use Rattle.cert_json.specs.Spellings.{is_code}
-use Rattle.cert_json.specs.Writable.{CallEndHasCode, EndHasCode, HasCode, HasName, HasSpelling}
-use Rattle.compiling.specs.Stages.{AreForms}
+use Rattle.equivalence.specs.Accepted.{AcceptedForms}
 use Rattle.function_facts.specs.Raising.{RaisesClass}
 use Rattle.function_facts.proofs.Raising.{raise_classes}
 use Rattle.cte_prints.specs.Texts.{IsOfTexts}
@@ -88,27 +89,28 @@ all_of : {X : Type 0} (P : X → Type 0) (xs : List X) → Each P xs → AllByRe
 all_of P [] h = tt
 all_of P (x ∷ xs) h = (h 0 x refl, all_of P xs (λ i y e. h (suc i) y e))
 
-module _ (s : Schema) (f : Function) (slots : List Slot) (c : Cert) (texts : IsOfTexts s f slots) (forms : AreForms f slots c) where
-  goto_codes : Each (λ (x : Block). EndHasCode x.end) c.goto.blocks
-  goto_codes i x at = end_code x.end (raise_classes f slots c.goto forms.lowered i x at)
+module _ (s : Schema) (f : Function) (slots : List Slot) (forms : Forms) (q : Query) (texts : IsOfTexts s f slots) (accepted : AcceptedForms s f slots forms q)
+    (tight : Tight slots forms.goto forms.ssa forms.anf forms.tail) where
+  goto_codes : Each (λ (x : Block). EndHasCode x.end) forms.goto.blocks
+  goto_codes i x at = end_code x.end (raise_classes f slots forms.goto accepted.lowered i x at)
 
-  ssa_codes : Each (λ (y : SsaBlock). EndHasCode y.end) c.ssa.blocks
+  ssa_codes : Each (λ (y : SsaBlock). EndHasCode y.end) forms.ssa.blocks
   ssa_codes =
-      each_passes (λ (x : Block). EndHasCode x.end) (λ (y : SsaBlock). EndHasCode y.end) (λ i. BlockRenamed c.ssa.names)
-      (λ i x y h. renamed_code (exit_map x y) x.end y.end h.end) c.goto.blocks c.ssa.blocks forms.named.as_many_blocks forms.named.blocks goto_codes
+      each_passes (λ (x : Block). EndHasCode x.end) (λ (y : SsaBlock). EndHasCode y.end) (λ i. BlockRenamed forms.ssa.names)
+      (λ i x y h. renamed_code (exit_map x y) x.end y.end h.end) forms.goto.blocks forms.ssa.blocks accepted.named.as_many_blocks accepted.named.blocks goto_codes
 
-  anf_codes : Each (λ (x : AnfBlock). CallEndHasCode x.end) c.anf.blocks
+  anf_codes : Each (λ (x : AnfBlock). CallEndHasCode x.end) forms.anf.blocks
   anf_codes =
-      each_passes (λ (y : SsaBlock). EndHasCode y.end) (λ (x : AnfBlock). CallEndHasCode x.end) (BlockCalled c.ssa c.anf)
-      (λ i y x h. called_code c.ssa c.anf i y.end x.end h.end) c.ssa.blocks c.anf.blocks forms.called.as_many_blocks forms.called.blocks ssa_codes
+      each_passes (λ (y : SsaBlock). EndHasCode y.end) (λ (x : AnfBlock). CallEndHasCode x.end) (BlockCalled forms.ssa forms.anf)
+      (λ i y x h. called_code forms.ssa forms.anf i y.end x.end h.end) forms.ssa.blocks forms.anf.blocks accepted.called.as_many_blocks accepted.called.blocks ssa_codes
 
-  column_names : Each HasName c.tail.columns
-  column_names i t at = name_of t (columns_of_texts s f slots c.goto c.ssa c.anf c.tail texts forms.tight i t at)
+  column_names : Each HasName forms.tail.columns
+  column_names i t at = name_of t (columns_of_texts s f slots forms.goto forms.ssa forms.anf forms.tail texts tight i t at)
 
-  pub spelling : HasSpelling c
+  pub spelling : HasSpelling forms
   spelling = record {
-    goto = all_of (λ (x : Block). EndHasCode x.end) c.goto.blocks goto_codes;
-    ssa = all_of (λ (y : SsaBlock). EndHasCode y.end) c.ssa.blocks ssa_codes;
-    anf = all_of (λ (x : AnfBlock). CallEndHasCode x.end) c.anf.blocks anf_codes;
-    columns = all_of HasName c.tail.columns column_names;
+    goto = all_of (λ (x : Block). EndHasCode x.end) forms.goto.blocks goto_codes;
+    ssa = all_of (λ (y : SsaBlock). EndHasCode y.end) forms.ssa.blocks ssa_codes;
+    anf = all_of (λ (x : AnfBlock). CallEndHasCode x.end) forms.anf.blocks anf_codes;
+    columns = all_of HasName forms.tail.columns column_names;
   }

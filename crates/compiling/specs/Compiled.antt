@@ -7,20 +7,20 @@ use Rattle.away_trees.specs.declared.statements.Function.{Function}
 use Rattle.away_types.specs.CheckedQueries.{query_note, resolved_query}
 use Rattle.away_types.specs.declared.slots.Slot.{Slot}
 use Rattle.away_types.specs.Refusals.{IsUnbroken}
+use Rattle.call_forms.specs.declared.forms.Forms.{Forms}
 use Rattle.call_forms.specs.Tight.{Tight}
 use Rattle.call_forms.specs.Useful.{Neat}
-use Rattle.cert_json.specs.declared.cert.Cert.{Cert}
-use Rattle.cert_json.specs.Writable.{HasSpelling}
+use Rattle.call_forms.specs.Writable.{HasSpelling}
 use Rattle.equivalence.specs.Accepted.{AcceptedForms}
 use Rattle.sql_text.specs.Refusals.{MayBeRead}
 
--- The text reads as the written query, which breaks no rule under the schema. The certificate's forms stand between the function and the query with its
--- names resolved. They are neat and tight, and can be spelled.
-pub record IsCompiled (s : Schema) (f : Function) (slots : List Slot) (written : Query) (text : List ℕ) (c : Cert) : Type 0 where
+-- The text reads as the written query, which breaks no rule under the schema. The forms stand between the function and the query with its names resolved.
+-- They are neat and tight, and a certificate can spell them.
+pub record IsCompiled (s : Schema) (f : Function) (slots : List Slot) (written : Query) (text : List ℕ) (forms : Forms) : Type 0 where
   pub may_be_read : MayBeRead text
   pub reads : ReadsQuery text written
   pub unbroken : IsUnbroken (query_note s written)
-  pub accepted : AcceptedForms s f slots c.goto c.ssa c.anf c.tail (resolved_query s written)
-  pub neat : Neat c.ssa c.anf
-  pub tight : Tight slots c.goto c.ssa c.anf c.tail
-  pub spelling : HasSpelling c
+  pub accepted : AcceptedForms s f slots forms (resolved_query s written)
+  pub neat : Neat forms.ssa forms.anf
+  pub tight : Tight slots forms.goto forms.ssa forms.anf forms.tail
+  pub spelling : HasSpelling forms

@@ -1,3 +1,3 @@
-pub mod Stages
+pub mod Translated
 pub mod WrittenQuery
 pub mod Compiled

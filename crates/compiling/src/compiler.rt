@@ -5,17 +5,16 @@ ghost use Rattle.away_trees.specs.declared.statements.Function.{Function};
 ghost use Rattle.away_types.specs.CheckedFunctions.{IsChecked};
 ghost use Rattle.away_types.specs.CheckedQueries.{resolved_query};
 ghost use Rattle.compiling.specs.Compiled.{IsCompiled};
-ghost use Rattle.compiling.specs.WrittenQuery.{IsWrittenQueryOf, IsWritten};
-ghost use Rattle.compiling.specs.Stages.{AreForms};
+ghost use Rattle.compiling.specs.WrittenQuery.{IsWritten};
 ghost use Rattle.qualified_names.specs.Trees.{qualified};
 ghost use Rattle.equivalence.specs.Accepted.{EquivalentWith};
 ghost use Rattle.cte_prints.specs.Texts.{IsOfTexts};
 
-use crate::forms::{forms_of, tree_of};
+use crate::forms::{Translated, translate};
 use away_trees::Query;
 use away_types::{CheckedFunction, CheckedSchema};
 use away_values::NoMemory;
-use cert_json::Cert;
+use call_forms::Forms;
 use cte_prints::trees_read_again;
 use equivalence::accepted_forms_are_equivalent;
 use qualified_names::qualified_query;
@@ -28,7 +27,7 @@ use std::alloc::Global;
 pub struct Compiled {
     pub query: Boxed<Query>,
     pub text: String,
-    pub cert: Cert,
+    pub cert: Forms,
 }
 
 /// A query and its text.
@@ -55,22 +54,6 @@ fn text_of(alloc: Global, tree: &Query) -> Result<WrittenQuery, NoMemory>
     Ok(WrittenQuery { query, text })
 }
 
-/// The query of a function with these forms, and its text.
-fn written_query(
-    alloc: Global,
-    s: &CheckedSchema,
-    f: &CheckedFunction,
-    c: &Cert,
-) -> Result<WrittenQuery, NoMemory>
-    requires texts { IsOfTexts s.now.schema f.now.function f.now.slots }
-    requires forms { AreForms f.now.function f.now.slots c.now }
-    ensures { IfOk result (IsWrittenQueryOf s.now.schema f.now.function f.now.slots c.now) }
-{
-    trees_read_again();
-    let tree = tree_of(alloc, f, c, s.schema.tables.len())?;
-    text_of(alloc, tree.get())
-}
-
 /// The query of a function, with its text, and with forms that show that the query is equivalent to the function, if that was checked under the schema.
 /// The function is that of a text, checked under the schema.
 pub fn compile(alloc: Global, s: &CheckedSchema, f: &CheckedFunction) -> Result<Compiled, NoMemory>
@@ -80,8 +63,13 @@ pub fn compile(alloc: Global, s: &CheckedSchema, f: &CheckedFunction) -> Result<
         → EquivalentWith s.now.schema f.now.function f.now.slots (resolved_query s.now.schema c.query)) }
 {
     accepted_forms_are_equivalent(f);
+    trees_read_again();
     let _count = s.schema.tables.len();
-    let cert = forms_of(alloc, f)?;
-    let WrittenQuery { query, text } = written_query(alloc, s, f, &cert)?;
-    Ok(Compiled { query, text, cert })
+    let Translated { forms, tree } = translate(alloc, s, f)?;
+    let WrittenQuery { query, text } = text_of(alloc, tree.get())?;
+    Ok(Compiled {
+        query,
+        text,
+        cert: forms,
+    })
 }

@@ -41,7 +41,8 @@ pub record FilesHold : Type 0 where
   pub one_name_more : rows_in (pairs false) (codes "k,v,w\n") ≡ Err refusal.Header
   pub other_order : rows_in (pairs false) (codes "v,k\n1,one\n") ≡ Err refusal.Header
   pub no_row : rows_in (pairs false) (codes "k,v\n") ≡ Ok []
-  pub rows : rows_in (pairs false) (codes "k,v\n1,one\n2,two\n") ≡ Ok ((val.Int (pos 1) ∷ val.Text (codes "one") ∷ []) ∷ (val.Int (pos 2) ∷ val.Text (codes "two") ∷ []) ∷ [])
+  pub rows : rows_in (pairs false) (codes "k,v\n1,one\n2,two\n")
+      ≡ Ok ((val.Int (pos 1) ∷ val.Text (codes "one") ∷ []) ∷ (val.Int (pos 2) ∷ val.Text (codes "two") ∷ []) ∷ [])
   pub no_number : rows_in (pairs false) (codes "k,v\n1,one\nx,two\n") ≡ Err (refusal.Cell 2 1)
   pub one_field : rows_in (pairs false) (codes "k,v\n1,one\n2\n") ≡ Err (refusal.Count 2)
   pub null_key : rows_in (pairs true) (codes "k,v\n\\N,one\n") ≡ Err (refusal.NullCell 1 1)

@@ -9,6 +9,7 @@ use away_values::{NoMemory, Ty, Value, word};
 use std::alloc::Global;
 
 /// The value of the type that the bytes write, or None where they write none. `\N` is NULL.
+/// That it is so in quotes too is our own choice; in the manual (COPY, CSV Format) NULL is an empty field without quotes.
 #[tactic(auto, using(crate::proofs::CellFacts::cell_facts))]
 pub fn read_value(alloc: Global, ty: Ty, text: &[u8]) -> Result<Option<Value>, NoMemory>
     ensures { IfOk result (λ found. found ≡ value_of ty text.now) }

@@ -5,6 +5,7 @@ use std::alloc::AllocError;
 use thiserror::Error;
 
 /// Why a file holds no rows for a table. Rows are counted from 1 below the header, and columns from 1.
+/// These refusals have no SQLSTATE, which is our own choice.
 #[derive(Clone, Copy, Debug, PartialEq, Eq, Error)]
 pub enum TableRefusal {
     /// No record, or the first isn't the names of the columns in their order.

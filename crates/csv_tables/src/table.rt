@@ -15,6 +15,7 @@ use sqlite_items::Items;
 use std::alloc::Global;
 
 /// The table that the bytes of a file hold. Its first record is the names of the columns, and each other one a row.
+/// Nearest in the manual is COPY, CSV Format, with HEADER MATCH; how NULL is written is our own choice.
 pub fn read_table(alloc: Global, t: &TableSchema, bytes: &[u8]) -> Result<Table, TableRefusal>
     ensures rows { IfOk result (λ table. rows_in t.now bytes.now ≡ Ok table.rows) }
     ensures fits { IfOk result (λ table. FitsTable t.now table.rows) }

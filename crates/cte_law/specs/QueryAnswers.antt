@@ -31,25 +31,25 @@ pub record AnswersAs (q : Query) (tables : List Rows) (args : List Value) (runs 
 
 -- Over as many tables as the schema has, and at any arguments, the query answers as a run in the function's frame.
 abbrev pub OverEachTables : Schema → Function → List Slot → Goto → Query → (List Rows → List Value → ℕ → Ran) → Type 0
-OverEachTables s f slots g q runs =
+OverEachTables s f slots goto q runs =
     (tables : List Rows) (args : List Value) → length tables ≡ length s.tables → length tables < 2 ^ 64 → AnswersAs q tables args (runs tables args)
 
 -- what holds of the forms of a function that is checked under a schema
 abbrev pub OfForms : (Schema → Function → List Slot → Goto → Ssa → Anf → Tail → Query → Type 0) → Type 0
 OfForms P =
-    (s : Schema) (written f : Function) (slots : List Slot) (g : Goto) (z : Ssa) (a : Anf) (r : Tail) (q : Query) → IsChecked s written f slots
-    → Lowered f slots g → Named (length slots) (length f.params) g z → Called g z a → Templated f slots (length s.tables) g z a r q
-    → P s f slots g z a r q
+    (s : Schema) (written f : Function) (slots : List Slot) (goto : Goto) (ssa : Ssa) (anf : Anf) (tail : Tail) (q : Query) → IsChecked s written f slots
+    → Lowered f slots goto → Named (length slots) (length f.params) goto ssa → Called goto ssa anf → Templated f slots (length s.tables) goto ssa anf tail q
+    → P s f slots goto ssa anf tail q
 
 -- the query of a tail form answers as the tail form
 abbrev pub QueryAnswersAsTailForm : Type 0
 QueryAnswersAsTailForm =
     OfForms
-    (λ s f slots g z a r q. OverEachTables s f slots g q (λ tables args. tail_runs (frame_of f (length slots) g tables) a r args))
+    (λ s f slots goto ssa anf tail q. OverEachTables s f slots goto q (λ tables args. tail_runs (frame_of f (length slots) goto tables) anf tail args))
 
 -- the query of forms that belong together answers as the SSA form
 abbrev pub QueryAnswersAsSsa : Type 0
 QueryAnswersAsSsa =
     OfForms
-    (λ s f slots g z a r q. Merged g a r → Columned slots z a r
-    → OverEachTables s f slots g q (λ tables args. ssa_runs (frame_of f (length slots) g tables) z args))
+    (λ s f slots goto ssa anf tail q. Merged goto anf tail → Columned slots ssa anf tail
+    → OverEachTables s f slots goto q (λ tables args. ssa_runs (frame_of f (length slots) goto tables) ssa args))

@@ -1,5 +1,5 @@
 -- Items of FROM, selects and queries of a function are clear as a query has them, where their parts are and no rule of names is broken.
-use Rattle.std.proofs.Common.{◌≡◌, refl, ap, sym, subst, ◌∙◌, ℕ, suc, arith, Bool, true, false, List, [], ◌∷◌, ◌++◌, map, drop, length, Option, Some, None, option_map}
+use Rattle.std.proofs.Common.{◌≡◌, refl, ap, sym, subst, ◌∙◌, ℕ, suc, Bool, true, false, List, [], ◌∷◌, ◌++◌, map, drop, length, Option, Some, None, option_map}
 use Rattle.away_trees.specs.declared.queries.Expr.{Expr}
 use Rattle.away_trees.specs.declared.queries.Source.{Source}
 use Rattle.away_trees.specs.declared.queries.Source.TheVariants as source
@@ -14,6 +14,7 @@ use Rattle.away_trees.specs.declared.queries.Expr.TheOpen.{Select-F, Query-F}
 use Rattle.away_trees.specs.declared.queries.Expr.TheViews.{out-FromItem, roll-FromItem, roll-Select, roll-Query, out-roll-Select, out-roll-Query}
 use Rattle.away_trees.specs.Algebra.{Algebra, expr_of, source_of, from_of, item_of, key_of, select_of, query_of}
 use Rattle.away_trees.proofs.Equations as eq
+use Rattle.away_names.specs.declared.rule.Rule.TheVariants as rule
 use Rattle.away_names.specs.declared.note.Framed.{Framed}
 use Rattle.away_names.specs.declared.note.Noted.{Noted}
 use Rattle.away_names.specs.declared.note.Part.{Part}
@@ -64,10 +65,10 @@ pub record MayStand (alias : Name) (columns : List Name) : Type 0 where
 pub may_stand : (s : Scope) (alias : Name) (columns : List Name) → s.in_function ≡ true → Clean (n.part_note s alias columns) → MayStand alias columns
 unfolding n.part_note
 may_stand s alias columns h k =
-    let both = clean_parts (n.written s alias) (joined (n.all_written s columns) (breaks 6 (has_double columns))) k in
+    let both = clean_parts (n.written s alias) (joined (n.all_written s columns) (breaks rule.Duplicates (has_double columns))) k in
     record {
       written = may_write s alias h both.0;
-      differ = test_fails 6 (has_double columns) (omega arith) (clean_parts (n.all_written s columns) (breaks 6 (has_double columns)) both.1).1;
+      differ = test_fails rule.Duplicates (has_double columns) (clean_parts (n.all_written s columns) (breaks rule.Duplicates (has_double columns)) both.1).1;
     }
 
 module _ (q : Scope) (slots : ℕ → Bool) (leaf : ℕ → ℕ → Expr) where
@@ -107,7 +108,7 @@ module _ (q : Scope) (slots : ℕ → Bool) (leaf : ℕ → ℕ → Expr) where
       → ClearPart (under ms q) seen (record { alias = alias; columns = (n.of_table x t).it.names })
       (roll-FromItem (record { source = source_of P (n.of_table x t).it.source (suc (length ms)); alias = alias; columns = (n.of_table x t).it.columns }))
   unfolding n.of_table
-  table_clear x alias columns s seen ms f m h None is g = absurd (not_broken 9 (omega arith) g)
+  table_clear x alias columns s seen ms f m h None is g = absurd (not_broken rule.Tables g)
   table_clear x alias columns s seen ms f m h (Some t) is g =
       let w : FromItem = roll-FromItem (record { source = source.Table x; alias = alias; columns = t.written }) in
       let names : List (Option Name) = n.plain_names (drop 1 t.written) in
@@ -251,7 +252,7 @@ module _ (q : Scope) (slots : ℕ → Bool) (leaf : ℕ → ℕ → Expr) where
       let inner : Scope = inside from.it.seen s in
       let aliases : List (Option Name) = map (λ i. i.alias) l in
       let two_notes = clean_parts _ _ g in
-      let heads = clean_parts (breaks 6 (has_double (map (λ f. f.alias) f))) from.note two_notes.0 in
+      let heads = clean_parts (breaks rule.Duplicates (has_double (map (λ f. f.alias) f))) from.note two_notes.0 in
       let over = clean_parts _ _ two_notes.1 in
       let first = clean_parts (n.items inner l).note (held (λ t. t.judge inner) w).note over.0 in
       let second = clean_parts (each (λ k. k aliases inner) o).note (held (λ t. t.judge inner) m).note over.1 in
@@ -261,7 +262,7 @@ module _ (q : Scope) (slots : ℕ → Bool) (leaf : ℕ → ℕ → Expr) where
       let here : Fits q inner ns = record { in_function = fits.in_function; tables = fits.tables; so = (so.seen_so, fits.so) } in
       let list = items_clear l lh inner ns here first.0 may.list in
       select_clear ms (n.items inner l).it.names (map (λ f. f.alias) f) from.it.seen (n.items inner l).it.it from.it.items (held (λ t. t.judge inner) w).it (each (λ k. k aliases inner) o).it (held (λ t. t.judge inner) m).it
-      (test_fails 6 (has_double (map (λ f. f.alias) f)) (omega arith) heads.0) so list.0 list.1 (maybe_clear w wh inner ns here first.1 may.filter) (keys_clear aliases o oh inner ns here second.0 may.order)
+      (test_fails rule.Duplicates (has_double (map (λ f. f.alias) f)) heads.0) so list.0 list.1 (maybe_clear w wh inner ns here first.1 may.filter) (keys_clear aliases o oh inner ns here second.0 may.order)
       (maybe_clear m mh inner ns here second.1 may.limit)
 
   -- ---- queries

@@ -1,5 +1,5 @@
 -- In a function, a tree whose names are resolved and break no rule is clear as a query has it, where what stands for slots is clear.
-use Rattle.std.proofs.Common.{◌≡◌, refl, ap, sym, subst, ℕ, arith, Bool, true, false, List, [], ◌++◌, map, length, Option, Some, None}
+use Rattle.std.proofs.Common.{◌≡◌, refl, ap, sym, subst, ℕ, Bool, true, false, List, [], ◌++◌, map, length, Option, Some, None}
 use Rattle.std.specs.Prelude.{is_some}
 use Rattle.std.specs.List.{flat_map}
 use Rattle.away_values.specs.declared.operators.ChainOp.{ChainOp}
@@ -7,6 +7,7 @@ use Rattle.away_trees.specs.declared.queries.Expr.{Expr}
 use Rattle.away_trees.specs.declared.queries.Expr.TheVariants as expr
 use Rattle.away_trees.specs.Algebra.{Algebra, expr_of}
 use Rattle.away_trees.proofs.Equations as eq
+use Rattle.away_names.specs.declared.rule.Rule.TheVariants as rule
 use Rattle.away_names.specs.declared.note.Column.{Column}
 use Rattle.away_names.specs.Lookups.{Name, Level, Scope, is_kept}
 use Rattle.away_names.specs.Naming as n
@@ -65,7 +66,7 @@ module _ (q : Scope) (slots : ℕ → Bool) (leaf : ℕ → ℕ → Expr) (leave
 
   unwritten_not : (e : Expr) → Clean (n.unwritten e).note → ⊥
   unfolding n.unwritten
-  unwritten_not e g = not_broken 7 (omega arith) g
+  unwritten_not e g = not_broken rule.Names g
 
   module _ (s : Scope) (ms : List Level) (f : Fits q s ms) where
     values_of : (ts : List n.Term) → Every (part.Exprs q slots leaf) ts → Clean (each (λ t. t.judge s) ts).note → May (of_list (length ms) (map (λ e. expr_of reading e) (each (λ t. t.judge s) ts).it))
@@ -160,14 +161,14 @@ module _ (q : Scope) (slots : ℕ → Bool) (leaf : ℕ → ℕ → Expr) (leave
           named = subst (λ (t : Column). NameSo (n.named_as alias (x.judge s).it x.last) t.name) (sym (d.item_rule _ _)) (item_name_so alias (x.judge s).it x.last _ h.named);
         };
     key = λ x y z descending k aliases s ms f g a.
-        let h = k s ms f (clean_parts (breaks 8 (n.is_alias aliases x.alone)) (x.judge s).note g).1 a in
+        let h = k s ms f (clean_parts (breaks rule.Ambiguity (n.is_alias aliases x.alone)) (x.judge s).note g).1 a in
         record { clear = λ rest r. c.one_key descending h.clear r };
     select = λ l₁ l₂ l₃ f₁ f₂ f₃ w₁ w₂ w₃ o₁ o₂ o₃ m₁ m₂ m₃ lr fr wr kr mr.
         sel.listing_clear q slots leaf l₁ f₁ w₁ o₁ m₁ (firsts (λ x y z. part.Items q slots leaf x) (part.Items q slots leaf) (λ x y z r. r) l₁ l₂ l₃ lr) (firsts (λ x y z. part.Froms q slots leaf x) (part.Froms q slots leaf) (λ x y z r. r) f₁ f₂ f₃ fr)
         (option w₁ w₂ w₃ wr) (firsts (λ x y z. part.Keys q slots leaf x) (part.Keys q slots leaf) (λ x y z r. r) o₁ o₂ o₃ kr) (option m₁ m₂ m₃ mr);
     recursive = λ name columns xs ys zs x y z r k. tt;
     query = λ x y z xs ys zs h r s ms f g a.
-        sel.query_clear q slots leaf s ms f xs (firsts (λ x y z. part.Selects q slots leaf x) (part.Selects q slots leaf) (λ x y z r. r) xs ys zs r) (clean_parts (breaks 13 (is_some x)) (n.united xs s).note g).1 a;
+        sel.query_clear q slots leaf s ms f xs (firsts (λ x y z. part.Selects q slots leaf x) (part.Selects q slots leaf) (λ x y z r. r) xs ys zs r) (clean_parts (breaks rule.Types (is_some x)) (n.united xs s).note g).1 a;
   }
 
   -- an expression under no select

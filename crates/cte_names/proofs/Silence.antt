@@ -1,5 +1,7 @@
 -- Notes in which the recursive table isn't named.
-use Rattle.std.proofs.Common.{◌≡◌, refl, ℕ, Bool, false, List, [], ◌∷◌, map, fold, Option, Some, None, option_map}
+use Rattle.std.proofs.Common.{◌≡◌, refl, Bool, false, List, [], ◌∷◌, map, fold, Option, Some, None, option_map}
+use Rattle.away_names.specs.declared.rule.Rule.{Rule}
+use Rattle.away_names.specs.declared.rule.Rule.TheVariants as rule
 use Rattle.away_names.specs.declared.note.Note.{Note}
 use Rattle.away_names.specs.declared.note.Noted.{Noted}
 use Rattle.away_names.specs.declared.note.Times.TheVariants.{Never}
@@ -19,9 +21,9 @@ pub both_silent : (a b : Note) → IsSilent a → IsSilent b → IsSilent (joine
 unfolding joined summed
 both_silent a b h k = λ i. summed (h i) (k i)
 
-pub breaks_silent : (rule : ℕ) (test : Bool) → IsSilent (breaks rule test)
+pub breaks_silent : (broken : Rule) (test : Bool) → IsSilent (breaks broken test)
 unfolding breaks
-breaks_silent rule test = refl
+breaks_silent broken test = refl
 
 pub written_silent : (s : Scope) (n : Name) → IsSilent (written s n)
 unfolding written breaks
@@ -41,12 +43,12 @@ maybe_silent s (Some n) = written_silent s n
 
 pub called_silent : (s : Scope) (n : Name) → IsSilent (called s n)
 unfolding called
-called_silent s n = both_silent (written s n) _ (written_silent s n) (breaks_silent 7 _)
+called_silent s n = both_silent (written s n) _ (written_silent s n) (breaks_silent rule.Names _)
 
 pub part_silent : (s : Scope) (alias : Name) (columns : List Name) → IsSilent (part_note s alias columns)
 unfolding part_note
 part_silent s alias columns =
-    both_silent (written s alias) _ (written_silent s alias) (both_silent (all_written s columns) _ (all_silent s columns) (breaks_silent 6 _))
+    both_silent (written s alias) _ (written_silent s alias) (both_silent (all_written s columns) _ (all_silent s columns) (breaks_silent rule.Duplicates _))
 
 pub table_silent : IsSilent (once_where false)
 unfolding once_where

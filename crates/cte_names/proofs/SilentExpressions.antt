@@ -8,6 +8,7 @@ use Rattle.away_trees.specs.declared.queries.Col.{Col}
 use Rattle.away_trees.specs.declared.queries.Expr.{Expr}
 use Rattle.away_trees.specs.declared.queries.Expr.TheVariants as expr
 use Rattle.away_trees.specs.declared.queries.Query.{Query}
+use Rattle.away_names.specs.declared.rule.Rule.TheVariants as rule
 use Rattle.away_names.specs.declared.note.Noted.{Noted}
 use Rattle.away_names.specs.declared.note.Note.{Note}
 use Rattle.away_names.specs.declared.scope.Hit.{Hit}
@@ -51,7 +52,7 @@ pub rows_silent : (s : Scope) → Silent s expr.CountRows
 rows_silent s = by s _ _ _ (d.countrows_is s.levels) (r.countrows_is s) clean_silent
 
 pub param_silent : (s : Scope) (i : ℕ) (t : Ty) → Silent s (expr.Param i t)
-param_silent s i t = by s _ _ _ (d.param_is i t s.levels) (r.param_is i t s) (breaks_silent 7 s.in_function)
+param_silent s i t = by s _ _ _ (d.param_is i t s.levels) (r.param_is i t s) (breaks_silent rule.Names s.in_function)
 
 pub column_silent : (s : Scope) (c : Col) (a x : Name) → reference s.levels c ≡ expr.Dotted a x
     → column_qualified a x s.levels ≡ Some (record { column = c; many = false }) → Silent s (expr.Column c)

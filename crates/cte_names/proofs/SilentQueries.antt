@@ -13,6 +13,7 @@ use Rattle.away_trees.specs.declared.queries.Query.{Query}
 use Rattle.away_trees.specs.declared.queries.Expr.TheOpen.{Select-F, Query-F}
 use Rattle.away_trees.specs.declared.queries.Expr.TheViews.{out-Item, out-FromItem, roll-Item, roll-FromItem, roll-Key}
 use Rattle.away_trees.specs.declared.queries.Expr.TheViews.{roll-Select, roll-Query, out-roll-Select, out-roll-Query}
+use Rattle.away_names.specs.declared.rule.Rule.TheVariants as rule
 use Rattle.away_names.specs.declared.note.Note.{Note}
 use Rattle.away_names.specs.declared.note.Noted.{Noted}
 use Rattle.away_names.specs.declared.note.Shown.{Shown}
@@ -71,7 +72,7 @@ key_silent s x descending h aliases =
     let w : Expr = qualified_expr x s.levels in
     ap (λ k. (named_key k aliases s).note.refers) (d.key_rule (roll-Key (record { expr = x; descending = descending })) s.levels)
     ∙ (ap (λ (z : Noted Key). z.note.refers) (r.key_rule (roll-Key (record { expr = w; descending = descending })) aliases s)
-    ∙ both_silent (breaks 8 (n.is_alias aliases (alone_of w))) (named_expr w s).note (breaks_silent 8 _) h)
+    ∙ both_silent (breaks rule.Ambiguity (n.is_alias aliases (alone_of w))) (named_expr w s).note (breaks_silent rule.Ambiguity _) h)
 
 keys_silent : (s : Scope) (aliases : List (Option Name)) (ks : List Key) → Every (SilentKey s) ks
     → IsSilent (each (named_key_in aliases s) (qualified_keys s.levels ks)).note
@@ -144,7 +145,7 @@ aliases from = map (λ f. (out-FromItem f).alias) from
 -- a select by its parts
 abbrev pub read_so : Fields → Scope → Noted (Shown Select)
 read_so x s =
-    also (joined (breaks 6 (has_double (aliases x.from))) (named_from s x.from).note)
+    also (joined (breaks rule.Duplicates (has_double (aliases x.from))) (named_from s x.from).note)
     (named_over x (inside (named_from s x.from).it.seen s) (named_from s x.from).it.items)
 
 pub named_fields : (x : Fields) (s : Scope) → named_select (roll-Select x) s ≡ read_so x s
@@ -204,7 +205,7 @@ select_refers s list from filter limit order f over =
       limit = option_map (qualified_in here.levels) limit;
     } in
     let found : Noted Framed = named_from s fr.items in
-    let head : Note = joined (breaks 6 (has_double (aliases fr.items))) found.note in
+    let head : Note = joined (breaks rule.Duplicates (has_double (aliases fr.items))) found.note in
     let is : ReadsFrom found from fr.seen = from_read s from f in
     let there : named_over y (inside found.it.seen s) found.it.items ≡ named_over y here from = λ i. named_over y (inside (is.seen_is i) s) (is.items_are i) in
     let read : named_select (qualified_select (roll-Select x) s.levels).it s ≡ also head (named_over y here from) =
@@ -249,9 +250,9 @@ query_silent s xs e =
     d.query_rule q s.levels
     ∙ ap (λ (x : QueryFields). dot.query_of (option_map (λ r. qualified_recursive r s.levels) x.recursive) (qualified_selects s.levels x.selects))
     (out-roll-Query (record { recursive = None; selects = xs })) in
-    let read : named_query (qualified_shown q s.levels).it s ≡ also (breaks 13 false) (mapped n.query_with (named_selects s ys.it)) =
+    let read : named_query (qualified_shown q s.levels).it s ≡ also (breaks rule.Types false) (mapped n.query_with (named_selects s ys.it)) =
     ap (λ (x : Shown Query). named_query x.it s) qualified
-    ∙ (r.query_rule w s ∙ ap (λ (x : QueryFields). also (breaks 13 (is_some x.recursive)) (mapped n.query_with (named_selects s x.selects)))
+    ∙ (r.query_rule w s ∙ ap (λ (x : QueryFields). also (breaks rule.Types (is_some x.recursive)) (mapped n.query_with (named_selects s x.selects)))
     (out-roll-Query (record { recursive = None; selects = ys.it }))) in
     ap (λ (z : Noted (Shown Query)). z.note.refers) read
-    ∙ both_silent (breaks 13 false) (named_selects s ys.it).note (breaks_silent 13 false) (selects_silent s xs e)
+    ∙ both_silent (breaks rule.Types false) (named_selects s ys.it).note (breaks_silent rule.Types false) (selects_silent s xs e)

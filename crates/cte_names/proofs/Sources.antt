@@ -1,6 +1,6 @@
 -- Each source expression of a checked function is a written one whose names are resolved where the function's variables and the schema's tables are in
 -- sight alone, and break no rule.
-use Rattle.std.proofs.Common.{◌≡◌, refl, sym, subst, arith, true, false, List, [], ◌∷◌, ◌++◌, map, fold, Option, Some, None, option_map}
+use Rattle.std.proofs.Common.{length, ◌≡◌, refl, sym, subst, true, false, List, [], ◌∷◌, ◌++◌, map, fold, Option, Some, None, option_map}
 use Rattle.away_trees.specs.declared.queries.Expr.{Expr}
 use Rattle.away_trees.specs.declared.schemas.Schema.{Schema}
 use Rattle.away_trees.specs.declared.statements.Arm.{Arm}
@@ -14,9 +14,10 @@ use Rattle.away_trees.specs.declared.statements.Stmt.TheOpen as st
 use Rattle.away_trees.specs.declared.statements.Stmt.TheBlock as b
 use Rattle.away_trees.specs.StatementAlgebra.{stmt_of, branch_of, stmts_of, branches_of, else_of}
 use Rattle.away_trees.proofs.StatementEquations as eq
+use Rattle.away_names.specs.declared.rule.Rule.TheVariants as rule
 use Rattle.away_names.specs.declared.scope.Variable.{Variable}
 use Rattle.away_names.specs.Lookups.{Name, Scope, variable_named}
-use Rattle.away_names.specs.Notes.{joined, breaks, held}
+use Rattle.away_names.specs.Notes.{breaks, held}
 use Rattle.away_names.specs.Tables.{table_of}
 use Rattle.away_names.specs.Trees.{named_expr}
 use Rattle.away_types.specs.declared.resolved.Declared.{Declared}
@@ -30,7 +31,8 @@ use Rattle.away_types.specs.Statements as n
 use Rattle.away_types.specs.Statements.{Spot, By, resolving, assigned}
 use Rattle.block_forms.specs.Expressions.{Sources, sourcing, sources, in_turn, if_there, defaults, of_kind, of_else}
 use Rattle.type_soundness.specs.Sorts.{Every}
-use Rattle.type_soundness.proofs.CleanNotes.{Clean, clean_parts, not_broken, unbroken_clean}
+use Rattle.away_types.proofs.ClearReports.{Clear, clear_own, clear_parts, clear_within, clear_branches, clear_bodies}
+use Rattle.type_soundness.proofs.CleanNotes.{Clean, clean_parts, not_broken}
 use Rattle.type_soundness.proofs.Lists.{every_append}
 
 -- a place of a function under no select, where the schema's tables are seen
@@ -66,17 +68,17 @@ module _ (schema : Schema) where
   in_turn_resolved f (x ∷ xs) h = every_append (IsResolved schema) (f x) (in_turn (map f xs)) h.0 (in_turn_resolved f xs h.1)
 
   abbrev ResolvesBy : {A : Type 0} → (A → Sources) → By A → Type 0
-  ResolvesBy f g = (spot : Spot) (slots : Slots) → Plain schema spot.scope → Clean (g spot slots).note → All (f (g spot slots).it)
+  ResolvesBy f g = (spot : Spot) (slots : Slots) → Plain schema spot.scope → Clear (g spot slots).note → All (f (g spot slots).it)
 
   module _ {A : Type 0} (f : A → Sources) (spot : Spot) (p : Plain schema spot.scope) where
-    list_resolved : (gs : List (By A)) → Every (ResolvesBy f) gs → (acc : Resolved (List A)) → (Clean acc.note → Every (λ x. All (f x)) acc.it)
-        → Clean (fold (λ a g. n.with_resolved a (g spot a.slots)) acc gs).note → Every (λ x. All (f x)) (fold (λ a g. n.with_resolved a (g spot a.slots)) acc gs).it
+    list_resolved : (gs : List (By A)) → Every (ResolvesBy f) gs → (acc : Resolved (List A)) → (Clear acc.note → Every (λ x. All (f x)) acc.it)
+        → Clear (fold (λ a g. n.with_resolved a (g spot a.slots)) acc gs).note → Every (λ x. All (f x)) (fold (λ a g. n.with_resolved a (g spot a.slots)) acc gs).it
     list_resolved [] h acc t c = t c
     list_resolved (g ∷ gs) h acc t c =
         list_resolved gs h.1 (n.with_resolved acc (g spot acc.slots))
-        (λ c. let both = clean_parts acc.note (g spot acc.slots).note c in every_append (λ x. All (f x)) acc.it ((g spot acc.slots).it ∷ []) (t both.0) (h.0 spot acc.slots p both.1, tt)) c
+        (λ c. let both = clear_parts acc.note (g spot acc.slots).note c in every_append (λ x. All (f x)) acc.it ((g spot acc.slots).it ∷ []) (t both.0) (h.0 spot acc.slots p both.1, tt)) c
 
-  each_resolved : {A : Type 0} (f : A → Sources) (gs : List (By A)) → Every (ResolvesBy f) gs → (spot : Spot) (slots : Slots) → Plain schema spot.scope → Clean (n.each_resolved gs spot slots).note
+  each_resolved : {A : Type 0} (f : A → Sources) (gs : List (By A)) → Every (ResolvesBy f) gs → (spot : Spot) (slots : Slots) → Plain schema spot.scope → Clear (n.each_resolved gs spot slots).note
       → All (in_turn (map f (n.each_resolved gs spot slots).it))
   each_resolved f gs h spot slots p c = in_turn_resolved f (n.each_resolved gs spot slots).it (list_resolved f spot p gs h (n.none_resolved slots) (λ c. tt) c)
 
@@ -119,23 +121,24 @@ module _ (schema : Schema) where
       let ds = n.declared_all decls spot.scope slots in
       let inner = n.within label false ds.variables spot in
       let xs = n.each_resolved gs inner ds.slots in
-      let parts = clean_parts ds.note xs.note (clean_parts _ (joined ds.note xs.note) c).1 in
+      let whole = clear_within _ _ xs.note c in
+      let own = clean_parts _ ds.note whole.0 in
       by_parts _ _ (eq.of_block sourcing label ds.it xs.it closing)
-      (behind (defaults ds.it) (in_turn (map of_stmt xs.it)) (defaults_resolved ds.it (decls_resolved spot.scope p decls (n.none_declared spot.scope slots) (λ c. tt) parts.0))
-      (each_resolved of_stmt gs h inner ds.slots (seen_plain spot.scope ds.variables p) parts.1))
+      (behind (defaults ds.it) (in_turn (map of_stmt xs.it)) (defaults_resolved ds.it (decls_resolved spot.scope p decls (n.none_declared spot.scope slots) (λ c. tt) own.1))
+      (each_resolved of_stmt gs h inner ds.slots (seen_plain spot.scope ds.variables p) whole.1))
 
   other_resolved : (o : Option (List (By Stmt))) → ((gs : List (By Stmt)) → o ≡ Some gs → Every (ResolvesBy of_stmt) gs) → (spot : Spot) (slots : Slots) → Plain schema spot.scope
-      → Clean (n.maybe_resolved (n.other_by o) spot slots).note → All (of_else (option_map (λ body. map of_stmt body) (n.maybe_resolved (n.other_by o) spot slots).it))
+      → Clear (n.maybe_resolved (n.other_by o) spot slots).note → All (of_else (option_map (λ body. map of_stmt body) (n.maybe_resolved (n.other_by o) spot slots).it))
   other_resolved None h spot slots p c = tt
-  other_resolved (Some gs) h spot slots p c = each_resolved of_stmt gs (h gs refl) spot slots p c
+  other_resolved (Some gs) h spot slots p c = each_resolved of_stmt gs (h gs refl) spot slots p (clear_within 1 _ (n.each_resolved gs spot slots).note c).1
 
   branched_resolved : (form : List Arm → Option (List Stmt) → Stmt)
       → ((arms : List Arm) (o : Option (List Stmt)) → of_stmt (form arms o) ≡ in_turn (map of_arm arms) ++ of_else (option_map (λ body. map of_stmt body) o))
-      → (arms : List (By Arm)) (o : Option (List (By Stmt))) → Every (ResolvesBy of_arm) arms → ((gs : List (By Stmt)) → o ≡ Some gs → Every (ResolvesBy of_stmt) gs) → ResolvesBy of_stmt (n.branched form arms o)
+      → (arms : List (By Arm)) (o : Option (List (By Stmt))) → Every (ResolvesBy of_arm) arms → ((gs : List (By Stmt)) → o ≡ Some gs → Every (ResolvesBy of_stmt) gs) → ResolvesBy of_stmt (n.branching form arms o)
   branched_resolved form is arms o h k spot slots p c =
       let xs = n.each_resolved arms spot slots in
       let y = n.maybe_resolved (n.other_by o) spot xs.slots in
-      let both = clean_parts xs.note y.note c in
+      let both = clear_branches xs.note y.note c in
       by_parts _ _ (is xs.it y.it)
       (behind (in_turn (map of_arm xs.it)) (of_else (option_map (λ body. map of_stmt body) y.it)) (each_resolved of_arm arms h spot slots p both.0) (other_resolved o k spot xs.slots p both.1))
 
@@ -143,7 +146,7 @@ module _ (schema : Schema) where
   arm_resolved test gs h spot slots p c =
       let xs = n.each_resolved gs spot slots in
       let x = named_expr test spot.scope in
-      let both = clean_parts x.note xs.note c in
+      let both = clear_within 1 x.note xs.note c in
       behind (x.it ∷ []) (in_turn (map of_stmt xs.it)) (one_resolved test spot.scope p both.0) (each_resolved of_stmt gs h spot slots p both.1)
 
   head_resolved : (k : LoopKind) (scope : Scope) (slots : Slots) → Plain schema scope → Clean (n.headed k scope slots).note → All (of_kind (n.headed k scope slots).it)
@@ -159,14 +162,15 @@ module _ (schema : Schema) where
       let head = n.headed k spot.scope slots in
       let inner = n.within label true head.variables spot in
       let xs = n.each_resolved gs inner head.slots in
-      let parts = clean_parts head.note xs.note (clean_parts _ (joined head.note xs.note) c).1 in
+      let whole = clear_within _ _ xs.note c in
+      let own = clean_parts _ head.note whole.0 in
       by_parts _ _ (eq.of_loop sourcing label head.it xs.it closing)
-      (behind (of_kind head.it) (in_turn (map of_stmt xs.it)) (head_resolved k spot.scope slots p parts.0) (each_resolved of_stmt gs h inner head.slots (seen_plain spot.scope head.variables p) parts.1))
+      (behind (of_kind head.it) (in_turn (map of_stmt xs.it)) (head_resolved k spot.scope slots p own.1) (each_resolved of_stmt gs h inner head.slots (seen_plain spot.scope head.variables p) whole.1))
 
   assign_resolved : (name : Name) (e : Expr) (spot : Spot) → Plain schema spot.scope → (v : Option Variable) → Clean (assigned name v (named_expr e spot.scope)).note → All (of_stmt (assigned name v (named_expr e spot.scope)).it)
   unfolding assigned
-  assign_resolved name e spot p None c = one_resolved e spot.scope p (clean_parts (breaks 7 true) (named_expr e spot.scope).note c).1
-  assign_resolved name e spot p (Some v) c = one_resolved e spot.scope p (clean_parts (breaks 11 v.constant) (named_expr e spot.scope).note c).1
+  assign_resolved name e spot p None c = one_resolved e spot.scope p (clean_parts (breaks rule.Names true) (named_expr e spot.scope).note c).1
+  assign_resolved name e spot p (Some v) c = one_resolved e spot.scope p (clean_parts (breaks rule.Constants v.constant) (named_expr e spot.scope).note c).1
 
   -- ---- all statements
 
@@ -176,15 +180,15 @@ module _ (schema : Schema) where
   mutual
     pub stmt_resolved : (x : Stmt) → ResolvesBy of_stmt (stmt_of resolving x)
     stmt_resolved (b.Block' label decls m body closing) = block_resolved label decls (stmts_of resolving body) closing (stmts_resolved body)
-    stmt_resolved (b.Assign name slot e) = λ spot slots p c. assign_resolved name e spot p (variable_named name spot.scope.variables) (clean_parts _ _ c).1
+    stmt_resolved (b.Assign name slot e) = λ spot slots p c. assign_resolved name e spot p (variable_named name spot.scope.variables) (clean_parts _ _ (clear_own 1 _ c)).1
     stmt_resolved (b.If' m arms o) = branched_resolved (λ arms o. stmt.If arms o) (λ arms o. eq.of_if sourcing arms o) (branches_of resolving arms) (else_of resolving o) (branches_resolved arms) (else_resolved o)
     stmt_resolved (b.Cases' m arms o) = branched_resolved (λ arms o. stmt.Cases arms o) (λ arms o. eq.of_cases sourcing arms o) (branches_of resolving arms) (else_of resolving o) (branches_resolved arms) (else_resolved o)
     stmt_resolved (b.Loop' label k m body closing) = loop_resolved label k (stmts_of resolving body) closing (stmts_resolved body)
-    stmt_resolved (b.Exit label when) = λ spot slots p c. maybe_resolved when spot.scope p (clean_parts _ _ (clean_parts _ _ c).1).1
-    stmt_resolved (b.Continue label when) = λ spot slots p c. maybe_resolved when spot.scope p (clean_parts _ _ (clean_parts _ _ c).1).1
-    stmt_resolved (b.Return e) = λ spot slots p c. one_resolved e spot.scope p c
+    stmt_resolved (b.Exit label when) = λ spot slots p c. maybe_resolved when spot.scope p (clean_parts _ _ (clean_parts _ _ (clear_own 1 _ c)).1).1
+    stmt_resolved (b.Continue label when) = λ spot slots p c. maybe_resolved when spot.scope p (clean_parts _ _ (clean_parts _ _ (clear_own 1 _ c)).1).1
+    stmt_resolved (b.Return e) = λ spot slots p c. one_resolved e spot.scope p (clear_own 1 _ c)
     stmt_resolved (b.Raise raised) = λ spot slots p c. tt
-    stmt_resolved (b.Into strict targets query) = λ spot slots p c. absurd (not_broken 13 (omega arith) c)
+    stmt_resolved (b.Into strict targets query) = λ spot slots p c. absurd (not_broken rule.Types (clear_own _ _ c))
     stmt_resolved b.Nothing = λ spot slots p c. tt
 
     stmts_resolved : {m : _} (body : b.Row_of-Stmt m) → Every (ResolvesBy of_stmt) (stmts_of resolving body)
@@ -201,13 +205,12 @@ module _ (schema : Schema) where
 
 -- ---- a whole function
 
-body_resolved : (schema : Schema) (f : Function) → Clean (function_note schema f) → Every (IsResolved schema) (sources (body_of schema f).it)
+body_resolved : (schema : Schema) (f : Function) → Clear (function_note schema f) → Every (IsResolved schema) (sources (body_of schema f).it)
 unfolding resolved_stmt sources
 body_resolved schema f c =
-    let whole = clean_parts (head_note f) (joined (body_of schema f).note (types_note schema f)) c in
-    let body = clean_parts (body_of schema f).note (types_note schema f) whole.1 in
+    let body = clear_bodies (length f.params) (head_note f) (body_of schema f).note (types_note schema f) c in
     stmt_resolved schema f.body (entry schema f.params) (start f.params).slots (record { in_function = refl; no_levels = refl; tables = refl }) body.0
 
 pub checked_sources : (schema : Schema) (written f : Function) (slots : List Slot) → IsChecked schema written f slots → Every (IsResolved schema) (sources f.body)
 checked_sources schema written f slots h =
-    subst (λ (f : Function). Every (IsResolved schema) (sources f.body)) (sym h.function) (body_resolved schema written (unbroken_clean (function_note schema written) h.unbroken))
+    subst (λ (f : Function). Every (IsResolved schema) (sources f.body)) (sym h.function) (body_resolved schema written h.unbroken)

@@ -1,5 +1,5 @@
 -- Where a function's own selects stand in a query, and what is clear there.
-use Rattle.std.proofs.Common.{◌≡◌, refl, subst, sym, ap, ◌∙◌, ℕ, Bool, true, false, ◌&&◌, List, ◌∷◌, ◌++◌, length, Option, Some, None, arith}
+use Rattle.std.proofs.Common.{◌≡◌, refl, subst, sym, ap, ◌∙◌, ℕ, Bool, true, false, ◌&&◌, List, ◌∷◌, ◌++◌, length, Option, Some, None}
 use Rattle.std.specs.Prelude.{not, is_some}
 use Rattle.std.specs.List.{list_all}
 use Rattle.away_trees.specs.declared.queries.Expr.{Expr}
@@ -11,6 +11,7 @@ use Rattle.away_trees.specs.declared.queries.Query.{Query}
 use Rattle.away_trees.specs.declared.queries.Select.{Select}
 use Rattle.away_trees.specs.declared.queries.Expr.TheViews.{out-FromItem}
 use Rattle.away_trees.specs.Algebra.{Algebra, expr_of}
+use Rattle.away_names.specs.declared.rule.Rule.TheVariants as rule
 use Rattle.away_names.specs.declared.scope.Hit.{Hit}
 use Rattle.away_names.specs.declared.scope.Seen.{Seen}
 use Rattle.away_names.specs.declared.scope.Variable.{Variable}
@@ -92,11 +93,11 @@ and_second a b h e = sym (ap (λ a. a && b) h) ∙ e
 
 pub may_write : (s : Scope) (x : Name) → s.in_function ≡ true → Clean (n.written s x) → is_kept x ≡ false
 unfolding n.written
-may_write s x h k = and_second s.in_function (is_kept x) h (test_fails 14 (s.in_function && is_kept x) (omega arith) k)
+may_write s x h k = and_second s.in_function (is_kept x) h (test_fails rule.Reserved (s.in_function && is_kept x) k)
 
 -- a function's parameters are no parameters of the query
-pub no_param : (s : Scope) → s.in_function ≡ true → Clean (breaks 7 s.in_function) → ⊥
-no_param s h k = not_broken 7 (omega arith) (subst (λ b. Clean (breaks 7 b)) h k)
+pub no_param : (s : Scope) → s.in_function ≡ true → Clean (breaks rule.Names s.in_function) → ⊥
+no_param s h k = not_broken rule.Names (subst (λ b. Clean (breaks rule.Names b)) h k)
 
 -- ---- columns and slots
 
@@ -114,7 +115,7 @@ module _ (q : Scope) (slots : ℕ → Bool) (leaf : ℕ → ℕ → Expr) (leave
       → ClearExpr (under ms q) (n.shown (n.slot_or x v).it (Some x)) (expr_of (placing leaf) (n.slot_or x v).it (length ms))
   unfolding n.slot_or n.shown
   slot_or_clear x s ms f (Some v) k a = leaves s.levels ms f.so v.slot (and_first (slots v.slot) true a)
-  slot_or_clear x s ms f None k a = absurd (not_broken 7 (omega arith) k)
+  slot_or_clear x s ms f None k a = absurd (not_broken rule.Names k)
 
   named_by_clear : (x : Name) (s : Scope) (ms : List Level) → Fits q s ms → is_kept x ≡ false → (hit : Option Hit) (v : Option Variable) → column_named x s.levels ≡ hit → Clean (n.named_by x hit v).note
       → Allowed slots (expr_of reading (n.named_by x hit v).it (length ms))
@@ -136,7 +137,7 @@ module _ (q : Scope) (slots : ℕ → Bool) (leaf : ℕ → ℕ → Expr) (leave
   qualified_by_clear a x s ms f h (Some hit) e k =
       let r = qualified_read a x s.levels hit e in
       column_clear a x s ms f h hit r.0 (e ∙ ap (λ b. Some (record { column = hit.column; many = b })) r.1)
-  qualified_by_clear a x s ms f h None e k = absurd (not_broken 7 (omega arith) k)
+  qualified_by_clear a x s ms f h None e k = absurd (not_broken rule.Names k)
 
   pub qualified_clear : (a x : Name) (s : Scope) (ms : List Level) → Fits q s ms → Clean (n.qualified a x s).note
       → ClearExpr (under ms q) (n.shown (n.qualified a x s).it (Some x)) (expr_of (placing leaf) (n.qualified a x s).it (length ms))
@@ -153,4 +154,4 @@ not_false false h = cc
 pub known_function : (s : Scope) (name : Name) → Clean (n.called s name) → is_some (function name) ≡ true
 unfolding n.called
 known_function s name k =
-    not_false (is_some (function name)) (test_fails 7 (not (is_some (function name))) (omega arith) (clean_parts (n.written s name) (breaks 7 (not (is_some (function name)))) k).1)
+    not_false (is_some (function name)) (test_fails rule.Names (not (is_some (function name))) (clean_parts (n.written s name) (breaks rule.Names (not (is_some (function name)))) k).1)

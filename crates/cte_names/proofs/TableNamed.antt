@@ -16,6 +16,7 @@ use Rattle.away_trees.specs.declared.queries.Expr.TheViews.{out-Recursive, out-Q
 use Rattle.away_trees.specs.declared.queries.Expr.TheViews.{roll-Query, out-roll-Recursive, out-roll-Query}
 use Rattle.away_trees.specs.declared.schemas.Schema.{Schema}
 use Rattle.away_trees.specs.declared.schemas.TableSchema.{TableSchema}
+use Rattle.away_names.specs.declared.rule.Rule.TheVariants as rule
 use Rattle.away_names.specs.declared.note.File.{File}
 use Rattle.away_names.specs.declared.note.Noted.{Noted}
 use Rattle.away_names.specs.declared.note.Origin.{Origin}
@@ -127,7 +128,7 @@ module _ (schema : Schema) (part : File → Times) where
             });
         first = first.note;
         second = second.note;
-        note = joined (joined (breaks 6 (has_double o.columns)) (joined first.note second.note)) selects.note;
+        note = joined (joined (breaks rule.Duplicates (has_double o.columns)) (joined first.note second.note)) selects.note;
       }
 
   abbrev with_names : Fields → Fields

@@ -1,8 +1,6 @@
 mod ColumnNames
 pub mod ClassTexts
 pub mod Lists
-pub mod FirstOccurrences
-pub mod SlotsOfEvents
 pub mod ColumnRules
 pub mod PlacingRules
 pub mod Results

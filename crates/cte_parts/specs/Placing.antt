@@ -51,7 +51,11 @@ abbrev pub item_in : (ℕ → Col) → ℕ → Item → Item
 item_in ref d i = roll-Item (record { expr = expr_in ref d (out-Item i).expr; alias = (out-Item i).alias })
 
 abbrev pub from_in : (ℕ → Col) → ℕ → FromItem → FromItem
-from_in ref d f = roll-FromItem (record { source = source_in ref d (out-FromItem f).source; alias = (out-FromItem f).alias; columns = (out-FromItem f).columns })
+from_in ref d f = roll-FromItem (record {
+  source = source_in ref d (out-FromItem f).source;
+  alias = (out-FromItem f).alias;
+  columns = (out-FromItem f).columns;
+})
 
 abbrev pub key_in : (ℕ → Col) → ℕ → Key → Key
 key_in ref d k = roll-Key (record { expr = expr_in ref d (out-Key k).expr; descending = (out-Key k).descending })

@@ -5,7 +5,6 @@ mod columns;
 mod names;
 mod numbers;
 mod placing;
-mod slots;
 mod trees;
 
 pub use names::{Known, row_names};

@@ -8,12 +8,12 @@ ghost use Rattle.cte_parts.specs.Placing as spec;
 
 use crate::columns::{Leaves, column_of};
 use crate::numbers::after;
-use crate::slots::slots_of;
 use crate::trees::null;
 use away_trees::{Col, Expr, FromItem, Item, Key, Query, Recursive, Select, Source};
 use away_values::{ChainOp, Name, NoMemory, Ty};
 use sqlite_items::{Boxed, Items};
 use std::alloc::Global;
+use tree_events::slots_of;
 
 fn cast(alloc: Global, literal: Expr, ty: Ty) -> Result<Expr, NoMemory>
     ensures { IfOk result (λ e. e ≡ with_cast ty literal) }

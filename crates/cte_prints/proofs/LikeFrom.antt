@@ -1,5 +1,5 @@
 -- FROM of a function is like what stands for it in a query, where its subqueries are.
-use Rattle.std.proofs.Common.{◌≡◌, ap, sym, subst, ◌∙◌, ℕ, suc, arith, Bool, true, false, List, [], ◌∷◌, ◌++◌, map, length, Option, Some, None}
+use Rattle.std.proofs.Common.{◌≡◌, ap, sym, subst, ◌∙◌, ℕ, suc, Bool, true, false, List, [], ◌∷◌, ◌++◌, map, length, Option, Some, None}
 use Rattle.away_trees.specs.declared.queries.Expr.{Expr}
 use Rattle.away_trees.specs.declared.queries.Source.{Source}
 use Rattle.away_trees.specs.declared.queries.Source.TheVariants as source
@@ -9,6 +9,7 @@ use Rattle.away_trees.specs.declared.queries.Expr.TheOpen as ex
 use Rattle.away_trees.specs.declared.queries.Expr.TheViews.{roll-FromItem}
 use Rattle.away_trees.specs.Algebra.{Algebra, from_of, query_of}
 use Rattle.away_trees.proofs.Equations as eq
+use Rattle.away_names.specs.declared.rule.Rule.TheVariants as rule
 use Rattle.away_names.specs.declared.note.Framed.{Framed}
 use Rattle.away_names.specs.declared.note.Noted.{Noted}
 use Rattle.away_names.specs.declared.note.Part.{Part}
@@ -78,7 +79,7 @@ module _ (q : Scope) (slots : ℕ → Bool) (leaf : ℕ → ℕ → Expr) (deriv
   listed_like : (x alias : Name) → IsWritableName alias → (ms : List Level) (seen : Level) (t : Option Listed) → Clean (n.of_table x t).note
       → LikePart (table_item x alias []) ms seen (n.shaped alias (n.of_table x t).it)
   unfolding n.of_table
-  listed_like x alias h ms seen None k = absurd (not_broken 9 (omega arith) k)
+  listed_like x alias h ms seen None k = absurd (not_broken rule.Tables k)
   listed_like x alias h ms seen (Some t) k =
       record {
         like = subst (IsLike from_item (table_item x alias [])) (sym (table_part x alias t.written (ms ++ q.levels) seen))

@@ -9,6 +9,7 @@ use Rattle.away_trees.specs.declared.queries.Query.{Query}
 use Rattle.away_trees.specs.declared.queries.Expr.TheViews.{roll-Item, roll-Key, roll-Select, roll-Query, out-roll-Query}
 use Rattle.away_trees.specs.Algebra.{Algebra, from_of, item_of, key_of, select_of, query_of}
 use Rattle.away_trees.proofs.Equations as eq
+use Rattle.away_names.specs.declared.rule.Rule.TheVariants as rule
 use Rattle.away_names.specs.declared.note.Column.{Column}
 use Rattle.away_names.specs.declared.note.Framed.{Framed}
 use Rattle.away_names.specs.declared.note.Noted.{Noted}
@@ -91,7 +92,7 @@ module _ (q : Scope) (slots : ℕ → Bool) (leaf : ℕ → ℕ → Expr) (deriv
       → LikeSort (roll-Key (record { expr = w; descending = descending })) (n.sort (record { expr = t; descending = descending }))
   a_key descending w t h aliases s ms st k a =
       subst (IsLike key (roll-Key (record { expr = w; descending = descending }))) (sym (d.key_rule _ (ms ++ q.levels)))
-      (like.a_key descending (h s ms st (clean_parts (breaks 8 (n.is_alias aliases t.alone)) (t.judge s).note k).1 a))
+      (like.a_key descending (h s ms st (clean_parts (breaks rule.Ambiguity (n.is_alias aliases t.alone)) (t.judge s).note k).1 a))
 
   abbrev pub LikeKeys : List Key → List n.Sort → Type 0
   LikeKeys ws ts =
@@ -164,7 +165,7 @@ module _ (q : Scope) (slots : ℕ → Bool) (leaf : ℕ → ℕ → Expr) (deriv
       let inner : Scope = inside framed.it.seen s in
       let aliases : List (Option Name) = map (λ i. i.alias) ls in
       let two_notes = clean_parts _ _ g in
-      let heads = clean_parts (breaks 6 (has_double (map (λ f. f.alias) fs))) framed.note two_notes.0 in
+      let heads = clean_parts (breaks rule.Duplicates (has_double (map (λ f. f.alias) fs))) framed.note two_notes.0 in
       let over = clean_parts _ _ two_notes.1 in
       let first = clean_parts (n.items inner ls).note (held (λ t. t.judge inner) w).note over.0 in
       let second = clean_parts (each (λ k. k aliases inner) os).note (held (λ t. t.judge inner) m).note over.1 in
@@ -207,7 +208,7 @@ module _ (q : Scope) (slots : ℕ → Bool) (leaf : ℕ → ℕ → Expr) (deriv
   union ws ts h s ms st g a =
       let l : List Level = ms ++ q.levels in
       let written : Query = roll-Query (record { recursive = None; selects = ws }) in
-      let clean = (clean_parts (breaks 13 false) (n.united ts s).note g).1 in
+      let clean = (clean_parts (breaks rule.Types false) (n.united ts s).note g).1 in
       let xs : List Select = map (λ l. (l s).it.it) ts in
       let all = reads_so (length ms) _ _ (eq.of_query reading (n.united ts s).it.it) a in
       let may = subst (λ zs. May (of_list (length ms) (map (λ x. select_of reading x) zs))) (selects_are (λ l. l s) ts) all in

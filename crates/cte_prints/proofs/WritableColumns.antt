@@ -1,11 +1,12 @@
 -- Names in a function's expression are written where a query has it: as columns by an alias and a name that can be written.
-use Rattle.std.proofs.Common.{◌≡◌, refl, sym, subst, ◌∙◌, ℕ, zero, suc, arith, Bool, true, List, [], ◌∷◌, ◌++◌, length, Option, Some, None}
+use Rattle.std.proofs.Common.{◌≡◌, refl, sym, subst, ◌∙◌, ℕ, zero, suc, Bool, true, List, [], ◌∷◌, ◌++◌, length, Option, Some, None}
 use Rattle.std.specs.Prelude.{slice_get}
 use Rattle.away_trees.specs.declared.queries.Col.{Col}
 use Rattle.away_trees.specs.declared.queries.Expr.{Expr}
 use Rattle.away_trees.specs.declared.queries.Expr.TheVariants as expr
 use Rattle.away_trees.specs.declared.queries.Expr.TheOpen as ex
 use Rattle.away_trees.specs.Algebra.{Algebra, expr_of}
+use Rattle.away_names.specs.declared.rule.Rule.TheVariants as rule
 use Rattle.away_names.specs.declared.scope.Hit.{Hit}
 use Rattle.away_names.specs.declared.scope.Seen.{Seen}
 use Rattle.away_names.specs.declared.scope.Variable.{Variable}
@@ -122,7 +123,7 @@ module _ (q : Scope) (slots : ℕ → Bool) (leaf : ℕ → ℕ → Expr) (deriv
   slot_or_like x h ms (Some v) k a =
       let l = derivable ms v.slot (and_first (slots v.slot) true a) in
       subst (IsLike value (expr.Named x)) (sym l.is) (like.named x l.alias l.name l.alias_writable l.name_writable)
-  slot_or_like x h ms None k a = absurd (not_broken 7 (omega arith) k)
+  slot_or_like x h ms None k a = absurd (not_broken rule.Names k)
 
   named_by_like : (x : Name) → IsWritableName x → (s : Scope) (ms : List Level) → Stands q s ms → (hit : Option Hit) (v : Option Variable)
       → column_named x s.levels ≡ hit
@@ -138,7 +139,7 @@ module _ (q : Scope) (slots : ℕ → Bool) (leaf : ℕ → ℕ → Expr) (deriv
   unfolding n.qualified_by
   qualified_by_like a x h s ms st (Some hit) e k =
       let r = qualified_read a x s.levels hit e in column_like (expr.Dotted a x) (λ b c. like.qualified a x b c) x h s ms st a hit.column r.0
-  qualified_by_like a x h s ms st None e k = absurd (not_broken 7 (omega arith) k)
+  qualified_by_like a x h s ms st None e k = absurd (not_broken rule.Names k)
 
   -- the written expression is like what it stands for
   abbrev pub LikeTerm : Expr → n.Term → Type 0

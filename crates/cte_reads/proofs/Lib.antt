@@ -8,7 +8,6 @@ pub mod SlotColumns
 pub mod PutsAppend
 pub mod PlacedInOrder
 pub mod LetPut
-pub mod FirstOccurrences
 pub mod EntriesInOrder
 pub mod SameKind
 pub mod TextOfClass

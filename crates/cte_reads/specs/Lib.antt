@@ -4,4 +4,3 @@ pub mod References
 pub mod Rows
 pub mod Entries
 pub mod Placing
-pub mod Occurrences

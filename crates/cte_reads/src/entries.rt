@@ -1,20 +1,16 @@
 //! The expressions of a function, by their events and the slots that they read.
 
-ghost use Rattle.std.specs.Prelude.{◌≡◌, ◌↔◌, IsTrue, IfOk, OnOk, List, get_or};
+ghost use Rattle.std.specs.Prelude.{◌≡◌, ◌↔◌, IsTrue, IfOk, List, get_or};
 ghost use Rattle.away_trees.specs.declared.queries.Expr.{Expr};
 ghost use Rattle.away_trees.specs.declared.queries.Expr.TheVariants as expr;
-ghost use Rattle.tree_events.specs.SlotsRead as spec;
-ghost use Rattle.tree_events.specs.SlotsRead.{slots_in};
-ghost use Rattle.sql_meaning.specs.Reads.{first_occurrences};
 ghost use Rattle.cte_reads.specs.Entries.{EntryOf, EntriesOf};
-ghost use Rattle.cte_reads.specs.Occurrences.{contains, kept_with, kept_from, slot_of_event};
 
 use away_trees::Expr;
 use away_values::NoMemory;
 use block_forms::ExprTable;
 use sqlite_items::Items;
 use std::alloc::Global;
-use tree_events::{Kind, Manner, TreeEvent, expr_events};
+use tree_events::{Manner, TreeEvent, expr_events, slots_of_events};
 
 /// An expression: its events, its slots in the order of their first occurrence, and whether it is NULL.
 #[derive(Drop)]
@@ -45,63 +41,6 @@ impl Entries {
     }
 }
 
-fn has(slots: &[u32], slot: u32) -> bool
-    ensures { result ≡ contains slot slots.now }
-{
-    for other in slots {
-        if *other == slot {
-            return true;
-        }
-    }
-    false
-}
-
-/// Adds a slot that isn't there.
-#[tactic(auto, using(crate::proofs::FirstOccurrences::keeping_rules))]
-fn keep(slots: &mut Items<u32>, slot: u32) -> Result<(), NoMemory>
-    ensures { OnOk result (slots.new ≡ kept_with slot slots.old) }
-{
-    if has(slots.as_slice(), slot) {
-        Ok(())
-    } else {
-        slots.push(slot)?;
-        Ok(())
-    }
-}
-
-fn slot_of_kind(kind: Kind) -> Option<u32>
-    ensures { result ≡ spec.slot_of_kind kind }
-{
-    match kind {
-        Kind::Slot(slot) => Some(slot),
-        _ => None,
-    }
-}
-
-/// Adds the slot that a event is, if it is one that isn't there.
-fn keep_slot(slots: &mut Items<u32>, event: &TreeEvent) -> Result<(), NoMemory>
-    ensures { OnOk result (slots.new ≡ kept_from (slot_of_event event.now) slots.old) }
-{
-    match event {
-        TreeEvent::Open(kind) => match slot_of_kind(*kind) {
-            Some(slot) => keep(slots, slot),
-            None => Ok(()),
-        },
-        _ => Ok(()),
-    }
-}
-
-/// The slots in the events of an expression, each once.
-fn slots_of(alloc: Global, events: &[TreeEvent]) -> Result<Items<u32>, NoMemory>
-    ensures { IfOk result (λ slots. slots ≡ first_occurrences (slots_in events.now)) }
-{
-    let mut slots = Items::new(alloc);
-    for i in 0..events.len() {
-        keep_slot(&mut slots, &events[i])?;
-    }
-    Ok(slots)
-}
-
 fn is_null(e: &Expr) -> bool
     ensures { IsTrue result ↔ (e.now ≡ expr.Null) }
 {
@@ -115,7 +54,7 @@ fn entry_of(alloc: Global, e: &Expr) -> Result<Entry, NoMemory>
     ensures { IfOk result (λ x. EntryOf e.now x) }
 {
     let read = expr_events(alloc, Manner::Reading, e)?;
-    let slots = slots_of(alloc, read.as_slice())?;
+    let slots = slots_of_events(alloc, read.as_slice())?;
     Ok(Entry {
         events: expr_events(alloc, Manner::Whole, e)?,
         slots,

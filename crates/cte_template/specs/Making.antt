@@ -31,4 +31,4 @@ making w = record {
 
 -- what the query of a function is made of
 abbrev pub making_of : Function → List Slot → Ssa → Anf → Tail → Making
-making_of f slots z a r = record { table = expressions f; types = types_of slots z; result = f.result; anf = a; tail = r }
+making_of f slots ssa anf tail = record { table = expressions f; types = types_of slots ssa; result = f.result; anf = anf; tail = tail }

@@ -77,7 +77,8 @@ fn assigned(
     draft: &mut Draft,
     set: &Option<(u32, Term)>,
 ) -> Result<Items<(u32, ItemColumn)>, NoMemory>
-    ensures { IfOk result (λ now. (body : Body) → spec.rest (making w.now) depth (standing now) draft.new body ≡ spec.rest (making w.now) depth (standing pairs) draft.old (spec.from_set (making w.now) set.now body)) }
+    ensures { IfOk result (λ now. (body : Body) → spec.rest (making w.now) depth (standing now) draft.new body
+        ≡ spec.rest (making w.now) depth (standing pairs) draft.old (spec.from_set (making w.now) set.now body)) }
 {
     match set {
         None => Ok(pairs),
@@ -120,7 +121,8 @@ fn behind_call(
     draft: &mut Draft,
     call: &Call,
 ) -> Result<Next, NoMemory>
-    ensures { IfOk result (λ next. steps.reached (making w.now) depth left next draft.new ≡ spec.rest (making w.now) depth (standing pairs.now) draft.old (spec.from_call (making w.now) left call.now)) }
+    ensures { IfOk result (λ next. steps.reached (making w.now) depth left next draft.new
+        ≡ spec.rest (making w.now) depth (standing pairs.now) draft.old (spec.from_call (making w.now) left call.now)) }
 {
     let args = call.args.as_slice();
     match label_of(w, call.target) {
@@ -182,7 +184,8 @@ fn left_by(
 ) -> Result<Next, NoMemory>
     requires classes { Each FailsByClass w.now.anf.now.blocks }
     requires class { EndHasClass end.now }
-    ensures { IfOk result (λ next. steps.reached (making w.now) depth left next draft.new ≡ spec.rest (making w.now) depth (standing pairs.now) draft.old (spec.from_end (making w.now) left end.now)) }
+    ensures { IfOk result (λ next. steps.reached (making w.now) depth left next draft.new
+        ≡ spec.rest (making w.now) depth (standing pairs.now) draft.old (spec.from_end (making w.now) left end.now)) }
 {
     match end {
         CallEnd::Go(call) => behind_call(alloc, w, left, depth, pairs, draft, call),
@@ -213,7 +216,8 @@ fn visited(
     draft: &mut Draft,
 ) -> Result<Next, NoMemory>
     requires classes { Each FailsByClass w.now.anf.now.blocks }
-    ensures { IfOk result (λ next. steps.reached (making w.now) depth left next draft.new ≡ spec.rest (making w.now) depth (standing pairs) draft.old (spec.from_block (making w.now) (left + 1) block)) }
+    ensures { IfOk result (λ next. steps.reached (making w.now) depth left next draft.new
+        ≡ spec.rest (making w.now) depth (standing pairs) draft.old (spec.from_block (making w.now) (left + 1) block)) }
 {
     let Some(x) = w.anf.blocks.get(block as usize) else {
         return Ok(Next::Row(unended(alloc, w)?));
@@ -234,7 +238,8 @@ pub(crate) fn body_of(
     draft: &mut Draft,
 ) -> Result<Items<Item>, NoMemory>
     requires classes { Each FailsByClass w.now.anf.now.blocks }
-    ensures { IfOk result (λ list. spec.written draft.new list ≡ spec.rest (making w.now) depth (standing pairs) draft.old (spec.from_block (making w.now) most block)) }
+    ensures { IfOk result (λ list. spec.written draft.new list
+        ≡ spec.rest (making w.now) depth (standing pairs) draft.old (spec.from_block (making w.now) most block)) }
 {
     let mut pairs = pairs;
     let mut block = block;
@@ -264,7 +269,8 @@ fn through(
     call: &Call,
 ) -> Result<Items<Item>, NoMemory>
     requires classes { Each FailsByClass w.now.anf.now.blocks }
-    ensures { IfOk result (λ list. spec.written draft.new list ≡ spec.rest (making w.now) depth (standing pairs.now) draft.old (spec.from_call (making w.now) left call.now)) }
+    ensures { IfOk result (λ list. spec.written draft.new list
+        ≡ spec.rest (making w.now) depth (standing pairs.now) draft.old (spec.from_call (making w.now) left call.now)) }
 {
     match behind_call(alloc, w, left, depth, pairs, draft, call)? {
         Next::Row(list) => Ok(list),
@@ -348,7 +354,8 @@ fn either(
     first: Gated,
     second: Gated,
 ) -> Result<Items<Item>, NoMemory>
-    ensures items { IfOk result (λ list. draft.new.items ≡ draft.old.items ++ either_item draft.old.next (length w.now.tail.now.columns) (steps.select_of first) (steps.select_of second) ∷ []) }
+    ensures items { IfOk result (λ list. draft.new.items ≡ draft.old.items ++ either_item draft.old.next (length w.now.tail.now.columns)
+        (steps.select_of first) (steps.select_of second) ∷ []) }
     ensures next { IfOk result (λ list. draft.new.next ≡ second.next) }
     ensures list { IfOk result (λ list. list ≡ map item_of (spec.all_columns (making w.now) (item + 1))) }
 {
@@ -374,7 +381,9 @@ fn picked(
     no: &Call,
 ) -> Result<Items<Item>, NoMemory>
     requires classes { Each FailsByClass w.now.anf.now.blocks }
-    ensures { IfOk result (λ list. spec.written draft.new list ≡ spec.rest (making w.now) depth (standing pairs.now) draft.old (picks term.now (spec.from_call (making w.now) left yes.now) (spec.from_call (making w.now) left no.now))) }
+    ensures { IfOk result (λ list. spec.written draft.new list
+        ≡ spec.rest (making w.now) depth (standing pairs.now) draft.old (picks term.now (spec.from_call (making w.now) left yes.now)
+        (spec.from_call (making w.now) left no.now))) }
 {
     let item = draft.items.len();
     add_let(alloc, w, depth, pairs, draft, Ty::Boolean, term)?;

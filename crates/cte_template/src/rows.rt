@@ -94,7 +94,8 @@ pub(crate) fn call_row(
     label: usize,
     args: &[u32],
 ) -> Result<Items<Item>, NoMemory>
-    ensures { IfOk result (λ list. list ≡ map tree.item (spec.call_row (making w.now) depth (standing pairs.now) label (spec.keys_of (making w.now) label) args.now)) }
+    ensures { IfOk result (λ list. list ≡ map tree.item
+        (spec.call_row (making w.now) depth (standing pairs.now) label (spec.keys_of (making w.now) label) args.now)) }
 {
     let mut list = only(alloc, truth(alloc, true)?)?;
     add(&mut list, number(alloc, after(label)?)?)?;

@@ -174,30 +174,30 @@ pub(crate) fn tree(
 pub fn template_tree(
     alloc: Global,
     f: &CheckedFunction,
-    g: &Goto,
-    s: &Ssa,
-    a: &Anf,
-    t: &Tail,
+    goto: &Goto,
+    ssa: &Ssa,
+    anf: &Anf,
+    tail: &Tail,
     table: &ExprTable,
     tables: usize,
 ) -> Result<Query, NoMemory>
-    requires lowered { Lowered f.now.function f.now.slots g.now }
-    requires named { Named (length f.now.slots) (length f.now.function.params) g.now s.now }
-    requires called { Called g.now s.now a.now }
-    requires merged { Merged g.now a.now t.now }
-    requires columned { Columned f.now.slots s.now a.now t.now }
+    requires lowered { Lowered f.now.function f.now.slots goto.now }
+    requires named { Named (length f.now.slots) (length f.now.function.params) goto.now ssa.now }
+    requires called { Called goto.now ssa.now anf.now }
+    requires merged { Merged goto.now anf.now tail.now }
+    requires columned { Columned f.now.slots ssa.now anf.now tail.now }
     requires entries { table.now.list ≡ expressions f.now.function }
-    ensures templated { IfOk result (λ q. Templated f.now.function f.now.slots tables g.now s.now a.now t.now q) }
-    ensures is { IfOk result (λ q. q ≡ spec.tree (making_of f.now.function f.now.slots s.now a.now t.now) g.now.entry tables) }
-    ensures fits { IfOk result (λ q. NumbersFit (making_of f.now.function f.now.slots s.now a.now t.now)) }
+    ensures templated { IfOk result (λ q. Templated f.now.function f.now.slots tables goto.now ssa.now anf.now tail.now q) }
+    ensures is { IfOk result (λ q. q ≡ spec.tree (making_of f.now.function f.now.slots ssa.now anf.now tail.now) goto.now.entry tables) }
+    ensures fits { IfOk result (λ q. NumbersFit (making_of f.now.function f.now.slots ssa.now anf.now tail.now)) }
 {
     let w = Writer {
         table: table.list.as_slice(),
         slots: f.slots.as_slice(),
-        names: s.names.as_slice(),
+        names: ssa.names.as_slice(),
         result: f.function.result,
-        anf: a,
-        tail: t,
+        anf,
+        tail,
     };
-    tree(alloc, &w, g.entry, tables)
+    tree(alloc, &w, goto.entry, tables)
 }

@@ -14,24 +14,23 @@ use Rattle.block_forms.specs.Laid.{laid}
 use Rattle.block_forms.specs.Lowered.{numbers_of}
 use Rattle.block_forms.specs.Slots.{slot, variables, own_slots}
 use Rattle.function_facts.proofs.SlotsOfParameters.{of_written}
-use Rattle.type_soundness.proofs.CleanNotes.{Clean, clean_parts, unbroken_clean}
+use Rattle.away_types.proofs.ClearReports.{Clear, clear_bodies}
 use Rattle.cte_types.proofs.Standing.{Row, row_right, row_left, row_same, SlotAt, slots_stand, type_at}
 
 pub record Facts (schema : Schema) (f : Function) (slots : List Slot) : Type 0 where
-  pub types : Clean (stmt_of asking f.body (asked_in schema slots f.result))
+  pub types : Clear (stmt_of asking f.body (asked_in schema slots f.result))
   pub owned : slots ≡ own_slots f
 
-written_facts : (s : Schema) (f : Function) → Clean (function_note s f) → Facts s (resolved_function s f) (slots_of s f)
+written_facts : (s : Schema) (f : Function) → Clear (function_note s f) → Facts s (resolved_function s f) (slots_of s f)
 unfolding asked_stmt
 written_facts s f c =
-    let whole = clean_parts (head_note f) _ c in
-    let body = clean_parts (body_of s f).note (types_note s f) whole.1 in
+    let body = clear_bodies (length f.params) (head_note f) (body_of s f).note (types_note s f) c in
     record { types = body.1; owned = (of_written s f c).slots_are }
 
 pub facts : (schema : Schema) (written f : Function) (slots : List Slot) → IsChecked schema written f slots → Facts schema f slots
 facts schema written f slots h =
     subst (λ f. Facts schema f slots) (sym h.function) (subst (Facts schema (resolved_function schema written)) (sym h.slots_are)
-    (written_facts schema written (unbroken_clean (function_note schema written) h.unbroken)))
+    (written_facts schema written h.unbroken))
 
 -- ---- the slots of the text
 

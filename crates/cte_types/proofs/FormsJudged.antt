@@ -2,6 +2,7 @@
 use Rattle.std.proofs.Common.{◌≡◌, refl, ap, sym, ◌∙◌, subst, ℕ, zero, suc, ◌<◌, ◌^◌, List, [], ◌∷◌, map, length, get_or, Option, Some, None}
 use Rattle.std.specs.Prelude.{slice_get}
 use Rattle.std.proofs.lemmas.Option.{get_or_from_slice_get}
+use Rattle.away_names.specs.declared.rule.Rule.TheVariants as rule
 use Rattle.away_names.specs.declared.note.File.{File}
 use Rattle.away_names.specs.declared.note.Note.{Note}
 use Rattle.away_names.specs.declared.note.Times.{Times}
@@ -142,7 +143,7 @@ module _ (schema : Schema) (f : Function) (slots : List Slot) (g : Goto) (z : Ss
   abbrev note_of : Note → Query → Times → Times → Note
   note_of note q first second =
       joined (joined note (uses_note q))
-      (joined (breaks 13 (params_in q).clash) (joined (recursion schema first second (out-Query q).recursive).note
+      (joined (breaks rule.Types (params_in q).clash) (joined (recursion schema first second (out-Query q).recursive).note
       (answer_note (final_shape q (recursion schema first second (out-Query q).recursive)))))
 
   pub clean : (names : File) → names.query ≡ tree m g.entry (length schema.tables) → IsUnbroken names.note → names.first.refers ≡ Never

@@ -1,6 +1,6 @@
 -- The query of a function breaks no rule of types, aggregates, recursion and parameters.
 use Rattle.std.proofs.Common.{◌≡◌, refl, ap, ◌∙◌, ℕ, ◌<◌, ◌^◌, Bool, true, false, not, ◌&&◌, if◌then◌else◌, List, [], ◌∷◌, map, length, Option, Some, None, is_some, arith}
-use Rattle.std.specs.Prelude.{slice_get, ◌==◌, nat_le}
+use Rattle.std.specs.Prelude.{slice_get, ◌==◌}
 use Rattle.std.specs.List.{list_any}
 use Rattle.std.proofs.lemmas.Bool.{eq-eqb}
 use Rattle.away_trees.specs.declared.schemas.Schema.{Schema}
@@ -16,10 +16,13 @@ use Rattle.away_trees.specs.declared.queries.Expr.TheOpen.{Select-F, Recursive-F
 use Rattle.away_trees.specs.declared.queries.Expr.TheViews.{out-Query, out-FromItem, out-roll-Query, out-roll-Recursive, out-roll-Select}
 use Rattle.away_trees.specs.Algebra.{select_of, query_of}
 use Rattle.away_trees.proofs.Equations as eq
+use Rattle.away_names.specs.declared.rule.Rule.{Rule}
+use Rattle.away_names.specs.declared.rule.Rule.TheVariants as rule
+use Rattle.away_names.specs.Rules.{lesser}
 use Rattle.away_names.specs.declared.note.Note.{Note}
 use Rattle.away_names.specs.declared.note.Times.TheVariants.{Never, Once}
 use Rattle.away_names.specs.Lookups.{Name}
-use Rattle.away_names.specs.Notes.{joined, breaks, lesser}
+use Rattle.away_names.specs.Notes.{joined, breaks}
 use Rattle.away_typing.specs.declared.kind.Kind.{Kind}
 use Rattle.away_typing.specs.declared.params.Params.{Params}
 use Rattle.away_typing.specs.declared.wholes.Recursion.{Recursion}
@@ -54,13 +57,13 @@ use Rattle.call_forms.specs.Forms.{params_of as params_of_block}
 
 -- ---- notes that are clean
 
-pub joined_least : (a b : Note) → a.least ≡ 255 → b.least ≡ 255 → (joined a b).least ≡ 255
+pub joined_least : (a b : Note) → a.least ≡ None → b.least ≡ None → (joined a b).least ≡ None
 unfolding joined lesser
-joined_least a b h k = λ i. if nat_le (h i) (k i) then h i else k i
+joined_least a b h k = λ i. lesser (h i) (k i)
 
-pub breaks_least : (k : ℕ) (t : Bool) → t ≡ false → (breaks k t).least ≡ 255
+pub breaks_least : (k : Rule) (t : Bool) → t ≡ false → (breaks k t).least ≡ None
 unfolding breaks
-breaks_least k t h = ap (λ t. if t then k else 255) h
+breaks_least k t h = ap (λ t. if t then Some k else None) h
 
 not_true : (t : Bool) → t ≡ true → not t ≡ false
 not_true t h = ap not h
@@ -151,7 +154,7 @@ module _ (schema : Schema) (m : Making) (sound : IsSound m) (small : length (col
       && (in_own_from x.name x.second && (is_plain x.second && (length x.columns == length (types_or_none shape) && fits_shape (types_or_none shape) kinds))))
 
   abbrev note_by : Fields → Shape → Option (List Kind) → Note
-  note_by x shape kinds = joined (breaks 13 (not (is_some shape && is_some kinds))) (breaks 17 (not (is_recursion_by x shape kinds)))
+  note_by x shape kinds = joined (breaks rule.Types (not (is_some shape && is_some kinds))) (breaks rule.Recursion (not (is_recursion_by x shape kinds)))
 
   shape_is : shape_by fields ≡ Some Rows
   unfolding kinds_of_select
@@ -200,15 +203,15 @@ module _ (schema : Schema) (m : Making) (sound : IsSound m) (small : length (col
   recursive_is =
       both_true _ _ own_from (both_true _ _ plain (both_true _ _ (eq-eqb (length names) (length Rows) names_are) (all_fitting Rows have)))
 
-  note_clean : (note_by fields (Some Rows) (Some (kinds_of Rows))).least ≡ 255
+  note_clean : (note_by fields (Some Rows) (Some (kinds_of Rows))).least ≡ None
   note_clean =
-      joined_least _ _ (breaks_least 13 (not (is_some (Some Rows) && is_some (Some (kinds_of Rows)))) refl)
-      (breaks_least 17 (not (is_recursion_by fields (Some Rows) (Some (kinds_of Rows)))) (not_true _ recursive_is))
+      joined_least _ _ (breaks_least rule.Types (not (is_some (Some Rows) && is_some (Some (kinds_of Rows)))) refl)
+      (breaks_least rule.Recursion (not (is_recursion_by fields (Some Rows) (Some (kinds_of Rows)))) (not_true _ recursive_is))
 
   abbrev table : Recursive
   table = t.working_table m entry (length tables)
 
-  recursion_note : (recursion_by schema Never Once table (first_shape schema table)).note.least ≡ 255
+  recursion_note : (recursion_by schema Never Once table (first_shape schema table)).note.least ≡ None
   recursion_note =
       ap (λ (x : Fields). (note_by x (shape_by x) (kinds_by x (shape_by x))).least) (out-roll-Recursive fields)
       ∙ (ap (λ (s : Shape). (note_by fields s (kinds_by fields s)).least) shape_is
@@ -262,22 +265,22 @@ module _ (schema : Schema) (m : Making) (sound : IsSound m) (small : length (col
       ∙ (ap shape_of (one_union (over_tables (with_table schema Rows)) final (Some (kinds_of (m.result ∷ ty.Text ∷ []))) final_good.kinds)
       ∙ shape_back (m.result ∷ ty.Text ∷ []) (sound.result, (tt, tt))))
 
-  answer_clean : (shape : Shape) → shape ≡ Some (m.result ∷ ty.Text ∷ []) → (answer_note shape).least ≡ 255
+  answer_clean : (shape : Shape) → shape ≡ Some (m.result ∷ ty.Text ∷ []) → (answer_note shape).least ≡ None
   unfolding is_answer same
   answer_clean shape h =
-      joined_least _ _ (breaks_least 13 (not (is_some shape)) (ap (λ s. not (is_some s)) h))
-      (breaks_least 18 (not (is_answer shape)) (ap (λ s. not (is_answer s)) h))
+      joined_least _ _ (breaks_least rule.Types (not (is_some shape)) (ap (λ s. not (is_some s)) h))
+      (breaks_least rule.Answer (not (is_answer shape)) (ap (λ s. not (is_answer s)) h))
 
-  uses_clean : (uses_note tree).least ≡ 255
+  uses_clean : (uses_note tree).least ≡ None
   unfolding uses_of_query
-  uses_clean = joined_least _ _ (breaks_least 13 _ uses_calm.limited) (breaks_least 15 _ uses_calm.misused)
+  uses_clean = joined_least _ _ (breaks_least rule.Types _ uses_calm.limited) (breaks_least rule.Aggregates _ uses_calm.misused)
 
   -- behind a clean note of its names
-  pub judged_clean : (note : Note) → note.least ≡ 255
+  pub judged_clean : (note : Note) → note.least ≡ None
       → (joined (joined note (uses_note tree))
-      (joined (breaks 13 (params_of tree).clash) (joined (recursion schema Never Once (out-Query tree).recursive).note
-      (answer_note (final_shape tree (recursion schema Never Once (out-Query tree).recursive)))))).least ≡ 255
+      (joined (breaks rule.Types (params_of tree).clash) (joined (recursion schema Never Once (out-Query tree).recursive).note
+      (answer_note (final_shape tree (recursion schema Never Once (out-Query tree).recursive)))))).least ≡ None
   judged_clean note h =
       joined_least _ _ (joined_least note (uses_note tree) h uses_clean)
-      (joined_least _ _ (breaks_least 13 (params_of tree).clash no_clash)
+      (joined_least _ _ (breaks_least rule.Types (params_of tree).clash no_clash)
       (joined_least _ _ (ap (λ (x : Wholes). (found x).note.least) (out-roll-Query whole) ∙ recursion_note) (answer_clean _ shape_final)))

@@ -1,5 +1,5 @@
 -- The expressions of a checked function have no parameters.
-use Rattle.std.proofs.Common.{◌≡◌, subst, refl, ◌∙◌, ℕ, zero, suc, arith, Bool, true, false, List, [], ◌∷◌, ◌++◌, map, fold, Option, Some, None, option_map}
+use Rattle.std.proofs.Common.{◌≡◌, subst, refl, ◌∙◌, ℕ, zero, suc, Bool, true, false, List, [], ◌∷◌, ◌++◌, map, fold, Option, Some, None, option_map}
 use Rattle.std.specs.Prelude.{is_some}
 use Rattle.std.proofs.lemmas.Option.{same_Some}
 use Rattle.away_values.specs.declared.types.Ty.{Ty}
@@ -15,6 +15,7 @@ use Rattle.away_trees.specs.declared.schemas.Schema.{Schema}
 use Rattle.away_trees.specs.declared.statements.Function.{Function}
 use Rattle.away_trees.specs.Algebra.{expr_of, source_of, from_of, item_of, key_of, select_of, query_of}
 use Rattle.away_trees.proofs.Equations as eq
+use Rattle.away_names.specs.declared.rule.Rule.TheVariants as rule
 use Rattle.away_names.specs.declared.note.Noted.{Noted}
 use Rattle.away_names.specs.declared.note.Shown.{Shown}
 use Rattle.away_names.specs.declared.note.Framed.{Framed}
@@ -248,18 +249,18 @@ qualified_quiet a x s = qualified_by_quiet a x (column_qualified a x s.levels)
 
 unwritten_quiet : (e : Expr) → Clean (n.unwritten e).note → IsQuiet (n.unwritten e).it
 unfolding n.unwritten
-unwritten_quiet e c = absurd (not_broken 7 (omega arith) c)
+unwritten_quiet e c = absurd (not_broken rule.Names c)
 
-param_quiet : (i : ℕ) (t : Ty) (b : Bool) → b ≡ true → Clean (breaks 7 b) → IsQuiet (expr.Param i t)
-param_quiet i t true h c = absurd (not_broken 7 (omega arith) c)
+param_quiet : (i : ℕ) (t : Ty) (b : Bool) → b ≡ true → Clean (breaks rule.Names b) → IsQuiet (expr.Param i t)
+param_quiet i t true h c = absurd (not_broken rule.Names c)
 param_quiet i t false h c = cc
 
-whole_quiet : (q : List n.Listing) → Every Selects q → (with_ : Bool) (s : Scope) → s.in_function ≡ true → Clean (joined (breaks 13 with_) (n.united q s).note)
+whole_quiet : (q : List n.Listing) → Every Selects q → (with_ : Bool) (s : Scope) → s.in_function ≡ true → Clean (joined (breaks rule.Types with_) (n.united q s).note)
     → Quiet (query_of finding (n.query_with (n.united q s).it).it)
 whole_quiet q h with_ s w c =
     quiet_is _ _ (eq.of_query finding (n.united q s).it.it)
     (quiet_each (λ x. select_of finding x) (n.united q s).it.it (selects_quiet s w q h n.no_select (λ c. tt)
-    (clean_parts (breaks 13 with_) (n.united q s).note c).1))
+    (clean_parts (breaks rule.Types with_) (n.united q s).note c).1))
 
 abbrev MaybeAnywhere : Option n.Term → Type 0
 MaybeAnywhere o = (s : Scope) (w : s.in_function ≡ true) → MaybeExprs s w o
@@ -332,7 +333,7 @@ steps = record {
       let both = clean_parts (n.part_note s alias columns) (x columns s level).note c in
       k columns s level w both.1;
   item = λ x y z alias k s w c. k s w (clean_parts (n.maybe_written s alias) (x.judge s).note c).1;
-  key = λ x y z descending k aliases s w c. k s w (clean_parts (breaks 8 (n.is_alias aliases x.alone)) (x.judge s).note c).1;
+  key = λ x y z descending k aliases s w c. k s w (clean_parts (breaks rule.Ambiguity (n.is_alias aliases x.alone)) (x.judge s).note c).1;
   select = λ l₁ l₂ l₃ f₁ f₂ f₃ w₁ w₂ w₃ o₁ o₂ o₃ m₁ m₂ m₃ lr fr wr kr mr.
       listing_quiet l₁ f₁ w₁ o₁ m₁ (firsts (λ x y z. Items x) Items (λ x y z r. r) l₁ l₂ l₃ lr) (firsts (λ x y z. Froms x) Froms (λ x y z r. r) f₁ f₂ f₃ fr)
       (λ s w. option s w w₁ w₂ w₃ wr) (firsts (λ x y z. Keys x) Keys (λ x y z r. r) o₁ o₂ o₃ kr) (λ s w. option s w m₁ m₂ m₃ mr);

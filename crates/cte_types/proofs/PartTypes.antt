@@ -9,6 +9,7 @@ use Rattle.away_trees.specs.declared.queries.Expr.TheVariants as expr
 use Rattle.away_types.specs.declared.slots.Slot.{Slot}
 use Rattle.away_types.specs.FunctionChecks.{slot_types}
 use Rattle.away_types.specs.StatementTypes.{Asked, asked}
+use Rattle.away_names.specs.declared.rule.Rule.TheVariants as rule
 use Rattle.away_names.specs.Notes.{breaks}
 use Rattle.away_typing.specs.Aggregates.{outside}
 use Rattle.away_typing.specs.Kinds.{fits}
@@ -75,9 +76,9 @@ module _ (tables : List (List Ty)) (table : List Expr) (slots : List Slot) (resu
       → HasTypeBy tables (type_at slots) (slots_of e) t e
   unfolding asked
   source_typed t e c below =
-      let both = clean_parts (breaks 13 (not (fits t (kind_of e places.places)) || (uses_of e).limited)) (breaks 15 (outside (uses_of e)).misused) c in
+      let both = clean_parts (breaks rule.Types (not (fits t (kind_of e places.places)) || (uses_of e).limited)) (breaks rule.Aggregates (outside (uses_of e)).misused) c in
       let fails = neither (not (fits t (kind_of e places.places))) (uses_of e).limited
-      (test_fails 13 (not (fits t (kind_of e places.places)) || (uses_of e).limited) (omega arith) both.0) in
+      (test_fails rule.Types (not (fits t (kind_of e places.places)) || (uses_of e).limited) both.0) in
       record {
         slots = slot_types slots;
         beside = λ k i n at_i at_n.
@@ -85,7 +86,7 @@ module _ (tables : List (List Ty)) (table : List Expr) (slots : List Slot) (resu
             (type_there slots n (below.names k n at_n));
         kind = not_false (fits t (kind_of e places.places)) fails.0;
         limited = fails.1;
-        outside_list = test_fails 15 (outside (uses_of e)).misused (omega arith) both.1;
+        outside_list = test_fails rule.Aggregates (outside (uses_of e)).misused both.1;
       }
 
   pub source_has : (k : ℕ) (t : Ty) (e : Expr) → get_or table k expr.Null ≡ e → Clean (asked places t e) → Has t (source_term k e)

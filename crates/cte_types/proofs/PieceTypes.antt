@@ -6,6 +6,7 @@ use Rattle.away_trees.specs.declared.queries.Expr.{Expr}
 use Rattle.away_trees.specs.declared.statements.Decl.{Decl}
 use Rattle.away_trees.specs.declared.statements.LoopKind.{LoopKind}
 use Rattle.away_trees.specs.declared.statements.LoopKind.TheVariants as kind
+use Rattle.away_names.specs.declared.rule.Rule.TheVariants as rule
 use Rattle.away_names.specs.Notes.{joined}
 use Rattle.away_types.specs.declared.slots.Slot.{Slot}
 use Rattle.away_types.specs.FunctionChecks.{slot_types}
@@ -101,7 +102,7 @@ module _ (tables : List (List Ty)) (table : List Expr) (result : Ty) (s : Settin
   slot_source : (o : Option Ty) (k x : ℕ) (e : Expr) → (o ≡ None) ⊎ (o ≡ Some (of_slot x)) → Entry table k e → Clean (asked_of_slot a o e)
       → HasIt (of_slot x) (source_term k e)
   unfolding asked_of_slot
-  slot_source None k x e at h n = absurd (not_broken 13 (omega arith) n)
+  slot_source None k x e at h n = absurd (not_broken rule.Types n)
   slot_source (Some t) k x e (inl at) h n = cc
   slot_source (Some t) k x e (inr at) h n = source k (of_slot x) e h (subst (λ o. Clean (asked_of_slot a o e)) at n)
 

@@ -12,6 +12,8 @@ use Rattle.away_trees.specs.declared.statements.Stmt.TheBlock as b
 use Rattle.away_trees.specs.StatementAlgebra.{stmt_of, stmts_of, branches_of, else_of}
 use Rattle.away_names.specs.declared.note.Note.{Note}
 use Rattle.away_names.specs.Notes.{clean, joined}
+use Rattle.away_types.specs.declared.finding.Report.{Report}
+use Rattle.away_types.specs.Findings.{own, nothing, followed}
 use Rattle.away_types.specs.declared.slots.Slot.{Slot}
 use Rattle.away_types.specs.StatementTypes as checks
 use Rattle.away_types.specs.StatementTypes.{Asked, asked, maybe_asked, asked_of_slot, head_asked}
@@ -24,6 +26,7 @@ use Rattle.block_forms.specs.Laid.{Setting, Laid, LaidArm, laying, after, a_node
 use Rattle.block_forms.specs.Patterns.{Part, node, no_of, source_term}
 use Rattle.block_forms.specs.Slots as slot
 use Rattle.block_forms.specs.Slots.{slot_of, joined as in_row, declaring}
+use Rattle.away_types.proofs.ClearReports.{Clear, clear_own, clear_parts, clear_within, clear_branches}
 use Rattle.type_soundness.proofs.CleanNotes.{Clean, clean_parts}
 use Rattle.cte_types.specs.Typed.{NoIntegers}
 use Rattle.cte_types.proofs.FixedTypes.{FixedHave}
@@ -293,29 +296,29 @@ module _ (tables : List (List Ty)) (table : List Expr) (result : Ty) (s : Settin
   leave_count (Some e) = refl
 
   mutual
-    pub statement_has : (x : Stmt) → Clean (stmt_of checks.asking x a) → StatementHas (stmt_of laying x) (stmt_of sourcing x) (stmt_of declaring x)
+    pub statement_has : (x : Stmt) → Clear (stmt_of checks.asking x a) → StatementHas (stmt_of laying x) (stmt_of sourcing x) (stmt_of declaring x)
     statement_has (b.Block' label decls m body closing) n =
-        let two = clean_parts (checks.defaults decls a) (checks.all_by (stmts_of checks.asking body) a) n in
-        let row = (row_has body clean two.1).1 in
+        let two = clear_within _ (checks.defaults decls a) (checks.all_by (stmts_of checks.asking body) a) n in
+        let row = (row_has body nothing two.1).1 in
         record {
           count = omega (arith, decls_count decls, row.count, length-append (defaults decls) (in_turn (stmts_of sourcing body)));
           vars = omega (arith, decls_vars decls, row.vars, length-append (map slot_of decls) (in_row (stmts_of declaring body)));
           goes = block_has label decls (stmts_of laying body) (stmts_of sourcing body) (stmts_of declaring body) (are_asked decls clean two.0).1 row;
         }
-    statement_has (b.Assign name x e) n = assign_has name x e n
+    statement_has (b.Assign name x e) n = assign_has name x e (clear_own 1 _ n)
     statement_has (b.If' m arms other) n =
-        let two = clean_parts (checks.all_by (branches_of checks.asking arms) a) (checks.maybe_by (else_of checks.asking other) a) n in
+        let two = clear_branches (checks.all_by (branches_of checks.asking arms) a) (checks.maybe_by (else_of checks.asking other) a) n in
         branch_whole (branches_of laying arms) (branches_of sourcing arms) (branches_of declaring arms) (else_of laying other) (else_of sourcing other)
         (else_of declaring other)
-        (arms_have arms clean two.0).1 (else_has other two.1) None
+        (arms_have arms nothing two.0).1 (else_has other two.1) None
     statement_has (b.Cases' m arms other) n =
-        let two = clean_parts (checks.all_by (branches_of checks.asking arms) a) (checks.maybe_by (else_of checks.asking other) a) n in
+        let two = clear_branches (checks.all_by (branches_of checks.asking arms) a) (checks.maybe_by (else_of checks.asking other) a) n in
         branch_whole (branches_of laying arms) (branches_of sourcing arms) (branches_of declaring arms) (else_of laying other) (else_of sourcing other)
         (else_of declaring other)
-        (arms_have arms clean two.0).1 (else_has other two.1) (Some case_not_found)
+        (arms_have arms nothing two.0).1 (else_has other two.1) (Some case_not_found)
     statement_has (b.Loop' label kind m body closing) n =
-        let two = clean_parts (head_asked kind a) (checks.all_by (stmts_of checks.asking body) a) n in
-        let row = (row_has body clean two.1).1 in
+        let two = clear_within 1 (head_asked kind a) (checks.all_by (stmts_of checks.asking body) a) n in
+        let row = (row_has body nothing two.1).1 in
         record {
           count = omega (arith, kind_count kind, row.count, length-append (of_kind kind) (in_turn (stmts_of sourcing body)));
           vars = omega (arith, kind_vars kind, row.vars, length-append (slot.of_kind kind) (in_row (stmts_of declaring body)));
@@ -325,45 +328,45 @@ module _ (tables : List (List Ty)) (table : List Expr) (result : Ty) (s : Settin
       count = leave_count when;
       vars = refl;
       goes = λ p around next h d. exit_has tables table result s fixed plain hidden when p.expr (node s.goto p.node)
-          (exit_to s.goto.finish around label) next h n;
+          (exit_to s.goto.finish around label) next h (clear_own 1 _ n);
     }
     statement_has (b.Continue label when) n = record {
       count = leave_count when;
       vars = refl;
       goes = λ p around next h d. leave_has tables table result s fixed plain hidden when p.expr (node s.goto p.node)
-          (again_to s.goto.finish around label) next h n;
+          (again_to s.goto.finish around label) next h (clear_own 1 _ n);
     }
-    statement_has (b.Return e) n = record { count = refl; vars = refl; goes = λ p around next h d. ((tt, source p.expr result e h.0 n), tt) }
+    statement_has (b.Return e) n = record { count = refl; vars = refl; goes = λ p around next h d. ((tt, source p.expr result e h.0 (clear_own 1 _ n)), tt) }
     statement_has (b.Raise raised) n = record { count = refl; vars = refl; goes = λ p around next h d. ((tt, tt), tt) }
     statement_has (b.Into strict targets query) n = record { count = refl; vars = refl; goes = λ p around next h d. (tt, tt) }
     statement_has b.Nothing n = record { count = refl; vars = refl; goes = λ p around next h d. ((tt, tt), tt) }
 
-    row_has : {m : _} (r : b.Row_of-Stmt m) (acc : Note) → Clean (fold (λ n (f : checks.By). joined n (f a)) acc (stmts_of checks.asking r))
-        → Clean acc × RowHas (stmts_of laying r) (stmts_of sourcing r) (stmts_of declaring r)
+    row_has : {m : _} (r : b.Row_of-Stmt m) (acc : Report) → Clear (fold (λ r (f : checks.By). followed r (f a)) acc (stmts_of checks.asking r))
+        → Clear acc × RowHas (stmts_of laying r) (stmts_of sourcing r) (stmts_of declaring r)
     row_has b.end_of-Stmt acc c = (c, no_row)
     row_has (b.more_of-Stmt x rest) acc c =
-        let more = row_has rest (joined acc (stmt_of checks.asking x a)) c in
-        let two = clean_parts acc (stmt_of checks.asking x a) more.0 in (
+        let more = row_has rest (followed acc (stmt_of checks.asking x a)) c in
+        let two = clear_parts acc (stmt_of checks.asking x a) more.0 in (
           two.0,
           more_row (stmt_of laying x) (stmt_of sourcing x) (stmt_of declaring x) (stmts_of laying rest) (stmts_of sourcing rest)
               (stmts_of declaring rest) (statement_has x two.1) more.1,
         )
 
-    arms_have : {m : _} (r : b.Row_of-Arm m) (acc : Note) → Clean (fold (λ n (f : checks.By). joined n (f a)) acc (branches_of checks.asking r))
-        → Clean acc × ArmsHave (branches_of laying r) (branches_of sourcing r) (branches_of declaring r)
+    arms_have : {m : _} (r : b.Row_of-Arm m) (acc : Report) → Clear (fold (λ r (f : checks.By). followed r (f a)) acc (branches_of checks.asking r))
+        → Clear acc × ArmsHave (branches_of laying r) (branches_of sourcing r) (branches_of declaring r)
     arms_have b.end_of-Arm acc c = (c, no_arms)
     arms_have (b.more_of-Arm test m body rest) acc c =
-        let note = joined (asked a ty.Boolean test) (checks.all_by (stmts_of checks.asking body) a) in
-        let more = arms_have rest (joined acc note) c in
-        let two = clean_parts acc note more.0 in
-        let arm = clean_parts (asked a ty.Boolean test) (checks.all_by (stmts_of checks.asking body) a) two.1 in (
+        let note = followed (own 1 (asked a ty.Boolean test)) (checks.all_by (stmts_of checks.asking body) a) in
+        let more = arms_have rest (followed acc note) c in
+        let two = clear_parts acc note more.0 in
+        let arm = clear_within 1 (asked a ty.Boolean test) (checks.all_by (stmts_of checks.asking body) a) two.1 in (
           two.0,
           more_arms test (stmts_of laying body) (stmts_of sourcing body) (stmts_of declaring body) (branches_of laying rest) (branches_of sourcing rest)
               (branches_of declaring rest)
-              arm.0 (row_has body clean arm.1).1 more.1,
+              arm.0 (row_has body nothing arm.1).1 more.1,
         )
 
-    else_has : (r : b.Held-Stmt-If-1) → Clean (checks.maybe_by (else_of checks.asking r) a)
+    else_has : (r : b.Held-Stmt-If-1) → Clear (checks.maybe_by (else_of checks.asking r) a)
         → ElseHas (else_of laying r) (else_of sourcing r) (else_of declaring r)
     else_has b.None' c = no_else
-    else_has (b.Some' m body) c = some_else (stmts_of laying body) (stmts_of sourcing body) (stmts_of declaring body) (row_has body clean c).1
+    else_has (b.Some' m body) c = some_else (stmts_of laying body) (stmts_of sourcing body) (stmts_of declaring body) (row_has body nothing (clear_within 1 clean (checks.all_by (stmts_of checks.asking body) a) c).1).1

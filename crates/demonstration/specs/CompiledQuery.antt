@@ -6,7 +6,7 @@ use Rattle.away_trees.specs.declared.statements.Function.{Function}
 use Rattle.away_types.specs.CheckedFunctions.{IsChecked}
 use Rattle.away_types.specs.CheckedQueries.{resolved_query}
 use Rattle.away_types.specs.declared.slots.Slot.{Slot}
-use Rattle.cert_json.specs.declared.cert.Cert.{Cert}
+use Rattle.call_forms.specs.declared.forms.Forms.{Forms}
 use Rattle.compiling.specs.Compiled.{IsCompiled}
 use Rattle.equivalence.specs.Accepted.{EquivalentWith}
 use Rattle.demonstration.specs.declared.compiled.CompiledQuery.{CompiledQuery}
@@ -14,7 +14,7 @@ use Rattle.demonstration.specs.declared.compiled.CompiledQuery.{CompiledQuery}
 -- The text is compiled from the function over the tables of the schema. So the query that it reads as is equivalent to the function, where that is
 -- checked under the schema.
 pub record IsCompiledText (s : Schema) (f : Function) (slots : List Slot) (written : Query) (text : List ℕ) : Type 0 where
-  pub forms : Cert
+  pub forms : Forms
   pub compiled : IsCompiled s f slots written text forms
   pub equivalent : (read : Function) → IsChecked s read f slots → EquivalentWith s f slots (resolved_query s written)
 

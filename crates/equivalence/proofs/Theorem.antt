@@ -18,13 +18,10 @@ use Rattle.sql_meaning.specs.Context.{Rows}
 use Rattle.sql_meaning.specs.Typed.{AreTyped}
 use Rattle.sql_meaning.specs.Working.{sql}
 use Rattle.sql_meaning.proofs.Bounds.{answer_stays}
-use Rattle.block_forms.specs.declared.forms.Goto.{Goto}
-use Rattle.block_forms.specs.declared.forms.Ssa.{Ssa}
 use Rattle.block_forms.specs.Frames.{frame_of}
 use Rattle.block_forms.specs.Machines.{Ran, IsOver}
 use Rattle.block_forms.specs.Runs.{ssa_runs}
-use Rattle.call_forms.specs.declared.forms.Anf.{Anf}
-use Rattle.call_forms.specs.declared.forms.Tail.{Tail}
+use Rattle.call_forms.specs.declared.forms.Forms.{Forms}
 use Rattle.goto_law.specs.Law.{Meets, Keeps}
 use Rattle.cte_law.specs.QueryAnswers.{AnswersAs}
 use Rattle.cte_law.proofs.Composed.{more_before}
@@ -83,12 +80,12 @@ module _ (w : ℕ) (positive : 0 < w) (f : ℕ → Answer) (runs : ℕ → Ran) 
 
 -- ---- over all
 
-pub equivalent : (s : Schema) (f : Function) (slots : List Slot) (g : Goto) (z : Ssa) (a : Anf) (r : Tail) (q : Query) → length s.tables < 2 ^ 64
-    → AcceptedForms s f slots g z a r q → Keeps f slots g → NamedRunsInLockstep
+pub equivalent : (s : Schema) (f : Function) (slots : List Slot) (forms : Forms) (q : Query) → length s.tables < 2 ^ 64
+    → AcceptedForms s f slots forms q → Keeps f slots forms.goto → NamedRunsInLockstep
     → ((tables : List Rows) (args : List Value) → length tables ≡ length s.tables → length tables < 2 ^ 64
-    → AnswersAs q tables args (ssa_runs (frame_of f (length slots) g tables) z args))
+    → AnswersAs q tables args (ssa_runs (frame_of f (length slots) forms.goto tables) forms.ssa args))
     → EquivalentWith s f slots q
-equivalent s f slots g z a r q small forms keeps lockstep laws = record {
+equivalent s f slots forms q small accepted keeps lockstep laws = record {
   ends = λ tables args n fit typed more.
       ends (weight f) (weighs f) (own tables args) (runs tables args) (meets tables args typed) q tables args (at tables args fit) n more;
   goes_on = λ tables args n fit typed more.
@@ -101,7 +98,7 @@ equivalent s f slots g z a r q small forms keeps lockstep laws = record {
     own = answers f (map (λ (x : Slot). x.not_null) slots)
 
     runs : (tables : List Rows) (args : List Value) → ℕ → Ran
-    runs tables args = ssa_runs (frame_of f (length slots) g tables) z args
+    runs tables args = ssa_runs (frame_of f (length slots) forms.goto tables) forms.ssa args
 
     at : (tables : List Rows) (args : List Value) → FitsSchema s tables → AnswersAs q tables args (runs tables args)
     at tables args fit =
@@ -116,5 +113,5 @@ equivalent s f slots g z a r q small forms keeps lockstep laws = record {
     meets tables args typed n =
         let long = as_many args typed in
         subst (λ (run : Ran). Meets (own tables args n) run n)
-        (lockstep (frame_of f (length slots) g tables) z forms.named args long (suc n * weight f))
+        (lockstep (frame_of f (length slots) forms.goto tables) forms.ssa accepted.named args long (suc n * weight f))
         (keeps.answers tables args long n)

@@ -1,38 +1,8 @@
-//! That a query is equivalent to a function where forms between them belong together.
+//! The relations between a function, the forms that lead to its query and the query, and that the query is equivalent to the function where all hold.
 #![tactic(auto)]
 
-ghost use Rattle.std.specs.Prelude.{length, ◌<◌, ◌^◌};
-ghost use Rattle.away_trees.specs.declared.queries.Query.{Query};
-ghost use Rattle.away_trees.specs.declared.schemas.Schema.{Schema};
-ghost use Rattle.away_trees.specs.declared.statements.Function.{Function};
-ghost use Rattle.away_types.specs.CheckedFunctions.{IsChecked};
-ghost use Rattle.block_forms.specs.declared.forms.Goto.{Goto};
-ghost use Rattle.block_forms.specs.declared.forms.Ssa.{Ssa};
-ghost use Rattle.call_forms.specs.declared.forms.Anf.{Anf};
-ghost use Rattle.call_forms.specs.declared.forms.Tail.{Tail};
-ghost use Rattle.equivalence.specs.Accepted.{AcceptedForms, EquivalentWith};
-ghost use Rattle.equivalence.specs.Worked.{SignOfIsAccepted};
+mod laws;
+mod relation;
 
-use away_types::CheckedFunction;
-use block_forms::worked_forms_are_lowered;
-use call_forms::worked_calls_are_related;
-use cte_law::forms_answer_as_the_query;
-use goto_law::forms_of_checked_functions_keep_answers;
-use ssa_check::naming_keeps_answers;
-
-/// Where a function is checked under a schema, and four forms stand between it and a query in the six relations, the query is equivalent to the function.
-pub fn accepted_forms_are_equivalent(f: &CheckedFunction)
-    ensures { (s : Schema) (written : Function) (g : Goto) (z : Ssa) (a : Anf) (r : Tail) (q : Query) → IsChecked s written f.now.function f.now.slots → length s.tables < 2 ^ 64 → AcceptedForms s f.now.function f.now.slots g z a r q → EquivalentWith s f.now.function f.now.slots q }
-{
-    forms_of_checked_functions_keep_answers(f);
-    naming_keeps_answers();
-    forms_answer_as_the_query();
-}
-
-/// The six relations hold of the forms of a worked function and its query.
-pub fn worked_forms_are_accepted()
-    ensures { SignOfIsAccepted }
-{
-    worked_forms_are_lowered();
-    worked_calls_are_related();
-}
+pub use laws::{accepted_forms_are_equivalent, worked_forms_are_accepted};
+pub use relation::Relation;

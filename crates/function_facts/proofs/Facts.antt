@@ -11,7 +11,6 @@ use Rattle.away_trees.specs.declared.schemas.Schema.{Schema}
 use Rattle.away_trees.specs.declared.statements.Function.{Function}
 use Rattle.away_types.specs.declared.slots.Slot.{Slot}
 use Rattle.away_types.specs.CheckedFunctions.{IsChecked, IsCheckedOfSome}
-use Rattle.away_types.specs.FunctionChecks.{function_note}
 use Rattle.sql_meaning.specs.Reads as read
 use Rattle.sql_meaning.specs.Reads.{Read, allows, reads}
 use Rattle.block_forms.specs.Expressions.{sources}
@@ -20,14 +19,13 @@ use Rattle.block_forms.specs.Places.{Each}
 use Rattle.block_forms.specs.Slots.{own_slots, has_into}
 use Rattle.block_forms.specs.Targets.{targets}
 use Rattle.type_soundness.specs.Sorts.{Every}
-use Rattle.type_soundness.proofs.CleanNotes.{unbroken_clean}
 use Rattle.function_facts.proofs.SlotLookups.{IsBelow}
 use Rattle.function_facts.proofs.Taken.{SourceBelow}
 use Rattle.function_facts.proofs.SlotsOfParameters.{Owns, of_written}
 
 owns_checked : (s : Schema) (written checked : Function) (slots : List Slot) → IsChecked s written checked slots → Owns checked slots
 owns_checked s written checked slots h =
-    subst (λ f. Owns f slots) (sym h.function) (subst (Owns _) (sym h.slots_are) (of_written s written (unbroken_clean (function_note s written) h.unbroken)))
+    subst (λ f. Owns f slots) (sym h.function) (subst (Owns _) (sym h.slots_are) (of_written s written h.unbroken))
 
 owns : (f : Function) (slots : List Slot) → IsCheckedOfSome f slots → Owns f slots
 owns f slots h = owns_checked h.schema h.written f slots h.checked_is

@@ -5,7 +5,6 @@ use Rattle.away_values.specs.declared.types.Ty.{Ty}
 use Rattle.away_trees.specs.declared.schemas.Schema.{Schema}
 use Rattle.away_trees.specs.declared.statements.Function.{Function}
 use Rattle.away_names.specs.Lookups.{Name}
-use Rattle.away_names.specs.Notes.{joined}
 use Rattle.away_types.specs.declared.parameters.Start.{Start}
 use Rattle.away_types.specs.declared.slots.Slot.{Slot}
 use Rattle.away_types.specs.CheckedFunctions.{IsChecked, IsCheckedOfSome}
@@ -13,7 +12,7 @@ use Rattle.away_types.specs.FunctionChecks.{start, with_param, entry, body_of, f
 use Rattle.away_types.specs.ResolvedBodies.{resolved_stmt}
 use Rattle.away_trees.specs.StatementAlgebra.{stmt_of}
 use Rattle.type_soundness.specs.Sorts.{Every}
-use Rattle.type_soundness.proofs.CleanNotes.{Clean, clean_parts, unbroken_clean}
+use Rattle.away_types.proofs.ClearReports.{Clear, clear_bodies}
 use Rattle.function_facts.specs.Sight.{walking}
 use Rattle.function_facts.specs.InSight.{ReadsInSight, AllInSight}
 use Rattle.function_facts.proofs.Names.{slots_of}
@@ -42,18 +41,17 @@ all_started (p ∷ ps) k s h = subst (λ j. Started j (fold with_param (with_par
 pub started : (ps : List (Name × Ty)) → Started (length ps) (start ps)
 started ps = subst (λ j. Started j (start ps)) (omega arith) (all_started ps 0 (start []) (record { shown = refl; slots = refl }))
 
-of_written : (s : Schema) (f : Function) → Clean (function_note s f) → Every ReadsInSight (stmt_of walking (body_of s f).it (length f.params) (range_with_len 0 (length f.params))).exprs
+of_written : (s : Schema) (f : Function) → Clear (function_note s f) → Every ReadsInSight (stmt_of walking (body_of s f).it (length f.params) (range_with_len 0 (length f.params))).exprs
 unfolding resolved_stmt
 of_written s f c =
     let first = started f.params in
-    let whole = clean_parts (head_note f) (joined (body_of s f).note (types_note s f)) c in
-    let body = clean_parts (body_of s f).note (types_note s f) whole.1 in
+    let body = clear_bodies (length f.params) (head_note f) (body_of s f).note (types_note s f) c in
     let good = stmt_good f.body (entry s f.params) (start f.params).slots body.0 in
     subst (λ seen. Every ReadsInSight (stmt_of walking (body_of s f).it (length f.params) seen).exprs) first.slots
     (subst (λ k. Every ReadsInSight (stmt_of walking (body_of s f).it k (slots_of (start f.params).variables)).exprs) first.shown good.exprs)
 
 pub checked_in_sight : (s : Schema) (written checked : Function) (slots : List Slot) → IsChecked s written checked slots → AllInSight checked
-checked_in_sight s written checked slots h = subst AllInSight (sym h.function) (of_written s written (unbroken_clean (function_note s written) h.unbroken))
+checked_in_sight s written checked slots h = subst AllInSight (sym h.function) (of_written s written h.unbroken)
 
 pub of_some : (checked : Function) (slots : List Slot) → IsCheckedOfSome checked slots → AllInSight checked
 of_some checked slots h = checked_in_sight h.schema h.written checked slots h.checked_is

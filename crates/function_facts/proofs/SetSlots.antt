@@ -31,7 +31,6 @@ use Rattle.block_forms.specs.FixedList.{fixed_list}
 use Rattle.block_forms.specs.Places.{Each}
 use Rattle.block_forms.specs.Slots.{any_of, any_else, has_into, seeking}
 use Rattle.type_soundness.specs.Sorts.{Every}
-use Rattle.type_soundness.proofs.CleanNotes.{unbroken_clean}
 use Rattle.type_soundness.proofs.Lists.{every_left, every_right}
 use Rattle.function_facts.specs.InSight.{is_among, IsSeen, ReadsInSight}
 use Rattle.function_facts.specs.Sight as walk
@@ -322,7 +321,7 @@ every_of P Q go (x ∷ xs) h = (go x (h 0 x refl), every_of P Q go xs (λ i y e.
 
 no_into : (s : Schema) (written f : Function) (slots : List Slot) → IsChecked s written f slots → has_into f.body ≡ false
 no_into s written f slots c =
-    subst (λ (g : Function). has_into g.body ≡ false) (sym c.function) (of_written s written (unbroken_clean (function_note s written) c.unbroken)).no_into
+    subst (λ (g : Function). has_into g.body ≡ false) (sym c.function) (of_written s written c.unbroken).no_into
 
 pub read_in_sight : (s : Schema) (written f : Function) (slots : List Slot) → IsChecked s written f slots → length s.tables < 2 ^ 64
     → reads_in_sight (of_expressions (length s.tables)) f.body (length f.params) (parameters_of f) ≡ true

@@ -5,7 +5,6 @@ use Rattle.away_values.specs.declared.types.Ty.{Ty}
 use Rattle.away_trees.specs.declared.schemas.Schema.{Schema}
 use Rattle.away_trees.specs.declared.statements.Function.{Function}
 use Rattle.away_names.specs.Lookups.{Name}
-use Rattle.away_names.specs.Notes.{joined}
 use Rattle.away_types.specs.declared.parameters.Start.{Start}
 use Rattle.away_types.specs.declared.slots.Slot.{Slot}
 use Rattle.away_types.specs.Statements.{with_slot}
@@ -17,7 +16,7 @@ use Rattle.block_forms.specs.Laid.{laid}
 use Rattle.block_forms.specs.OwnSlots.{named_slots}
 use Rattle.block_forms.specs.Targets.{targets}
 use Rattle.type_soundness.specs.Sorts.{Every}
-use Rattle.type_soundness.proofs.CleanNotes.{Clean, clean_parts}
+use Rattle.away_types.proofs.ClearReports.{Clear, clear_bodies}
 use Rattle.function_facts.proofs.SlotLookups.{VariablesBelow}
 use Rattle.function_facts.proofs.Found.{found}
 use Rattle.function_facts.proofs.Taken.{Takes, SourceBelow, hidden_slots, variable_taken}
@@ -65,15 +64,15 @@ pub record Owns (f : Function) (slots : List Slot) : Type 0 where
   pub sets : Every (λ t. t < named_slots f) (targets f.body)
   pub no_into : has_into f.body ≡ false
 
-body_takes : (s : Schema) (f : Function) → Clean (body_of s f).note → Takes (found (body_of s f).it) (start f.params).slots (body_of s f).slots
+body_takes : (s : Schema) (f : Function) → Clear (body_of s f).note → Takes (found (body_of s f).it) (start f.params).slots (body_of s f).slots
 unfolding resolved_stmt
 body_takes s f c = stmt_takes f.body (entry s f.params) (start f.params).slots ((refl, (started f.params).in_sight), refl) c
 
-pub of_written : (s : Schema) (f : Function) → Clean (function_note s f) → Owns (resolved_function s f) (slots_of s f)
+pub of_written : (s : Schema) (f : Function) → Clear (function_note s f) → Owns (resolved_function s f) (slots_of s f)
 unfolding variables laid sources targets has_into
 of_written s f c =
-    let whole = clean_parts (head_note f) (joined (body_of s f).note (types_note s f)) c in
-    let takes = body_takes s f (clean_parts (body_of s f).note (types_note s f) whole.1).0 in
+    let body = clear_bodies (length f.params) (head_note f) (body_of s f).note (types_note s f) c in
+    let takes = body_takes s f body.0 in
     let first = started f.params in
     let x = found (body_of s f).it in
     let shown_is : (body_of s f).slots.shown ≡ slots_of_params f.params ++ x.variables = takes.shown ∙ ap (λ xs. xs ++ x.variables) first.shown_is in

@@ -5,7 +5,6 @@ use Rattle.std.proofs.lemmas.Option.{same_Some}
 use Rattle.away_trees.specs.declared.queries.Expr.{Expr}
 use Rattle.away_trees.specs.declared.schemas.Schema.{Schema}
 use Rattle.away_trees.specs.declared.statements.Function.{Function}
-use Rattle.away_names.specs.Notes.{joined}
 use Rattle.away_types.specs.declared.slots.Slot.{Slot}
 use Rattle.away_types.specs.CheckedFunctions.{IsChecked}
 use Rattle.away_types.specs.FunctionChecks.{start, entry, body_of, function_note, head_note, types_note, resolved_function, slots_of, asked_in}
@@ -17,7 +16,7 @@ use Rattle.block_forms.specs.FixedList.{fixed_list}
 use Rattle.block_forms.specs.OwnSlots.{named_slots}
 use Rattle.block_forms.specs.Places.{Each}
 use Rattle.type_soundness.specs.Sorts.{Every}
-use Rattle.type_soundness.proofs.CleanNotes.{Clean, clean_parts, unbroken_clean}
+use Rattle.away_types.proofs.ClearReports.{Clear, clear_bodies}
 use Rattle.function_facts.proofs.SlotLookups as slot
 use Rattle.function_facts.proofs.SlotsOfParameters.{of_written}
 use Rattle.function_facts.proofs.Taken as taken
@@ -53,26 +52,25 @@ each_over tables (e ∷ es) h (suc i) x at = each_over tables es h.1 i x at
 
 -- ---- a function
 
-body_below : (s : Schema) (f : Function) → length s.tables < 2 ^ 64 → Clean (body_of s f).note → AllBelow (length s.tables) (sources (body_of s f).it)
+body_below : (s : Schema) (f : Function) → length s.tables < 2 ^ 64 → Clear (body_of s f).note → AllBelow (length s.tables) (sources (body_of s f).it)
 unfolding resolved_stmt sources
 body_below s f small c = stmt_fine (length s.tables) f.body (entry s f.params) (start f.params).slots ((λ x. tables_below s small x), refl) c
 
-body_single : (s : Schema) (f : Function) → Clean (types_note s f) → AreSingle (sources (body_of s f).it)
+body_single : (s : Schema) (f : Function) → Clear (types_note s f) → AreSingle (sources (body_of s f).it)
 unfolding sources
 body_single s f c = asked_single (asked_in s (slots_of s f) f.result) (body_of s f).it c
 
-written_over : (s : Schema) (f : Function) → length s.tables < 2 ^ 64 → Clean (function_note s f)
+written_over : (s : Schema) (f : Function) → length s.tables < 2 ^ 64 → Clear (function_note s f)
     → AreOver (length s.tables) (sources (body_of s f).it)
 written_over s f small c =
-    let whole = clean_parts (head_note f) (joined (body_of s f).note (types_note s f)) c in
-    let body = clean_parts (body_of s f).note (types_note s f) whole.1 in
+    let body = clear_bodies (length f.params) (head_note f) (body_of s f).note (types_note s f) c in
     all_over (named_slots (resolved_function s f)) (length s.tables) (sources (body_of s f).it) (of_written s f c).reads (body_below s f small body.0)
     (body_single s f body.1)
 
 pub over_their_tables : (s : Schema) (written f : Function) (slots : List Slot) → IsChecked s written f slots → length s.tables < 2 ^ 64
     → Each (IsOverTables (length s.tables)) (expressions f)
 over_their_tables s written f slots checked small =
-    let own = written_over s written small (unbroken_clean (function_note s written) checked.unbroken) in
+    let own = written_over s written small checked.unbroken in
     let here : AreOver (length s.tables) (sources f.body) = subst (λ (g : Function). AreOver (length s.tables) (sources g.body)) (sym checked.function) own in
     each_over (length s.tables) (expressions f)
     (both_over (length s.tables) (sources f.body) fixed_list here (fixed_over (length s.tables)))

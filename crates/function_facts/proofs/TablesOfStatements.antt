@@ -11,9 +11,10 @@ use Rattle.away_trees.specs.declared.statements.Stmt.TheOpen as st
 use Rattle.away_trees.specs.declared.statements.Stmt.TheBlock as b
 use Rattle.away_trees.specs.StatementAlgebra.{stmt_of, stmts_of, branches_of, else_of, branch_of}
 use Rattle.away_trees.proofs.StatementEquations as eq
+use Rattle.away_names.specs.declared.rule.Rule.TheVariants as rule
 use Rattle.away_names.specs.declared.scope.Variable.{Variable}
 use Rattle.away_names.specs.Lookups.{Name, Scope, variable_named}
-use Rattle.away_names.specs.Notes.{joined, breaks, held}
+use Rattle.away_names.specs.Notes.{breaks, held, clean}
 use Rattle.away_names.specs.Trees.{named_expr}
 use Rattle.away_types.specs.declared.resolved.Declared.{Declared}
 use Rattle.away_types.specs.declared.resolved.Resolved.{Resolved}
@@ -23,6 +24,7 @@ use Rattle.away_types.specs.Statements.{Spot, By, resolving, assigned}
 use Rattle.sql_meaning.specs.Reads.{reads}
 use Rattle.block_forms.specs.Expressions.{Sources, sourcing, in_turn, if_there, default_of, defaults, of_kind, of_else}
 use Rattle.type_soundness.specs.Sorts.{Every}
+use Rattle.away_types.proofs.ClearReports.{Clear, clear_own, clear_parts, clear_within, clear_branches}
 use Rattle.type_soundness.proofs.CleanNotes.{Clean, clean_parts}
 use Rattle.type_soundness.proofs.Lists.{every_append}
 use Rattle.function_facts.proofs.TableLookups.{IsBelow, Within}
@@ -42,23 +44,23 @@ module _ (tables : ℕ) where
   -- ---- pieces one behind the other
 
   abbrev FineBy : {A : Type 0} → (A → Sources) → By A → Type 0
-  FineBy f g = (spot : Spot) (slots : Slots) → Placed spot.scope → Clean (g spot slots).note → AllBelow (f (g spot slots).it)
+  FineBy f g = (spot : Spot) (slots : Slots) → Placed spot.scope → Clear (g spot slots).note → AllBelow (f (g spot slots).it)
 
   in_turn_fine : {A : Type 0} (f : A → Sources) (xs : List A) → Every (λ x. AllBelow (f x)) xs → AllBelow (in_turn (map f xs))
   in_turn_fine f [] h = tt
   in_turn_fine f (x ∷ xs) h = every_append SourceBelow (f x) (in_turn (map f xs)) h.0 (in_turn_fine f xs h.1)
 
   list_fine : {A : Type 0} (f : A → Sources) (gs : List (By A)) → Every (FineBy f) gs → (spot : Spot) → Placed spot.scope → (acc : Resolved (List A))
-      → (Clean acc.note → Every (λ x. AllBelow (f x)) acc.it) → Clean (fold (λ a g. n.with_resolved a (g spot a.slots)) acc gs).note
+      → (Clear acc.note → Every (λ x. AllBelow (f x)) acc.it) → Clear (fold (λ a g. n.with_resolved a (g spot a.slots)) acc gs).note
       → Every (λ x. AllBelow (f x)) (fold (λ a g. n.with_resolved a (g spot a.slots)) acc gs).it
   list_fine f [] h spot p acc t c = t c
   list_fine f (g ∷ gs) h spot p acc t c =
       list_fine f gs h.1 spot p (n.with_resolved acc (g spot acc.slots))
-      (λ c. let both = clean_parts acc.note (g spot acc.slots).note c in
+      (λ c. let both = clear_parts acc.note (g spot acc.slots).note c in
       every_append (λ x. AllBelow (f x)) acc.it ((g spot acc.slots).it ∷ []) (t both.0) (h.0 spot acc.slots p both.1, tt)) c
 
   each_fine : {A : Type 0} (f : A → Sources) (gs : List (By A)) → Every (FineBy f) gs → (spot : Spot) (slots : Slots) → Placed spot.scope
-      → Clean (n.each_resolved gs spot slots).note → AllBelow (in_turn (map f (n.each_resolved gs spot slots).it))
+      → Clear (n.each_resolved gs spot slots).note → AllBelow (in_turn (map f (n.each_resolved gs spot slots).it))
   each_fine f gs h spot slots p c =
       in_turn_fine f (n.each_resolved gs spot slots).it (list_fine f gs h spot p (n.none_resolved slots) (λ c. tt) c)
 
@@ -114,28 +116,29 @@ module _ (tables : ℕ) where
       let ds = n.declared_all decls spot.scope slots in
       let inner = n.within label false ds.variables spot in
       let xs = n.each_resolved gs inner ds.slots in
-      let parts = clean_parts ds.note xs.note (clean_parts _ (joined ds.note xs.note) c).1 in
+      let whole = clear_within _ _ xs.note c in
+      let own = clean_parts _ ds.note whole.0 in
       by_parts (of_stmt (stmt.Block label ds.it xs.it closing)) (defaults ds.it ++ in_turn (map of_stmt xs.it))
       (eq.of_block sourcing label ds.it xs.it closing)
-      (every_append SourceBelow (defaults ds.it) (in_turn (map of_stmt xs.it)) (declared_fine spot.scope p decls slots parts.0)
-      (each_fine of_stmt gs h inner ds.slots p parts.1))
+      (every_append SourceBelow (defaults ds.it) (in_turn (map of_stmt xs.it)) (declared_fine spot.scope p decls slots own.1)
+      (each_fine of_stmt gs h inner ds.slots p whole.1))
 
   abbrev else_sources : Option (List Stmt) → Sources
   else_sources o = of_else (option_map (λ body. map of_stmt body) o)
 
   other_fine : (o : Option (List (By Stmt))) → ((gs : List (By Stmt)) → o ≡ Some gs → Every (FineBy of_stmt) gs) → (spot : Spot) (slots : Slots)
-      → Placed spot.scope → Clean (n.maybe_resolved (n.other_by o) spot slots).note → AllBelow (else_sources (n.maybe_resolved (n.other_by o) spot slots).it)
+      → Placed spot.scope → Clear (n.maybe_resolved (n.other_by o) spot slots).note → AllBelow (else_sources (n.maybe_resolved (n.other_by o) spot slots).it)
   other_fine None h spot slots p c = tt
-  other_fine (Some gs) h spot slots p c = each_fine of_stmt gs (h gs refl) spot slots p c
+  other_fine (Some gs) h spot slots p c = each_fine of_stmt gs (h gs refl) spot slots p (clear_within 1 clean (n.each_resolved gs spot slots).note c).1
 
   branched_fine : (form : List Arm → Option (List Stmt) → Stmt)
       → ((arms : List Arm) (o : Option (List Stmt)) → of_stmt (form arms o) ≡ in_turn (map of_arm arms) ++ else_sources o)
       → (arms : List (By Arm)) (o : Option (List (By Stmt))) → Every (FineBy of_arm) arms
-      → ((gs : List (By Stmt)) → o ≡ Some gs → Every (FineBy of_stmt) gs) → FineBy of_stmt (n.branched form arms o)
+      → ((gs : List (By Stmt)) → o ≡ Some gs → Every (FineBy of_stmt) gs) → FineBy of_stmt (n.branching form arms o)
   branched_fine form is arms o h k spot slots p c =
       let xs = n.each_resolved arms spot slots in
       let y = n.maybe_resolved (n.other_by o) spot xs.slots in
-      let both = clean_parts xs.note y.note c in
+      let both = clear_branches xs.note y.note c in
       by_parts (of_stmt (form xs.it y.it)) (in_turn (map of_arm xs.it) ++ else_sources y.it) (is xs.it y.it)
       (every_append SourceBelow (in_turn (map of_arm xs.it)) (else_sources y.it) (each_fine of_arm arms h spot slots p both.0)
       (other_fine o k spot xs.slots p both.1))
@@ -144,7 +147,7 @@ module _ (tables : ℕ) where
   arm_fine test gs h spot slots p c =
       let xs = n.each_resolved gs spot slots in
       let x = named_expr test spot.scope in
-      let both = clean_parts x.note xs.note c in
+      let both = clear_within 1 x.note xs.note c in
       by_parts (of_arm (record { test = x.it; body = xs.it })) (x.it ∷ in_turn (map of_stmt xs.it)) refl
       (expr_fine test spot.scope p both.0, each_fine of_stmt gs h spot slots p both.1)
 
@@ -162,17 +165,18 @@ module _ (tables : ℕ) where
       let head = n.headed k spot.scope slots in
       let inner = n.within label true head.variables spot in
       let xs = n.each_resolved gs inner head.slots in
-      let parts = clean_parts head.note xs.note (clean_parts _ (joined head.note xs.note) c).1 in
+      let whole = clear_within _ _ xs.note c in
+      let own = clean_parts _ head.note whole.0 in
       by_parts (of_stmt (stmt.Loop label head.it xs.it closing)) (of_kind head.it ++ in_turn (map of_stmt xs.it))
       (eq.of_loop sourcing label head.it xs.it closing)
-      (every_append SourceBelow (of_kind head.it) (in_turn (map of_stmt xs.it)) (head_fine k spot.scope slots p parts.0)
-      (each_fine of_stmt gs h inner head.slots p parts.1))
+      (every_append SourceBelow (of_kind head.it) (in_turn (map of_stmt xs.it)) (head_fine k spot.scope slots p own.1)
+      (each_fine of_stmt gs h inner head.slots p whole.1))
 
   assign_fine : (name : Name) (e : Expr) (spot : Spot) → Placed spot.scope → (v : Option Variable)
       → Clean (assigned name v (named_expr e spot.scope)).note → AllBelow (of_stmt (assigned name v (named_expr e spot.scope)).it)
   unfolding assigned
-  assign_fine name e spot p None c = single_fine e spot.scope p (clean_parts (breaks 7 true) (named_expr e spot.scope).note c).1
-  assign_fine name e spot p (Some v) c = single_fine e spot.scope p (clean_parts (breaks 11 v.constant) (named_expr e spot.scope).note c).1
+  assign_fine name e spot p None c = single_fine e spot.scope p (clean_parts (breaks rule.Names true) (named_expr e spot.scope).note c).1
+  assign_fine name e spot p (Some v) c = single_fine e spot.scope p (clean_parts (breaks rule.Constants v.constant) (named_expr e spot.scope).note c).1
 
   -- ---- all statements
 
@@ -182,7 +186,7 @@ module _ (tables : ℕ) where
   mutual
     pub stmt_fine : (x : Stmt) → FineBy of_stmt (stmt_of resolving x)
     stmt_fine (b.Block' label decls m body closing) = block_fine label decls (stmts_of resolving body) closing (stmts_fine body)
-    stmt_fine (b.Assign name slot e) = λ spot slots p c. assign_fine name e spot p (variable_named name spot.scope.variables) (clean_parts _ _ c).1
+    stmt_fine (b.Assign name slot e) = λ spot slots p c. assign_fine name e spot p (variable_named name spot.scope.variables) (clean_parts _ _ (clear_own 1 _ c)).1
     stmt_fine (b.If' m arms o) =
         branched_fine (λ arms o. stmt.If arms o) (λ arms o. eq.of_if sourcing arms o) (branches_of resolving arms) (else_of resolving o)
         (branches_fine arms) (else_fine o)
@@ -190,9 +194,9 @@ module _ (tables : ℕ) where
         branched_fine (λ arms o. stmt.Cases arms o) (λ arms o. eq.of_cases sourcing arms o) (branches_of resolving arms) (else_of resolving o)
         (branches_fine arms) (else_fine o)
     stmt_fine (b.Loop' label k m body closing) = loop_fine label k (stmts_of resolving body) closing (stmts_fine body)
-    stmt_fine (b.Exit label when) = λ spot slots p c. maybe_fine when spot.scope p (clean_parts _ _ (clean_parts _ _ c).1).1
-    stmt_fine (b.Continue label when) = λ spot slots p c. maybe_fine when spot.scope p (clean_parts _ _ (clean_parts _ _ c).1).1
-    stmt_fine (b.Return e) = λ spot slots p c. single_fine e spot.scope p c
+    stmt_fine (b.Exit label when) = λ spot slots p c. maybe_fine when spot.scope p (clean_parts _ _ (clean_parts _ _ (clear_own 1 _ c)).1).1
+    stmt_fine (b.Continue label when) = λ spot slots p c. maybe_fine when spot.scope p (clean_parts _ _ (clean_parts _ _ (clear_own 1 _ c)).1).1
+    stmt_fine (b.Return e) = λ spot slots p c. single_fine e spot.scope p (clear_own 1 _ c)
     stmt_fine (b.Raise raised) = λ spot slots p c. tt
     stmt_fine (b.Into strict targets query) = λ spot slots p c. tt
     stmt_fine b.Nothing = λ spot slots p c. tt

@@ -1,5 +1,5 @@
 -- A tree whose names are resolved and break no rule reads tables that are seen there alone.
-use Rattle.std.proofs.Common.{◌≡◌, sym, ap, subst, ℕ, suc, arith, Bool, List, [], ◌∷◌, ◌++◌, map, fold, length, Option, Some, None, option_map}
+use Rattle.std.proofs.Common.{◌≡◌, sym, ap, subst, ℕ, suc, Bool, List, [], ◌∷◌, ◌++◌, map, fold, length, Option, Some, None, option_map}
 use Rattle.std.specs.Prelude.{is_some}
 use Rattle.std.specs.List.{flat_map}
 use Rattle.away_values.specs.declared.operators.ChainOp.{ChainOp}
@@ -11,6 +11,7 @@ use Rattle.away_trees.specs.declared.queries.Key.{Key}
 use Rattle.away_trees.specs.declared.queries.Select.{Select}
 use Rattle.away_trees.specs.Algebra.{expr_of, source_of, from_of, item_of, key_of, select_of, query_of}
 use Rattle.away_trees.proofs.Equations as eq
+use Rattle.away_names.specs.declared.rule.Rule.TheVariants as rule
 use Rattle.away_names.specs.declared.note.Noted.{Noted}
 use Rattle.away_names.specs.declared.note.Shown.{Shown}
 use Rattle.away_names.specs.declared.note.Framed.{Framed}
@@ -154,7 +155,7 @@ module _ (tables : ℕ) where
     table_below : (x : Name) (t : Option Listed) → ListedBelow tables t → Clean (n.of_table x t).note
         → BelowAt tables (suc (depth s)) (source_of reading (n.of_table x t).it.source (n.of_table x t).it.columns)
     unfolding n.of_table
-    table_below x None h c = absurd (not_broken 9 (omega arith) c)
+    table_below x None h c = absurd (not_broken rule.Tables c)
     table_below x (Some t) h c = (h, tt)
 
     abbrev FromBelow : FromItem → Type 0
@@ -209,12 +210,12 @@ module _ (tables : ℕ) where
 
   unwritten_below : (d : ℕ) (e : Expr) → Clean (n.unwritten e).note → ExprBelow tables d (n.unwritten e).it
   unfolding n.unwritten
-  unwritten_below d e c = absurd (not_broken 7 (omega arith) c)
+  unwritten_below d e c = absurd (not_broken rule.Names c)
 
-  whole_below : (q : List n.Listing) → Every Selects q → (with_ : Bool) (s : Scope) → Within tables s → Clean (joined (breaks 13 with_) (n.united q s).note) → BelowAt tables (depth s) (query_of reading (n.query_with (n.united q s).it).it)
+  whole_below : (q : List n.Listing) → Every Selects q → (with_ : Bool) (s : Scope) → Within tables s → Clean (joined (breaks rule.Types with_) (n.united q s).note) → BelowAt tables (depth s) (query_of reading (n.query_with (n.united q s).it).it)
   whole_below q h with_ s w c =
       by_reads (depth s) _ _ (eq.of_query reading (n.united q s).it.it)
-      (flat (depth s) (λ x. select_of reading x) (n.united q s).it.it (selects_below s w q h n.no_select (λ c. tt) (clean_parts (breaks 13 with_) (n.united q s).note c).1))
+      (flat (depth s) (λ x. select_of reading x) (n.united q s).it.it (selects_below s w q h n.no_select (λ c. tt) (clean_parts (breaks rule.Types with_) (n.united q s).note c).1))
 
   abbrev MaybeAnywhere : Option n.Term → Type 0
   MaybeAnywhere o = (s : Scope) (w : Within tables s) → MaybeExprs s w o
@@ -280,7 +281,7 @@ module _ (tables : ℕ) where
         let both = clean_parts (n.part_note s alias columns) (x columns s level).note c in
         k columns s level w both.1;
     item = λ x y z alias k s w c. k s w (clean_parts (n.maybe_written s alias) (x.judge s).note c).1;
-    key = λ x y z descending k aliases s w c. k s w (clean_parts (breaks 8 (n.is_alias aliases x.alone)) (x.judge s).note c).1;
+    key = λ x y z descending k aliases s w c. k s w (clean_parts (breaks rule.Ambiguity (n.is_alias aliases x.alone)) (x.judge s).note c).1;
     select = λ l₁ l₂ l₃ f₁ f₂ f₃ w₁ w₂ w₃ o₁ o₂ o₃ m₁ m₂ m₃ lr fr wr kr mr.
         listing_below l₁ f₁ w₁ o₁ m₁ (firsts (λ x y z. Items x) Items (λ x y z r. r) l₁ l₂ l₃ lr) (firsts (λ x y z. Froms x) Froms (λ x y z r. r) f₁ f₂ f₃ fr) (λ s w. option s w w₁ w₂ w₃ wr) (firsts (λ x y z. Keys x) Keys (λ x y z r. r) o₁ o₂ o₃ kr) (λ s w. option s w m₁ m₂ m₃ mr);
     recursive = λ name columns xs ys zs x y z r k. tt;

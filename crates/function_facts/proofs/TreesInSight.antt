@@ -1,5 +1,5 @@
 -- In every tree whose names are resolved and break no rule, the slots are those of the scope's variables.
-use Rattle.std.proofs.Common.{◌≡◌, sym, ap, subst, ℕ, suc, arith, Bool, List, [], ◌∷◌, ◌++◌, map, fold, Option, Some, None, option_map}
+use Rattle.std.proofs.Common.{◌≡◌, sym, ap, subst, ℕ, suc, Bool, List, [], ◌∷◌, ◌++◌, map, fold, Option, Some, None, option_map}
 use Rattle.std.specs.Prelude.{is_some}
 use Rattle.std.specs.List.{flat_map}
 use Rattle.away_values.specs.declared.operators.ChainOp.{ChainOp}
@@ -11,6 +11,7 @@ use Rattle.away_trees.specs.declared.queries.Key.{Key}
 use Rattle.away_trees.specs.declared.queries.Select.{Select}
 use Rattle.away_trees.specs.Algebra.{expr_of, from_of, item_of, key_of, select_of, query_of}
 use Rattle.away_trees.proofs.Equations as eq
+use Rattle.away_names.specs.declared.rule.Rule.TheVariants as rule
 use Rattle.away_names.specs.declared.note.Noted.{Noted}
 use Rattle.away_names.specs.declared.note.Shown.{Shown}
 use Rattle.away_names.specs.declared.note.Framed.{Framed}
@@ -216,12 +217,12 @@ module _ (s : Scope) where
 
 unwritten_seen : (vs : List Variable) (e : Expr) → Clean (n.unwritten e).note → SeesExpr vs (n.unwritten e).it
 unfolding n.unwritten
-unwritten_seen vs e c = absurd (not_broken 7 (omega arith) c)
+unwritten_seen vs e c = absurd (not_broken rule.Names c)
 
-whole_seen : (q : List n.Listing) → Every Selects q → (with_ : Bool) (s : Scope) → Clean (joined (breaks 13 with_) (n.united q s).note) → SeesAt s.variables (query_of reading (n.query_with (n.united q s).it).it)
+whole_seen : (q : List n.Listing) → Every Selects q → (with_ : Bool) (s : Scope) → Clean (joined (breaks rule.Types with_) (n.united q s).note) → SeesAt s.variables (query_of reading (n.query_with (n.united q s).it).it)
 whole_seen q h with_ s c =
     by_reads s.variables _ _ (eq.of_query reading (n.united q s).it.it)
-    (flat s.variables (λ x. select_of reading x) (n.united q s).it.it (selects_seen s q h n.no_select (λ c. tt) (clean_parts (breaks 13 with_) (n.united q s).note c).1))
+    (flat s.variables (λ x. select_of reading x) (n.united q s).it.it (selects_seen s q h n.no_select (λ c. tt) (clean_parts (breaks rule.Types with_) (n.united q s).note c).1))
 
 listing_seen : (l : List n.Entry) (f : List n.Piece) (w : Option n.Term) (o : List n.Sort) (m : Option n.Term) → Every Items l → Every Froms f → ((s : Scope) → MaybeExprs s w) → Every Keys o → ((s : Scope) → MaybeExprs s m) → Selects (n.listing (record { list = l; from = f; filter = w; order = o; limit = m }))
 listing_seen l f w o m lh fh wh oh mh s c =
@@ -284,7 +285,7 @@ steps = record {
       let both = clean_parts (n.part_note s alias columns) (x columns s level).note c in
       k columns s level both.1 (x columns s level).it.columns d;
   item = λ x y z alias k s c. k s (clean_parts (n.maybe_written s alias) (x.judge s).note c).1;
-  key = λ x y z descending k aliases s c. k s (clean_parts (breaks 8 (n.is_alias aliases x.alone)) (x.judge s).note c).1;
+  key = λ x y z descending k aliases s c. k s (clean_parts (breaks rule.Ambiguity (n.is_alias aliases x.alone)) (x.judge s).note c).1;
   select = λ l₁ l₂ l₃ f₁ f₂ f₃ w₁ w₂ w₃ o₁ o₂ o₃ m₁ m₂ m₃ lr fr wr kr mr.
       listing_seen l₁ f₁ w₁ o₁ m₁ (firsts (λ x y z. Items x) Items (λ x y z r. r) l₁ l₂ l₃ lr) (firsts (λ x y z. Froms x) Froms (λ x y z r. r) f₁ f₂ f₃ fr) (λ s. option s w₁ w₂ w₃ wr) (firsts (λ x y z. Keys x) Keys (λ x y z r. r) o₁ o₂ o₃ kr) (λ s. option s m₁ m₂ m₃ mr);
   recursive = λ name columns xs ys zs x y z r k. tt;

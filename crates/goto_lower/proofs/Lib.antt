@@ -13,14 +13,12 @@ pub mod BuiltWhole
 pub mod Raising
 pub mod DraftRules
 pub mod SizeEquations
-pub mod ReadEquations
 pub mod BuildingEquations
 pub mod BuiltSizes
 pub mod Emitting
 pub mod Walk
 pub mod WholeWalk
 pub mod BuildingRules
-pub mod FirstOccurrences
 pub mod ForTests
 pub mod BuiltKeys
 pub mod BuiltFound

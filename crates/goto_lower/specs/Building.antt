@@ -162,7 +162,8 @@ module _ (n : Numbers) where
     first = λ start next. decls_first decls start (row_first body (start + decls_many decls) next);
     blocks = λ p around next start.
         decls_blocks decls (after p a_node) (row_first body (start + decls_many decls) next) start
-        ++ row_blocks body (after p (after a_node (decls_size decls))) (record { label = label; exit = next; again = None } ∷ around) next (start + decls_many decls);
+        ++ row_blocks body (after p (after a_node (decls_size decls))) (record { label = label; exit = next; again = None }
+        ∷ around) next (start + decls_many decls);
     firsts = λ start next.
         decls_first decls start (row_first body (start + decls_many decls) next)
         ∷ (decls_firsts decls start ++ row_firsts body (start + decls_many decls) next);
@@ -299,7 +300,8 @@ module _ (n : Numbers) where
     first = λ start next. start;
     blocks = λ p around next start.
         for_blocks reverse e1 e2 by p (row_first body (head_at by start + 4) (head_at by start + 1 + 1)) next start
-        ++ row_blocks body (after p (count_size by)) (record { label = label; exit = next; again = Some (head_at by start + 1 + 1) } ∷ around) (head_at by start + 1 + 1) (head_at by start + 4);
+        ++ row_blocks body (after p (count_size by)) (record { label = label; exit = next; again = Some (head_at by start + 1 + 1) }
+        ∷ around) (head_at by start + 1 + 1) (head_at by start + 4);
     firsts = λ start next. start ∷ row_firsts body (head_at by start + 4) (head_at by start + 1 + 1);
     vars = slot ty.Bigint ∷ [] ++ row_vars body;
   }

@@ -2,4 +2,3 @@ pub mod Building
 pub mod Whole
 pub mod Drafts
 pub mod Enclosings
-pub mod Occurrences

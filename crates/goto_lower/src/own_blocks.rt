@@ -48,7 +48,8 @@ pub(crate) fn push_leave(
     to: u32,
     next: u32,
 ) -> Result<(), NoMemory>
-    ensures { OnOk result (draft.new ≡ pushed (spec.leave_block when.now draft.old.place.expr to next) (begun (laid.place 1 (laid.one_if when.now) 0 0) (length draft.old.blocks) draft.old)) }
+    ensures { OnOk result (draft.new ≡ pushed (spec.leave_block when.now draft.old.place.expr to next)
+        (begun (laid.place 1 (laid.one_if when.now) 0 0) (length draft.old.blocks) draft.old)) }
 {
     let at = draft.place;
     let start = draft.here()?;
@@ -70,7 +71,8 @@ pub(crate) fn push_jump(draft: &mut Draft, size: Position, next: u32) -> Result<
 
 #[tactic(auto, using(crate::proofs::DraftRules::draft_rules))]
 pub(crate) fn push_return(alloc: Global, draft: &mut Draft, e: &Expr) -> Result<(), NoMemory>
-    ensures { OnOk result (draft.new ≡ pushed (patterns.returns (patterns.source_term draft.old.place.expr e.now)) (begun with_expr (length draft.old.blocks) draft.old)) }
+    ensures { OnOk result (draft.new ≡ pushed (patterns.returns (patterns.source_term draft.old.place.expr e.now))
+        (begun with_expr (length draft.old.blocks) draft.old)) }
 {
     let at = draft.place;
     let start = draft.here()?;
@@ -150,7 +152,8 @@ pub(crate) fn push_test(
     first: u32,
     other: u32,
 ) -> Result<(), NoMemory>
-    ensures { OnOk result (draft.new ≡ pushed (patterns.branches false (patterns.source_term draft.old.place.expr test.now) first other) (begun with_expr (length draft.old.blocks) draft.old)) }
+    ensures { OnOk result (draft.new ≡ pushed (patterns.branches false (patterns.source_term draft.old.place.expr test.now) first other)
+        (begun with_expr (length draft.old.blocks) draft.old)) }
 {
     let at = draft.place;
     let start = draft.here()?;

@@ -40,7 +40,8 @@ fn else_first(
     body: &[Stmt],
     next: u32,
 ) -> Result<u32, NoMemory>
-    ensures { IfOk result (λ k. k ≡ spec.first_from (spec.row_many (row_in setting.now body.now)) (length draft.now.blocks + spec.arms_many (arms_in setting.now arms.now)) next) }
+    ensures { IfOk result (λ k. k ≡ spec.first_from (spec.row_many (row_in setting.now body.now))
+        (length draft.now.blocks + spec.arms_many (arms_in setting.now arms.now)) next) }
 {
     let from = sum(draft.here()?, arms_many(setting, arms)?)?;
     let inside = row_many(setting, body)?;
@@ -225,7 +226,8 @@ fn push_cases(
     arms: &[Arm],
     flow: &Flow<'_>,
 ) -> Result<(), NoMemory>
-    ensures { OnOk result (draft.new ≡ emitted (spec.branched (arms_in setting.now arms.now) None (Some case_not_found)) (frames_of flow.now.around.now) flow.now.next draft.old) }
+    ensures { OnOk result (draft.new ≡ emitted (spec.branched (arms_in setting.now arms.now) None (Some case_not_found))
+        (frames_of flow.now.around.now) flow.now.next draft.old) }
 {
     let lack = sum(draft.here()?, arms_many(setting, arms)?)?;
     push_tests(alloc, setting, draft, arms, flow, lack)?;
@@ -265,7 +267,8 @@ fn push_loop(
     body: &[Stmt],
     flow: &Flow<'_>,
 ) -> Result<(), NoMemory>
-    ensures { OnOk result (draft.new ≡ emitted (spec.loop_built setting.now.numbers label.now kind.now (row_in setting.now body.now)) (frames_of flow.now.around.now) flow.now.next draft.old) }
+    ensures { OnOk result (draft.new ≡ emitted (spec.loop_built setting.now.numbers label.now kind.now (row_in setting.now body.now))
+        (frames_of flow.now.around.now) flow.now.next draft.old) }
 {
     let many = row_many(setting, body)?;
     match kind {

@@ -3,13 +3,13 @@
 ghost use Rattle.std.specs.Prelude.{◌≡◌, [], ◌∷◌, IfOk};
 ghost use Rattle.block_forms.specs.Patterns as spec;
 
-use crate::occurrences::slots_of;
 use crate::sums::sum;
 use away_trees::Expr;
 use away_values::{NoMemory, Ty};
 use block_forms::{Fixed, Term};
 use sqlite_items::Items;
 use std::alloc::Global;
+use tree_events::slots_of;
 
 pub(crate) fn source_term(alloc: Global, k: u32, e: &Expr) -> Result<Term, NoMemory>
     ensures { IfOk result (λ t. t ≡ spec.source_term k e.now) }

@@ -11,6 +11,7 @@ use sqlite_items::Items;
 use std::alloc::Global;
 
 /// The first rows, as many as LIMIT says.
+/// The manual: 7.6, LIMIT and OFFSET. NULL keeps all; a negative number is 2201W, invalid_row_count_in_limit_clause.
 pub fn cut(alloc: Global, rows: &Rows, limit: &Value) -> Result<Rows, OpError>
     ensures { Answers (mapped rows_of (taken limit.now rows.now.list)) result }
 {

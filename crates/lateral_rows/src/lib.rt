@@ -18,7 +18,7 @@ pub use aggregates::{Aggregate, Aggregate as Fold};
 pub use aggregation::{aggregate, aggregate as fold};
 pub use cutting::{cut, cut_off};
 pub use extremes::most_extreme;
-pub use keeping::keep;
+pub use keeping::{keep, keep_into};
 pub use laws::{columns_keep_their_places, conditions_keep_rows, the_product_extends_rows};
 pub use ordering::{order, ordered_rows};
 pub use rows::{Rows, copied};

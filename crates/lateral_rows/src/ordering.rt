@@ -48,6 +48,7 @@ impl<'a> Lent<'a> {
 
 /// The rows in the order of their keys, which stand for each row in a list of its own. NULL comes last where a key rises and first where it falls,
 /// and rows with equal keys keep their order. A row without keys falls away, a key that is missing in a list is NULL.
+/// The manual: 7.5, Sorting Rows. That rows with equal keys keep their order is our own choice.
 pub fn order(
     alloc: Global,
     rows: &Rows,

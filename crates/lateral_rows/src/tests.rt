@@ -1,6 +1,6 @@
 //! Each part of a select once, on rows of integers.
 
-use crate::{Aggregate, Rows, aggregate, cut, extend, keep, order};
+use crate::{Aggregate, Rows, aggregate, cut, extend, keep, keep_into, order};
 use away_values::Value;
 use sqlite_items::Items;
 use std::process::Abort;
@@ -46,6 +46,16 @@ fn parts_of_a_select(rt: HostRuntime) {
     let flags = [Value::Bool(true), Value::Null, Value::Bool(true)];
     let some = keep(rt.alloc(), &three, &flags).expect(&rt, "memory");
     assert!(rt; shown(&rt, &some).as_str() == " 3, 2,");
+    let mut kept = rows(&rt, &[9]);
+    let two = rows(&rt, &[4, 5]);
+    keep_into(
+        rt.alloc(),
+        &mut kept,
+        &two,
+        &[Value::Null, Value::Bool(true)],
+    )
+    .expect(&rt, "memory");
+    assert!(rt; shown(&rt, &kept).as_str() == " 9, 5,");
     let keys = [row(&rt, &[1, 5]), row(&rt, &[1, 6]), row(&rt, &[0, 5])];
     let sorted = order(rt.alloc(), &three, &keys, &[true, false]).expect(&rt, "memory");
     assert!(rt; shown(&rt, &sorted).as_str() == " 3, 1, 2,");

@@ -5,6 +5,7 @@ ghost use Rattle.away_values.specs.Operators as op;
 
 use away_values::Value;
 
+/// Whether a condition holds: NULL isn't true (the manual: 7.2.2, The WHERE Clause).
 pub fn is_true(v: &Value) -> bool
     ensures { result ≡ op.is_true v.now }
 {

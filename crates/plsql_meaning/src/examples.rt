@@ -39,7 +39,7 @@ ghost use Rattle.plsql_meaning.specs.Examples.{
   while_only,
 };
 
-/// A turn is counted as a loop's body begins, over all loops. A test that fails, or faults, takes none.
+/// A turn is counted as a loop's body begins, over all loops. A test that fails, or faults, takes none. Turns are our own choice.
 pub fn turns_are_counted_over_all_loops()
     ensures plain_labels { answer_at labelled 7 ≡ answer.Value (int 4) }
     ensures plain_more { answer_at labelled 6 ≡ answer.More }
@@ -51,7 +51,7 @@ pub fn turns_are_counted_over_all_loops()
 {}
 
 /// FOR counts by a counter of its own, which ends without a fault at either end of the range. Its bounds and its step are taken once, from left to
-/// right.
+/// right. The manual: 43.6.5.5, FOR (Integer Variant). The order of the bounds and the step is our own choice.
 pub fn for_has_its_own_counter()
     ensures sum { answer_at (summing false (n 1) (n 4) None) 4 ≡ answer.Value (int 10) }
     ensures fewer { answer_at (summing false (n 1) (n 4) None) 3 ≡ answer.More }
@@ -71,6 +71,7 @@ pub fn for_has_its_own_counter()
 {}
 
 /// IF, CASE, EXIT and CONTINUE take a condition only where it is true; a CASE without a match and without ELSE raises 20000.
+/// The manual: 43.6.4, Conditionals. 20000 is case_not_found.
 pub fn a_condition_is_taken_where_it_is_true()
     ensures first { answer_at (deciding (expr.Bool true) by_zero) 0 ≡ answer.Value (int 1) }
     ensures second { answer_at (deciding expr.Null (expr.Bool true)) 0 ≡ answer.Value (int 2) }
@@ -85,7 +86,7 @@ pub fn a_condition_is_taken_where_it_is_true()
 {}
 
 /// A variable starts as its default, which is evaluated each time that the block is entered, or as NULL. A slot that is NOT NULL takes no NULL; the
-/// value's own fault comes first.
+/// value's own fault comes first. The manual: 43.3, Declarations. NULL in a NOT NULL slot is 22004, null_value_not_allowed.
 pub fn blocks_have_their_variables()
     ensures leaves { answer_at leaving 0 ≡ answer.Value (int 2) }
     ensures leaves_the_loop { answer_at leaving_the_loop 1 ≡ answer.Value (int 2) }
@@ -99,7 +100,7 @@ pub fn blocks_have_their_variables()
 {}
 
 /// A function that falls off its end raises 2F005, RAISE raises P0001 or the class that is written, and a STRICT function doesn't run where an
-/// argument is NULL.
+/// argument is NULL. The manual: 43.6.1, Returning from a Function, 43.9.1, Reporting Errors and Messages, and CREATE FUNCTION.
 pub fn a_function_ends_as_its_body_does()
     ensures ending { answer_at ending 0 ≡ answer.Fault (class (codes "2F005")) }
     ensures message { answer_at message 0 ≡ answer.Fault (class (codes "P0001")) }
@@ -109,6 +110,7 @@ pub fn a_function_ends_as_its_body_does()
 {}
 
 /// SELECT INTO sets its targets from the first row, from left to right, or to NULL where there is none. With STRICT there is exactly one row.
+/// The manual: 43.5.3. P0002 is no_data_found, and P0003 too_many_rows.
 pub fn select_into_sets_its_targets()
     ensures selected { called (selecting true) [] ((int 7 ∷ []) ∷ []) (int 1) 0 ≡ answer.Value (int 7) }
     ensures no_row { called (selecting false) [] [] (int 1) 0 ≡ answer.Value val.Null }

@@ -270,7 +270,7 @@ fn is_of(group: Group, attribute: Attribute) -> bool
     }
 }
 
-/// Whether the attributes make the function strict.
+/// Whether the attributes make the function strict. The manual: CREATE FUNCTION, where STRICT and RETURNS NULL ON NULL INPUT are the same.
 pub fn makes_strict(found: &[Attribute]) -> bool
     ensures { result ≡ list_any grammar.makes_strict found.now }
 {

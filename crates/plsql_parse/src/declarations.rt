@@ -1,4 +1,4 @@
-//! Declarations of variables (PostgreSQL manual, PL/pgSQL: Declarations).
+//! Declarations of variables (PostgreSQL manual, 43.3, Declarations).
 
 ghost use Rattle.std.specs.Prelude.{◌≡◌, ◌≤◌, ◌<◌, true, false, length, IfOk};
 ghost use Rattle.away_grammar.specs.FunctionGrammar.{decl, decls, default};

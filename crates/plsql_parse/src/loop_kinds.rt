@@ -1,4 +1,4 @@
-//! What stands before LOOP (PostgreSQL manual, PL/pgSQL: Simple Loops).
+//! What stands before LOOP (PostgreSQL manual, 43.6.5, Simple Loops).
 
 ghost use Rattle.std.specs.Prelude.{◌≡◌, ◌≤◌, length};
 ghost use Rattle.away_grammar.specs.FunctionGrammar.{kind, step};

@@ -69,7 +69,7 @@ const OUTSIDE: [&str; 58] = [
     "with",
 ];
 
-/// The first word outside the profile, of the whole file's list and then of the body's.
+/// The first word outside the profile, of the whole file's list and then of the body's. What the profile leaves out is our own choice.
 pub fn outside_word<'a>(outer: &[Token<'a>], inner: &[Token<'a>]) -> Option<Token<'a>>
     requires outer { AreSpelled (map seen outer.now) }
     requires inner { AreSpelled (map seen inner.now) }

@@ -1,4 +1,4 @@
-//! Statements that hold no others (PostgreSQL manual, PL/pgSQL: Basic Statements, Control Structures, Errors and Messages).
+//! Statements that hold no others (PostgreSQL manual, 43.5, 43.6 and 43.9, Errors and Messages).
 
 ghost use Rattle.std.specs.Prelude.{◌≡◌, ◌≤◌, length};
 ghost use Rattle.away_grammar.specs.declared.grammar.Mark.TheVariants.{Null, Return};

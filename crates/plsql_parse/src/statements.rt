@@ -1,4 +1,4 @@
-//! Statements and blocks, by descent (PostgreSQL manual, PL/pgSQL: Structure of PL/pgSQL, Control Structures).
+//! Statements and blocks, by descent (PostgreSQL manual, 43.2, Structure of PL/pgSQL, and 43.6, Control Structures).
 
 ghost use Rattle.std.specs.Prelude.{◌≡◌, ◌≤◌, ◌<◌, ◌∷◌, ◌⊎◌, length, IfOk, Some, None};
 ghost use Rattle.std.specs.Bool.{OnTrue, OnFalse};

@@ -77,7 +77,10 @@ pub(crate) fn enter_count<'a>(
     var: usize,
     body: Stretch<'a>,
 ) -> Result<Signal<'a>, OpError>
-    ensures runs { (name : List ℕ) → let set = meant setting.now in GoesOn set stack.old (λ n. meaning.loop set (kind.Count name reverse first.now last.now by.now) label.now var (body_of set body.entry) env.old n) stack.new env.new result }
+    ensures runs { (name : List ℕ) → let set = meant setting.now
+        in GoesOn set stack.old
+        (λ n. meaning.loop set (kind.Count name reverse first.now last.now by.now) label.now var (body_of set body.entry) env.old n)
+        stack.new env.new result }
     ensures ends { IfEnds result (stack.new ≡ stack.old) }
 {
     let from = bound(alloc, setting, env, first)?;

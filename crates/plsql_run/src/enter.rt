@@ -37,7 +37,9 @@ fn enter_block<'a>(
     body: Stretch<'a>,
 ) -> Result<Signal<'a>, OpError>
     requires { at + length decls.now < 2 ^ 64 }
-    ensures runs { let set = meant setting.now in GoesOn set stack.old (λ n. close label.now (and_then (meaning.declare set decls.now at env.old n) (body_of set body.entry))) stack.new env.new result }
+    ensures runs { let set = meant setting.now
+        in GoesOn set stack.old (λ n. close label.now (and_then (meaning.declare set decls.now at env.old n)
+        (body_of set body.entry))) stack.new env.new result }
     ensures ends { IfEnds result (load stack.new ≡ load stack.old + (2 + 3 * sum_by nodes_of body.entry.list)) }
 {
     declare(alloc, setting, env, decls, at)?;
@@ -137,7 +139,9 @@ fn enter_loop<'a>(
 ) -> Result<Signal<'a>, OpError>
     requires few { at + (meaning.kind_vars kind.now + sum_by slots_of list.now) < 2 ^ 64 }
     requires laid { layouts.now ≡ layouts_of list.now }
-    ensures runs { let set = meant setting.now in GoesOn set stack.old (λ n. meaning.loop set kind.now label.now at (meaning.in_row (meaning.meanings set list.now) (meaning.body_at kind.now at)) env.old n) stack.new env.new result }
+    ensures runs { let set = meant setting.now
+        in GoesOn set stack.old (λ n. meaning.loop set kind.now label.now at (meaning.in_row (meaning.meanings set list.now)
+        (meaning.body_at kind.now at)) env.old n) stack.new env.new result }
     ensures ends { IfEnds result (stack.new ≡ stack.old) }
 {
     match kind {

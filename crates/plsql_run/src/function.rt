@@ -145,6 +145,7 @@ pub(crate) fn run_over(
 /// What a checked function answers over tables and arguments within so many turns of its loops: a value, the class of a fault, or that it needs
 /// more turns. A bound of 0 runs what stands before the first turn. Nothing is asked of tables and arguments: where they fit the schema and the
 /// parameters' types, the answer is that of the function as it is written.
+/// The bound is in turns over all loops, which is our own choice. The manual: 43.5, Basic Statements, and 43.6, Control Structures.
 pub fn run_function(
     alloc: Global,
     f: &CheckedFunction,

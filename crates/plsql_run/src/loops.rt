@@ -46,7 +46,8 @@ fn begin<'a>(
     behind: Frame<'a>,
     body: Stretch<'a>,
 ) -> Result<Signal<'a>, OpError>
-    ensures runs { (set : Meant) (env : Env) → GoesOn set stack.old (λ n. spec.taken env n (λ e m. resumed set behind.entry (body_of set body.entry e m))) stack.new env result }
+    ensures runs { (set : Meant) (env : Env)
+        → GoesOn set stack.old (λ n. spec.taken env n (λ e m. resumed set behind.entry (body_of set body.entry e m))) stack.new env result }
     ensures turn { IfEnds result ⊥ }
 {
     stack.push(behind)?;
@@ -60,7 +61,8 @@ pub(crate) fn begin_plain<'a>(
     label: &'a Option<Name>,
     body: Stretch<'a>,
 ) -> Result<Signal<'a>, OpError>
-    ensures runs { (set : Meant) (env : Env) → GoesOn set stack.old (λ n. spec.turning spec.always label.now (body_of set body.entry) tt env n) stack.new env result }
+    ensures runs { (set : Meant) (env : Env)
+        → GoesOn set stack.old (λ n. spec.turning spec.always label.now (body_of set body.entry) tt env n) stack.new env result }
     ensures ends { IfEnds result (stack.new ≡ stack.old) }
 {
     let first = body.again();
@@ -77,7 +79,8 @@ pub(crate) fn begin_while<'a>(
     test: &'a Expr,
     body: Stretch<'a>,
 ) -> Result<Signal<'a>, OpError>
-    ensures runs { let set = meant setting.now in GoesOn set stack.old (λ n. spec.turning (spec.while (set.value test.now)) label.now (body_of set body.entry) tt env.now n) stack.new env.now result }
+    ensures runs { let set = meant setting.now
+        in GoesOn set stack.old (λ n. spec.turning (spec.while (set.value test.now)) label.now (body_of set body.entry) tt env.now n) stack.new env.now result }
     ensures ends { IfEnds result (stack.new ≡ stack.old) }
 {
     let v = setting.value(alloc, test, env)?;
@@ -159,7 +162,8 @@ pub(crate) fn resume_count<'a>(
     counter: Value,
     counting: Counting<'a>,
 ) -> Result<Signal<'a>, OpError>
-    ensures runs { (set : Meant) → GoesOn set stack.old (λ n. spec.moved ((count_of counting.entry).next counter) (count_run set counting.entry) env.old n) stack.new env.new result }
+    ensures runs { (set : Meant) → GoesOn set stack.old (λ n. spec.moved ((count_of counting.entry).next counter)
+        (count_run set counting.entry) env.old n) stack.new env.new result }
     ensures ends { IfEnds result (stack.new ≡ stack.old) }
 {
     match next_count(counting.reverse, &counter, &counting.step) {

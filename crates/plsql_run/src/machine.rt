@@ -69,7 +69,8 @@ fn resume<'a>(
     frame: Frame<'a>,
     way: Way<'a>,
 ) -> Result<Signal<'a>, OpError>
-    ensures runs { let set = meant setting.now in GoesOn set stack.old (λ n. resumed set frame.entry (done (outcome way.entry) env.old n)) stack.new env.new result }
+    ensures runs { let set = meant setting.now
+        in GoesOn set stack.old (λ n. resumed set frame.entry (done (outcome way.entry) env.old n)) stack.new env.new result }
     ensures ends { IfEnds result (load stack.new < load stack.old + cost frame.entry) }
 {
     match frame {

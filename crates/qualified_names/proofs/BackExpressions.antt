@@ -9,6 +9,7 @@ use Rattle.away_values.specs.declared.operators.IsTest.{IsTest}
 use Rattle.away_trees.specs.declared.queries.Expr.{Expr}
 use Rattle.away_trees.specs.declared.queries.Expr.TheVariants as expr
 use Rattle.away_trees.specs.declared.queries.Query.{Query}
+use Rattle.away_names.specs.declared.rule.Rule.TheVariants as rule
 use Rattle.away_names.specs.declared.note.Noted.{Noted}
 use Rattle.away_names.specs.declared.note.Shown.{Shown}
 use Rattle.away_names.specs.declared.scope.Hit.{Hit}
@@ -37,7 +38,7 @@ abbrev pub BackQuery : Scope → Query → Type 0
 BackQuery s q =
     let x : Shown Query = qualified_shown q s.levels in
     let y : Noted (Shown Query) = named_query x.it s in
-    (y.it.it ≡ q) × (y.it.names ≡ x.names) × (y.note.least ≡ 255)
+    (y.it.it ≡ q) × (y.it.names ≡ x.names) × (y.note.least ≡ None)
 
 by : (s : Scope) (e w : Expr) → qualified_expr e s.levels ≡ w → Spells s w e → Back s e
 by s e w is h = subst (λ w. Spells s w e) (sym is) h
@@ -68,7 +69,7 @@ pub param_back : (s : Scope) (i : ℕ) (t : Ty) → s.in_function ≡ false → 
 unfolding n.shown last_of alone_of
 param_back s i t h =
     by s _ _ (d.param_is i t s.levels)
-    (record { gives = same_gives _ _ _ (r.param_is i t s) (refl, ap (λ b. (breaks 7 b).least) h ∙ unbroken 7); called = refl; alone = refl })
+    (record { gives = same_gives _ _ _ (r.param_is i t s) (refl, ap (λ b. (breaks rule.Names b).least) h ∙ unbroken rule.Names); called = refl; alone = refl })
 
 pub column_back : (s : Scope) (c : Col) (a x : Name) → s.in_function ≡ false → reference s.levels c ≡ expr.Dotted a x
     → column_qualified a x s.levels ≡ Some (record { column = c; many = false }) → Back s (expr.Column c)
@@ -177,7 +178,7 @@ call_back s name es h known k =
     by s _ _ (d.call_is name es s.levels)
     (record {
       gives = same_gives _ _ _ (r.call_is name _ s)
-          (also_gives _ _ _ (both_quiet _ _ (written_quiet s name h) (ap (λ b. (breaks 7 (not b)).least) known ∙ unbroken 7)) (mapped_gives (λ es. expr.Call name es) (each (named_in s) (map (qualified_in s.levels) es)) es (all_back s es k)));
+          (also_gives _ _ _ (both_quiet _ _ (written_quiet s name h) (ap (λ b. (breaks rule.Names (not b)).least) known ∙ unbroken rule.Names)) (mapped_gives (λ es. expr.Call name es) (each (named_in s) (map (qualified_in s.levels) es)) es (all_back s es k)));
       called = refl;
       alone = refl;
     })

@@ -8,6 +8,7 @@ use Rattle.away_trees.specs.declared.queries.Item.{Item}
 use Rattle.away_trees.specs.declared.queries.Key.{Key}
 use Rattle.away_trees.specs.declared.queries.Query.{Query}
 use Rattle.away_trees.specs.declared.queries.Expr.TheViews.{out-FromItem, roll-Item, roll-FromItem, roll-Key}
+use Rattle.away_names.specs.declared.rule.Rule.TheVariants as rule
 use Rattle.away_names.specs.declared.note.Note.{Note}
 use Rattle.away_names.specs.declared.note.Noted.{Noted}
 use Rattle.away_names.specs.declared.note.Shown.{Shown}
@@ -89,9 +90,9 @@ key_back s x descending aliases k =
     let w : Expr = qualified_expr x s.levels in
     let key : Key = roll-Key (record { expr = x; descending = descending }) in
     same_gives (named_key (qualified_key key s.levels) aliases s)
-    (also (breaks 8 (n.is_alias aliases (alone_of w))) (mapped (λ e. roll-Key (record { expr = e; descending = descending })) (named_expr w s))) key
+    (also (breaks rule.Ambiguity (n.is_alias aliases (alone_of w))) (mapped (λ e. roll-Key (record { expr = e; descending = descending })) (named_expr w s))) key
     (ap (λ k. named_key k aliases s) (d.key_rule key s.levels) ∙ r.key_rule (roll-Key (record { expr = w; descending = descending })) aliases s)
-    (also_gives _ (mapped (λ e. roll-Key (record { expr = e; descending = descending })) (named_expr w s)) key (ap (λ o. (breaks 8 (n.is_alias aliases o)).least) k.alone ∙ unbroken 8)
+    (also_gives _ (mapped (λ e. roll-Key (record { expr = e; descending = descending })) (named_expr w s)) key (ap (λ o. (breaks rule.Ambiguity (n.is_alias aliases o)).least) k.alone ∙ unbroken rule.Ambiguity)
     (mapped_gives (λ e. roll-Key (record { expr = e; descending = descending })) (named_expr w s) x k.gives))
 
 abbrev pub BackKey : Scope → Key → Type 0
@@ -115,7 +116,7 @@ pub record BackPart (s : Scope) (level : Level) (f : FromItem) : Type 0 where
 part_quiet : (s : Scope) (alias : Name) (columns : List Name) → s.in_function ≡ false → has_double columns ≡ false → IsQuiet (n.part_note s alias columns)
 unfolding n.part_note
 part_quiet s alias columns h differ =
-    both_quiet _ _ (written_quiet s alias h) (both_quiet _ _ (all_quiet s columns h) (ap (λ b. (breaks 6 b).least) differ ∙ unbroken 6))
+    both_quiet _ _ (written_quiet s alias h) (both_quiet _ _ (all_quiet s columns h) (ap (λ b. (breaks rule.Duplicates b).least) differ ∙ unbroken rule.Duplicates))
 
 none_doubled : has_double [] ≡ false
 unfolding has_double

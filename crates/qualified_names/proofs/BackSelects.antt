@@ -12,6 +12,7 @@ use Rattle.away_trees.specs.declared.queries.Recursive.{Recursive}
 use Rattle.away_trees.specs.declared.queries.Query.{Query}
 use Rattle.away_trees.specs.declared.queries.Expr.TheOpen.{Select-F, Query-F}
 use Rattle.away_trees.specs.declared.queries.Expr.TheViews.{out-Item, out-FromItem, roll-Select, roll-Query, out-roll-Select, out-roll-Query}
+use Rattle.away_names.specs.declared.rule.Rule.TheVariants as rule
 use Rattle.away_names.specs.declared.note.Note.{Note}
 use Rattle.away_names.specs.declared.note.Noted.{Noted}
 use Rattle.away_names.specs.declared.note.Shown.{Shown}
@@ -39,7 +40,7 @@ aliases from = map (λ f. (out-FromItem f).alias) from
 
 -- a select by its parts
 abbrev read_so : Fields → Scope → Noted (Shown Select)
-read_so x s = also (joined (breaks 6 (has_double (aliases x.from))) (named_from s x.from).note) (named_over x (inside (named_from s x.from).it.seen s) (named_from s x.from).it.items)
+read_so x s = also (joined (breaks rule.Duplicates (has_double (aliases x.from))) (named_from s x.from).note) (named_over x (inside (named_from s x.from).it.seen s) (named_from s x.from).it.items)
 
 named_fields : (x : Fields) (s : Scope) → named_select (roll-Select x) s ≡ read_so x s
 named_fields x s = r.select_rule (roll-Select x) s ∙ ap (λ (x : Fields). read_so x s) (out-roll-Select x)
@@ -69,7 +70,7 @@ select_back s list from filter limit order differ f l w o m =
     let x : Fields = record { list = list; from = from; filter = filter; order = order; limit = limit } in
     let y : Fields = record { list = (qualified_items here.levels list).it; from = fr.items; filter = option_map (qualified_in here.levels) filter; order = qualified_keys here.levels order; limit = option_map (qualified_in here.levels) limit } in
     let found : Noted Framed = named_from s fr.items in
-    let head : Note = joined (breaks 6 (has_double (aliases fr.items))) found.note in
+    let head : Note = joined (breaks rule.Duplicates (has_double (aliases fr.items))) found.note in
     let is : ReadsFrom found from fr.seen = from_read s from f in
     let over : named_over y (inside found.it.seen s) found.it.items ≡ named_over y here from = λ i. named_over y (inside (is.seen_is i) s) (is.items_are i) in
     let read : named_select (qualified_select (roll-Select x) s.levels).it s ≡ also head (named_over y here from) =
@@ -82,7 +83,7 @@ select_back s list from filter limit order differ f l w o m =
       it = ap (λ (z : Noted (Shown Select)). z.it.it) read ∙ (λ i. roll-Select (record { list = is_list.it i; from = from; filter = is_filter.0 i; order = is_order.0 i; limit = is_limit.0 i }));
       names = ap (λ (z : Noted (Shown Select)). z.it.names) read ∙ (is_list.names_are ∙ ap (λ (z : Shown Select). z.names) (sym (qualified_fields x s.levels)));
       quiet = ap (λ (z : Noted (Shown Select)). z.note.least) read
-          ∙ both_quiet head _ (both_quiet _ found.note (ap (λ b. (breaks 6 b).least) (ap has_double (same_aliases s from f) ∙ differ) ∙ unbroken 6) is.quiet)
+          ∙ both_quiet head _ (both_quiet _ found.note (ap (λ b. (breaks rule.Duplicates b).least) (ap has_double (same_aliases s from f) ∙ differ) ∙ unbroken rule.Duplicates) is.quiet)
           (both_quiet _ _ (both_quiet _ _ is_list.quiet is_filter.1) (both_quiet _ _ is_order.1 is_limit.1));
     }
 
@@ -124,10 +125,10 @@ query_back s xs e =
     let is = selects_back s xs e in
     let qualified : qualified_shown q s.levels ≡ record { it = w; names = ys.names } =
     d.query_rule q s.levels ∙ ap (λ (x : QueryFields). dot.query_of (option_map (λ r. qualified_recursive r s.levels) x.recursive) (qualified_selects s.levels x.selects)) (out-roll-Query (record { recursive = None; selects = xs })) in
-    let read : named_query (qualified_shown q s.levels).it s ≡ also (breaks 13 false) (mapped n.query_with found) =
+    let read : named_query (qualified_shown q s.levels).it s ≡ also (breaks rule.Types false) (mapped n.query_with found) =
     ap (λ (x : Shown Query). named_query x.it s) qualified
-    ∙ (r.query_rule w s ∙ ap (λ (x : QueryFields). also (breaks 13 (is_some x.recursive)) (mapped n.query_with (named_selects s x.selects))) (out-roll-Query (record { recursive = None; selects = ys.it }))) in (
+    ∙ (r.query_rule w s ∙ ap (λ (x : QueryFields). also (breaks rule.Types (is_some x.recursive)) (mapped n.query_with (named_selects s x.selects))) (out-roll-Query (record { recursive = None; selects = ys.it }))) in (
       ap (λ (z : Noted (Shown Query)). z.it.it) read ∙ ap (λ xs. roll-Query (record { recursive = None; selects = xs })) is.it,
       ap (λ (z : Noted (Shown Query)). z.it.names) read ∙ (is.names_are ∙ ap (λ (x : Shown Query). x.names) (sym qualified)),
-      ap (λ (z : Noted (Shown Query)). z.note.least) read ∙ both_quiet (breaks 13 false) found.note (unbroken 13) is.quiet,
+      ap (λ (z : Noted (Shown Query)). z.note.least) read ∙ both_quiet (breaks rule.Types false) found.note (unbroken rule.Types) is.quiet,
     )

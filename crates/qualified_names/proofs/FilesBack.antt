@@ -12,6 +12,7 @@ use Rattle.away_trees.specs.declared.queries.Query.{Query}
 use Rattle.away_trees.specs.declared.queries.Expr.TheOpen.{Recursive-F, Query-F}
 use Rattle.away_trees.specs.declared.queries.Expr.TheViews.{out-Recursive, out-Query, roll-Recursive, roll-Query, out-roll-Recursive, out-roll-Query, roll-out-Recursive, roll-out-Query}
 use Rattle.away_trees.specs.declared.schemas.Schema.{Schema}
+use Rattle.away_names.specs.declared.rule.Rule.TheVariants as rule
 use Rattle.away_names.specs.declared.note.File.{File}
 use Rattle.away_names.specs.declared.note.Shown.{Shown}
 use Rattle.away_names.specs.Files.{with_working, file_of, file}
@@ -47,7 +48,7 @@ filed schema xs o =
       query = roll-Query (record { recursive = Some (roll-Recursive (record { name = o.name; columns = o.columns; first = first.it.it; second = second.it.it })); selects = selects.it.it });
       first = first.note;
       second = second.note;
-      note = joined (joined (breaks 6 (has_double o.columns)) (joined first.note second.note)) selects.note;
+      note = joined (joined (breaks rule.Duplicates (has_double o.columns)) (joined first.note second.note)) selects.note;
     }
 
 pub record ReadsFile (schema : Schema) (f : File) (q : Query) : Type 0 where
@@ -73,7 +74,7 @@ terms_back schema (Some r) xs k =
           ∙ ((λ i. roll-Query (record { recursive = Some (roll-Recursive (record { name = o.name; columns = o.columns; first = first.it i; second = second.it i })); selects = selects.it i }))
           ∙ ap (λ r. roll-Query (record { recursive = Some r; selects = xs })) (roll-out-Recursive r));
       quiet = ap (λ (f : File). f.note.least) found
-          ∙ both_quiet _ _ (both_quiet _ _ (ap (λ b. (breaks 6 b).least) k.0 ∙ unbroken 6) (both_quiet _ _ first.quiet second.quiet)) selects.quiet;
+          ∙ both_quiet _ _ (both_quiet _ _ (ap (λ b. (breaks rule.Duplicates b).least) k.0 ∙ unbroken rule.Duplicates) (both_quiet _ _ first.quiet second.quiet)) selects.quiet;
     }
 
 pub file_back : (schema : Schema) (q : Query) → IsClearFile schema q → ReadsFile schema (file schema (qualified q)) q

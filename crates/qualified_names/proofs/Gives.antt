@@ -1,16 +1,19 @@
 -- What names stand for where no rule is broken.
-use Rattle.std.proofs.Common.{◌≡◌, refl, ap, sym, subst, ◌∙◌, ℕ, false, ◌&&◌, List, [], ◌∷◌, ◌++◌, map, fold, Option, Some, None, option_map}
+use Rattle.std.proofs.Common.{◌≡◌, refl, ap, sym, subst, ◌∙◌, false, ◌&&◌, List, [], ◌∷◌, ◌++◌, map, fold, Option, Some, None, option_map}
 use Rattle.std.proofs.lemmas.List.{append_assoc, append-nil}
+use Rattle.away_names.specs.declared.rule.Rule.TheVariants as rule
 use Rattle.away_names.specs.declared.note.Note.{Note}
 use Rattle.away_names.specs.declared.note.Noted.{Noted}
 use Rattle.away_names.specs.Lookups.{Name, Scope, is_kept}
 use Rattle.away_names.specs.Naming.{written, all_written, maybe_written}
-use Rattle.away_names.specs.Notes.{clean, joined, breaks, lesser, pure, mapped, also, paired, added, each, held}
+use Rattle.away_names.specs.declared.rule.Rule.{Rule}
+use Rattle.away_names.specs.Rules.{lesser}
+use Rattle.away_names.specs.Notes.{clean, joined, breaks, pure, mapped, also, paired, added, each, held}
 
 -- ---- notes
 
 abbrev pub IsQuiet : Note → Type 0
-IsQuiet m = m.least ≡ 255
+IsQuiet m = m.least ≡ None
 
 pub clean_quiet : IsQuiet clean
 unfolding clean
@@ -20,13 +23,13 @@ pub both_quiet : (a b : Note) → IsQuiet a → IsQuiet b → IsQuiet (joined a 
 unfolding joined lesser
 both_quiet a b h k = λ i. lesser (h i) (k i)
 
-pub unbroken : (rule : ℕ) → IsQuiet (breaks rule false)
+pub unbroken : (broken : Rule) → IsQuiet (breaks broken false)
 unfolding breaks
-unbroken rule = refl
+unbroken broken = refl
 
 pub written_quiet : (s : Scope) (n : Name) → s.in_function ≡ false → IsQuiet (written s n)
 unfolding written
-written_quiet s n h = ap (λ b. (breaks 14 (b && is_kept n)).least) h ∙ unbroken 14
+written_quiet s n h = ap (λ b. (breaks rule.Reserved (b && is_kept n)).least) h ∙ unbroken rule.Reserved
 
 names_quiet : (s : Scope) (ns : List Name) (m : Note) → s.in_function ≡ false → IsQuiet m → IsQuiet (fold (λ m x. joined m (written s x)) m ns)
 names_quiet s [] m h k = k

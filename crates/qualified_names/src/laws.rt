@@ -1,6 +1,6 @@
 //! What holds of queries with names again.
 
-ghost use Rattle.std.specs.Prelude.{◌≡◌, Some, false};
+ghost use Rattle.std.specs.Prelude.{◌≡◌, None, Some, false};
 ghost use Rattle.away_names.specs.Files.{file};
 ghost use Rattle.away_names.specs.declared.scope.Hit.{Hit};
 ghost use Rattle.away_names.specs.Lookups.{Name, column_qualified, column_named};
@@ -22,7 +22,7 @@ pub fn worked_queries_have_names()
 /// Where names are unambiguous, a query with names again stands for the query by places that it was, and breaks no rule of names.
 pub fn what_is_named_again_is_read_as_it_was()
     ensures query { (schema : Schema) (q : Query) → IsClearFile schema q → (file schema (qualified q)).query ≡ q }
-    ensures unbroken { (schema : Schema) (q : Query) → IsClearFile schema q → (file schema (qualified q)).note.least ≡ 255 }
+    ensures unbroken { (schema : Schema) (q : Query) → IsClearFile schema q → (file schema (qualified q)).note.least ≡ None }
 {}
 
 /// A column that a name stands for, alone or behind an alias, is called by the alias of its item and that name, and is found by them again.

@@ -9,6 +9,7 @@ use Rattle.away_names.specs.Functions as names_functions
 use Rattle.away_names.specs.Lookups as names_lookups
 use Rattle.away_names.specs.Naming as names_naming
 use Rattle.away_names.specs.Notes as names_notes
+use Rattle.away_names.specs.Rules as names_rules
 use Rattle.away_names.specs.Tables as names_tables
 use Rattle.away_names.specs.Trees as names_trees
 use Rattle.away_typing.specs.Aggregates as typing_aggregates
@@ -19,6 +20,7 @@ use Rattle.away_typing.specs.Trees as typing_trees
 use Rattle.away_typing.specs.Typing as typing_typing
 use Rattle.away_typing.specs.TypingLists as typing_typing_lists
 use Rattle.away_typing.specs.Wholes as typing_wholes
+use Rattle.away_types.specs.Findings as types_findings
 use Rattle.away_types.specs.ResolvedBodies as types_resolved_bodies
 use Rattle.away_types.specs.StatementRules as types_statement_rules
 use Rattle.away_types.specs.StatementTypes as types_statement_types
@@ -27,25 +29,29 @@ use Rattle.rule_tests.specs.Functions as functions
 use Rattle.rule_tests.specs.Queries as queries
 
 pub names_break : map functions.broken functions.names ≡ map functions.wanted functions.names
-unfolding b.hidden-the_row-Expr-0 b.hidden-the_row-Expr-Chain-1-2-1 b.hidden-the_row-Expr-2 b.hidden-the_row-Expr-Cases-0-2-3 b.hidden-the_row-Query-4 b.hidden-the_row-Select-5 b.hidden-the_row-Item-6 b.hidden-the_row-FromItem-7 b.hidden-the_row-Key-8 b.shown-the_row-Key-8 view.roll-Select view.roll-Recursive view.roll-Query view.out-Query view.out-Recursive view.out-Select s.hidden-the_row-Stmt-0 s.hidden-the_row-Arm-1 denote.Hole.Carrier.hidden denote.Hole.Carrier.roll denote.Hole.Carrier.out denote.Hole.Carrier.shown digits names_files.file names_functions.function names_functions.is_aggregate names_lookups.place_of names_lookups.offers names_lookups.column_named names_lookups.column_qualified names_lookups.variable_named names_lookups.has_double names_lookups.is_kept names_naming.written names_naming.maybe_written names_naming.slot_or names_naming.named_by names_naming.named names_naming.qualified_by names_naming.qualified names_naming.unwritten names_naming.called names_naming.once_where names_naming.of_table names_naming.names_or names_naming.part_note names_naming.shown names_naming.named_as names_naming.is_alias names_naming.first_names names_notes.lesser names_notes.summed names_notes.clean names_notes.joined names_notes.breaks names_tables.table_of names_trees.named_expr names_trees.named_item names_trees.named_key names_trees.named_source names_trees.named_part names_trees.named_select names_trees.named_query names_trees.last_of names_trees.alone_of typing_aggregates.unused typing_aggregates.either typing_aggregates.of_slot typing_aggregates.of_column typing_aggregates.aggregated typing_aggregates.is_known_aggregate typing_aggregates.called typing_aggregates.of_query typing_aggregates.apart typing_aggregates.outside typing_aggregates.of_select typing_aggregates.or_ typing_kinds.same typing_kinds.only_if typing_kinds.meet typing_kinds.of_type typing_kinds.fits typing_kinds.is_right typing_kinds.settled typing_kinds.type_of typing_parameter_lists.with_expr typing_parameter_lists.with_source typing_parameter_lists.with_select typing_parameter_lists.with_query typing_parameters.taken typing_parameters.no_params typing_trees.uses_of typing_trees.uses_of_source typing_trees.uses_of_select typing_trees.uses_of_query typing_trees.names_at typing_trees.source_names_at typing_trees.select_names_at typing_trees.query_names_at typing_trees.kind_of typing_trees.shape_of_source typing_trees.shape_of_part typing_trees.kinds_of_select typing_trees.shape_of_query typing_typing.kind_at typing_typing.column typing_typing.pair typing_typing.passed typing_typing.castable typing_typing.cast_kind typing_typing.is_ordered typing_typing.call_kind typing_typing.called typing_typing.scalar_kind typing_typing.exists_kind typing_typing.listed typing_typing.table_shape typing_typing.maybe_fits typing_typing.select_kinds typing_typing.both typing_typing.further typing_typing.or_none typing_typing_lists.kinds_over typing_wholes.types_or_none typing_wholes.is_never typing_wholes.is_once typing_wholes.recursive_types typing_wholes.is_table typing_wholes.fits_shape typing_wholes.is_answer typing_wholes.first_type typing_wholes.judged types_resolved_bodies.resolved_stmt types_resolved_bodies.resolved_arm types_statement_rules.may_exit types_statement_rules.may_continue types_statement_rules.closes types_statement_rules.lacks_default types_statement_rules.is_state types_statement_rules.may_raise types_statement_types.asked types_statement_types.asked_of_slot types_statement_types.asked_stmt types_statement_types.asked_arm types_statements.with_variable types_statements.with_slot types_statements.with_hidden types_statements.assigned
+unfolding b.hidden-the_row-Expr-0 b.hidden-the_row-Expr-Chain-1-2-1 b.hidden-the_row-Expr-2 b.hidden-the_row-Expr-Cases-0-2-3 b.hidden-the_row-Query-4 b.hidden-the_row-Select-5 b.hidden-the_row-Item-6 b.hidden-the_row-FromItem-7 b.hidden-the_row-Key-8 b.shown-the_row-Key-8 view.roll-Select view.roll-Recursive view.roll-Query view.out-Query view.out-Recursive view.out-Select s.hidden-the_row-Stmt-0 s.hidden-the_row-Arm-1 denote.Hole.Carrier.hidden denote.Hole.Carrier.roll denote.Hole.Carrier.out denote.Hole.Carrier.shown digits names_files.file names_functions.function names_functions.is_aggregate names_lookups.place_of names_lookups.offers names_lookups.column_named names_lookups.column_qualified names_lookups.variable_named names_lookups.has_double names_lookups.is_kept names_naming.written names_naming.maybe_written names_naming.slot_or names_naming.named_by names_naming.named names_naming.qualified_by names_naming.qualified names_naming.unwritten names_naming.called names_naming.once_where names_naming.of_table names_naming.names_or names_naming.part_note names_naming.shown names_naming.named_as names_naming.is_alias names_naming.first_names names_rules.lesser names_rules.number names_notes.summed names_notes.clean names_notes.joined names_notes.breaks names_tables.table_of names_trees.named_expr names_trees.named_item names_trees.named_key names_trees.named_source names_trees.named_part names_trees.named_select names_trees.named_query names_trees.last_of names_trees.alone_of typing_aggregates.unused typing_aggregates.either typing_aggregates.of_slot typing_aggregates.of_column typing_aggregates.aggregated typing_aggregates.is_known_aggregate typing_aggregates.called typing_aggregates.of_query typing_aggregates.apart typing_aggregates.outside typing_aggregates.of_select typing_aggregates.or_ typing_kinds.same typing_kinds.only_if typing_kinds.meet typing_kinds.of_type typing_kinds.fits typing_kinds.is_right typing_kinds.settled typing_kinds.type_of typing_parameter_lists.with_expr typing_parameter_lists.with_source typing_parameter_lists.with_select typing_parameter_lists.with_query typing_parameters.taken typing_parameters.no_params typing_trees.uses_of typing_trees.uses_of_source typing_trees.uses_of_select typing_trees.uses_of_query typing_trees.names_at typing_trees.source_names_at typing_trees.select_names_at typing_trees.query_names_at typing_trees.kind_of typing_trees.shape_of_source typing_trees.shape_of_part typing_trees.kinds_of_select typing_trees.shape_of_query typing_typing.kind_at typing_typing.column typing_typing.pair typing_typing.passed typing_typing.castable typing_typing.cast_kind typing_typing.is_ordered typing_typing.call_kind typing_typing.called typing_typing.scalar_kind typing_typing.exists_kind typing_typing.listed typing_typing.table_shape typing_typing.maybe_fits typing_typing.select_kinds typing_typing.both typing_typing.further typing_typing.or_none typing_typing_lists.kinds_over typing_wholes.types_or_none typing_wholes.is_never typing_wholes.is_once typing_wholes.recursive_types typing_wholes.is_table typing_wholes.fits_shape typing_wholes.is_answer typing_wholes.first_type typing_wholes.judged types_findings.precedes types_findings.first_of types_findings.later types_findings.at_first types_findings.own types_findings.nothing types_findings.followed types_findings.both types_resolved_bodies.resolved_stmt types_resolved_bodies.resolved_arm types_statement_rules.may_exit types_statement_rules.may_continue types_statement_rules.closes types_statement_rules.lacks_default types_statement_rules.is_state types_statement_rules.may_raise types_statement_types.asked types_statement_types.asked_of_slot types_statement_types.asked_stmt types_statement_types.asked_arm types_statements.with_variable types_statements.with_slot types_statements.with_hidden types_statements.assigned
 names_break = refl
 
 pub labels_break : map functions.broken functions.labels ≡ map functions.wanted functions.labels
-unfolding b.hidden-the_row-Expr-0 b.hidden-the_row-Expr-Chain-1-2-1 b.hidden-the_row-Expr-2 b.hidden-the_row-Expr-Cases-0-2-3 b.hidden-the_row-Query-4 b.hidden-the_row-Select-5 b.hidden-the_row-Item-6 b.hidden-the_row-FromItem-7 b.hidden-the_row-Key-8 b.shown-the_row-Key-8 view.roll-Select view.roll-Recursive view.roll-Query view.out-Query view.out-Recursive view.out-Select s.hidden-the_row-Stmt-0 s.hidden-the_row-Arm-1 denote.Hole.Carrier.hidden denote.Hole.Carrier.roll denote.Hole.Carrier.out denote.Hole.Carrier.shown digits names_files.file names_functions.function names_functions.is_aggregate names_lookups.place_of names_lookups.offers names_lookups.column_named names_lookups.column_qualified names_lookups.variable_named names_lookups.has_double names_lookups.is_kept names_naming.written names_naming.maybe_written names_naming.slot_or names_naming.named_by names_naming.named names_naming.qualified_by names_naming.qualified names_naming.unwritten names_naming.called names_naming.once_where names_naming.of_table names_naming.names_or names_naming.part_note names_naming.shown names_naming.named_as names_naming.is_alias names_naming.first_names names_notes.lesser names_notes.summed names_notes.clean names_notes.joined names_notes.breaks names_tables.table_of names_trees.named_expr names_trees.named_item names_trees.named_key names_trees.named_source names_trees.named_part names_trees.named_select names_trees.named_query names_trees.last_of names_trees.alone_of typing_aggregates.unused typing_aggregates.either typing_aggregates.of_slot typing_aggregates.of_column typing_aggregates.aggregated typing_aggregates.is_known_aggregate typing_aggregates.called typing_aggregates.of_query typing_aggregates.apart typing_aggregates.outside typing_aggregates.of_select typing_aggregates.or_ typing_kinds.same typing_kinds.only_if typing_kinds.meet typing_kinds.of_type typing_kinds.fits typing_kinds.is_right typing_kinds.settled typing_kinds.type_of typing_parameter_lists.with_expr typing_parameter_lists.with_source typing_parameter_lists.with_select typing_parameter_lists.with_query typing_parameters.taken typing_parameters.no_params typing_trees.uses_of typing_trees.uses_of_source typing_trees.uses_of_select typing_trees.uses_of_query typing_trees.names_at typing_trees.source_names_at typing_trees.select_names_at typing_trees.query_names_at typing_trees.kind_of typing_trees.shape_of_source typing_trees.shape_of_part typing_trees.kinds_of_select typing_trees.shape_of_query typing_typing.kind_at typing_typing.column typing_typing.pair typing_typing.passed typing_typing.castable typing_typing.cast_kind typing_typing.is_ordered typing_typing.call_kind typing_typing.called typing_typing.scalar_kind typing_typing.exists_kind typing_typing.listed typing_typing.table_shape typing_typing.maybe_fits typing_typing.select_kinds typing_typing.both typing_typing.further typing_typing.or_none typing_typing_lists.kinds_over typing_wholes.types_or_none typing_wholes.is_never typing_wholes.is_once typing_wholes.recursive_types typing_wholes.is_table typing_wholes.fits_shape typing_wholes.is_answer typing_wholes.first_type typing_wholes.judged types_resolved_bodies.resolved_stmt types_resolved_bodies.resolved_arm types_statement_rules.may_exit types_statement_rules.may_continue types_statement_rules.closes types_statement_rules.lacks_default types_statement_rules.is_state types_statement_rules.may_raise types_statement_types.asked types_statement_types.asked_of_slot types_statement_types.asked_stmt types_statement_types.asked_arm types_statements.with_variable types_statements.with_slot types_statements.with_hidden types_statements.assigned
+unfolding b.hidden-the_row-Expr-0 b.hidden-the_row-Expr-Chain-1-2-1 b.hidden-the_row-Expr-2 b.hidden-the_row-Expr-Cases-0-2-3 b.hidden-the_row-Query-4 b.hidden-the_row-Select-5 b.hidden-the_row-Item-6 b.hidden-the_row-FromItem-7 b.hidden-the_row-Key-8 b.shown-the_row-Key-8 view.roll-Select view.roll-Recursive view.roll-Query view.out-Query view.out-Recursive view.out-Select s.hidden-the_row-Stmt-0 s.hidden-the_row-Arm-1 denote.Hole.Carrier.hidden denote.Hole.Carrier.roll denote.Hole.Carrier.out denote.Hole.Carrier.shown digits names_files.file names_functions.function names_functions.is_aggregate names_lookups.place_of names_lookups.offers names_lookups.column_named names_lookups.column_qualified names_lookups.variable_named names_lookups.has_double names_lookups.is_kept names_naming.written names_naming.maybe_written names_naming.slot_or names_naming.named_by names_naming.named names_naming.qualified_by names_naming.qualified names_naming.unwritten names_naming.called names_naming.once_where names_naming.of_table names_naming.names_or names_naming.part_note names_naming.shown names_naming.named_as names_naming.is_alias names_naming.first_names names_rules.lesser names_rules.number names_notes.summed names_notes.clean names_notes.joined names_notes.breaks names_tables.table_of names_trees.named_expr names_trees.named_item names_trees.named_key names_trees.named_source names_trees.named_part names_trees.named_select names_trees.named_query names_trees.last_of names_trees.alone_of typing_aggregates.unused typing_aggregates.either typing_aggregates.of_slot typing_aggregates.of_column typing_aggregates.aggregated typing_aggregates.is_known_aggregate typing_aggregates.called typing_aggregates.of_query typing_aggregates.apart typing_aggregates.outside typing_aggregates.of_select typing_aggregates.or_ typing_kinds.same typing_kinds.only_if typing_kinds.meet typing_kinds.of_type typing_kinds.fits typing_kinds.is_right typing_kinds.settled typing_kinds.type_of typing_parameter_lists.with_expr typing_parameter_lists.with_source typing_parameter_lists.with_select typing_parameter_lists.with_query typing_parameters.taken typing_parameters.no_params typing_trees.uses_of typing_trees.uses_of_source typing_trees.uses_of_select typing_trees.uses_of_query typing_trees.names_at typing_trees.source_names_at typing_trees.select_names_at typing_trees.query_names_at typing_trees.kind_of typing_trees.shape_of_source typing_trees.shape_of_part typing_trees.kinds_of_select typing_trees.shape_of_query typing_typing.kind_at typing_typing.column typing_typing.pair typing_typing.passed typing_typing.castable typing_typing.cast_kind typing_typing.is_ordered typing_typing.call_kind typing_typing.called typing_typing.scalar_kind typing_typing.exists_kind typing_typing.listed typing_typing.table_shape typing_typing.maybe_fits typing_typing.select_kinds typing_typing.both typing_typing.further typing_typing.or_none typing_typing_lists.kinds_over typing_wholes.types_or_none typing_wholes.is_never typing_wholes.is_once typing_wholes.recursive_types typing_wholes.is_table typing_wholes.fits_shape typing_wholes.is_answer typing_wholes.first_type typing_wholes.judged types_findings.precedes types_findings.first_of types_findings.later types_findings.at_first types_findings.own types_findings.nothing types_findings.followed types_findings.both types_resolved_bodies.resolved_stmt types_resolved_bodies.resolved_arm types_statement_rules.may_exit types_statement_rules.may_continue types_statement_rules.closes types_statement_rules.lacks_default types_statement_rules.is_state types_statement_rules.may_raise types_statement_types.asked types_statement_types.asked_of_slot types_statement_types.asked_stmt types_statement_types.asked_arm types_statements.with_variable types_statements.with_slot types_statements.with_hidden types_statements.assigned
 labels_break = refl
 
 pub types_break : map functions.broken functions.types ≡ map functions.wanted functions.types
-unfolding b.hidden-the_row-Expr-0 b.hidden-the_row-Expr-Chain-1-2-1 b.hidden-the_row-Expr-2 b.hidden-the_row-Expr-Cases-0-2-3 b.hidden-the_row-Query-4 b.hidden-the_row-Select-5 b.hidden-the_row-Item-6 b.hidden-the_row-FromItem-7 b.hidden-the_row-Key-8 b.shown-the_row-Key-8 view.roll-Select view.roll-Recursive view.roll-Query view.out-Query view.out-Recursive view.out-Select s.hidden-the_row-Stmt-0 s.hidden-the_row-Arm-1 denote.Hole.Carrier.hidden denote.Hole.Carrier.roll denote.Hole.Carrier.out denote.Hole.Carrier.shown digits names_files.file names_functions.function names_functions.is_aggregate names_lookups.place_of names_lookups.offers names_lookups.column_named names_lookups.column_qualified names_lookups.variable_named names_lookups.has_double names_lookups.is_kept names_naming.written names_naming.maybe_written names_naming.slot_or names_naming.named_by names_naming.named names_naming.qualified_by names_naming.qualified names_naming.unwritten names_naming.called names_naming.once_where names_naming.of_table names_naming.names_or names_naming.part_note names_naming.shown names_naming.named_as names_naming.is_alias names_naming.first_names names_notes.lesser names_notes.summed names_notes.clean names_notes.joined names_notes.breaks names_tables.table_of names_trees.named_expr names_trees.named_item names_trees.named_key names_trees.named_source names_trees.named_part names_trees.named_select names_trees.named_query names_trees.last_of names_trees.alone_of typing_aggregates.unused typing_aggregates.either typing_aggregates.of_slot typing_aggregates.of_column typing_aggregates.aggregated typing_aggregates.is_known_aggregate typing_aggregates.called typing_aggregates.of_query typing_aggregates.apart typing_aggregates.outside typing_aggregates.of_select typing_aggregates.or_ typing_kinds.same typing_kinds.only_if typing_kinds.meet typing_kinds.of_type typing_kinds.fits typing_kinds.is_right typing_kinds.settled typing_kinds.type_of typing_parameter_lists.with_expr typing_parameter_lists.with_source typing_parameter_lists.with_select typing_parameter_lists.with_query typing_parameters.taken typing_parameters.no_params typing_trees.uses_of typing_trees.uses_of_source typing_trees.uses_of_select typing_trees.uses_of_query typing_trees.names_at typing_trees.source_names_at typing_trees.select_names_at typing_trees.query_names_at typing_trees.kind_of typing_trees.shape_of_source typing_trees.shape_of_part typing_trees.kinds_of_select typing_trees.shape_of_query typing_typing.kind_at typing_typing.column typing_typing.pair typing_typing.passed typing_typing.castable typing_typing.cast_kind typing_typing.is_ordered typing_typing.call_kind typing_typing.called typing_typing.scalar_kind typing_typing.exists_kind typing_typing.listed typing_typing.table_shape typing_typing.maybe_fits typing_typing.select_kinds typing_typing.both typing_typing.further typing_typing.or_none typing_typing_lists.kinds_over typing_wholes.types_or_none typing_wholes.is_never typing_wholes.is_once typing_wholes.recursive_types typing_wholes.is_table typing_wholes.fits_shape typing_wholes.is_answer typing_wholes.first_type typing_wholes.judged types_resolved_bodies.resolved_stmt types_resolved_bodies.resolved_arm types_statement_rules.may_exit types_statement_rules.may_continue types_statement_rules.closes types_statement_rules.lacks_default types_statement_rules.is_state types_statement_rules.may_raise types_statement_types.asked types_statement_types.asked_of_slot types_statement_types.asked_stmt types_statement_types.asked_arm types_statements.with_variable types_statements.with_slot types_statements.with_hidden types_statements.assigned
+unfolding b.hidden-the_row-Expr-0 b.hidden-the_row-Expr-Chain-1-2-1 b.hidden-the_row-Expr-2 b.hidden-the_row-Expr-Cases-0-2-3 b.hidden-the_row-Query-4 b.hidden-the_row-Select-5 b.hidden-the_row-Item-6 b.hidden-the_row-FromItem-7 b.hidden-the_row-Key-8 b.shown-the_row-Key-8 view.roll-Select view.roll-Recursive view.roll-Query view.out-Query view.out-Recursive view.out-Select s.hidden-the_row-Stmt-0 s.hidden-the_row-Arm-1 denote.Hole.Carrier.hidden denote.Hole.Carrier.roll denote.Hole.Carrier.out denote.Hole.Carrier.shown digits names_files.file names_functions.function names_functions.is_aggregate names_lookups.place_of names_lookups.offers names_lookups.column_named names_lookups.column_qualified names_lookups.variable_named names_lookups.has_double names_lookups.is_kept names_naming.written names_naming.maybe_written names_naming.slot_or names_naming.named_by names_naming.named names_naming.qualified_by names_naming.qualified names_naming.unwritten names_naming.called names_naming.once_where names_naming.of_table names_naming.names_or names_naming.part_note names_naming.shown names_naming.named_as names_naming.is_alias names_naming.first_names names_rules.lesser names_rules.number names_notes.summed names_notes.clean names_notes.joined names_notes.breaks names_tables.table_of names_trees.named_expr names_trees.named_item names_trees.named_key names_trees.named_source names_trees.named_part names_trees.named_select names_trees.named_query names_trees.last_of names_trees.alone_of typing_aggregates.unused typing_aggregates.either typing_aggregates.of_slot typing_aggregates.of_column typing_aggregates.aggregated typing_aggregates.is_known_aggregate typing_aggregates.called typing_aggregates.of_query typing_aggregates.apart typing_aggregates.outside typing_aggregates.of_select typing_aggregates.or_ typing_kinds.same typing_kinds.only_if typing_kinds.meet typing_kinds.of_type typing_kinds.fits typing_kinds.is_right typing_kinds.settled typing_kinds.type_of typing_parameter_lists.with_expr typing_parameter_lists.with_source typing_parameter_lists.with_select typing_parameter_lists.with_query typing_parameters.taken typing_parameters.no_params typing_trees.uses_of typing_trees.uses_of_source typing_trees.uses_of_select typing_trees.uses_of_query typing_trees.names_at typing_trees.source_names_at typing_trees.select_names_at typing_trees.query_names_at typing_trees.kind_of typing_trees.shape_of_source typing_trees.shape_of_part typing_trees.kinds_of_select typing_trees.shape_of_query typing_typing.kind_at typing_typing.column typing_typing.pair typing_typing.passed typing_typing.castable typing_typing.cast_kind typing_typing.is_ordered typing_typing.call_kind typing_typing.called typing_typing.scalar_kind typing_typing.exists_kind typing_typing.listed typing_typing.table_shape typing_typing.maybe_fits typing_typing.select_kinds typing_typing.both typing_typing.further typing_typing.or_none typing_typing_lists.kinds_over typing_wholes.types_or_none typing_wholes.is_never typing_wholes.is_once typing_wholes.recursive_types typing_wholes.is_table typing_wholes.fits_shape typing_wholes.is_answer typing_wholes.first_type typing_wholes.judged types_findings.precedes types_findings.first_of types_findings.later types_findings.at_first types_findings.own types_findings.nothing types_findings.followed types_findings.both types_resolved_bodies.resolved_stmt types_resolved_bodies.resolved_arm types_statement_rules.may_exit types_statement_rules.may_continue types_statement_rules.closes types_statement_rules.lacks_default types_statement_rules.is_state types_statement_rules.may_raise types_statement_types.asked types_statement_types.asked_of_slot types_statement_types.asked_stmt types_statement_types.asked_arm types_statements.with_variable types_statements.with_slot types_statements.with_hidden types_statements.assigned
 types_break = refl
 
+pub nodes_told : map functions.node_of functions.nodes ≡ map functions.wanted_node functions.nodes
+unfolding b.hidden-the_row-Expr-0 b.hidden-the_row-Expr-Chain-1-2-1 b.hidden-the_row-Expr-2 b.hidden-the_row-Expr-Cases-0-2-3 b.hidden-the_row-Query-4 b.hidden-the_row-Select-5 b.hidden-the_row-Item-6 b.hidden-the_row-FromItem-7 b.hidden-the_row-Key-8 b.shown-the_row-Key-8 view.roll-Select view.roll-Recursive view.roll-Query view.out-Query view.out-Recursive view.out-Select s.hidden-the_row-Stmt-0 s.hidden-the_row-Arm-1 denote.Hole.Carrier.hidden denote.Hole.Carrier.roll denote.Hole.Carrier.out denote.Hole.Carrier.shown digits names_files.file names_functions.function names_functions.is_aggregate names_lookups.place_of names_lookups.offers names_lookups.column_named names_lookups.column_qualified names_lookups.variable_named names_lookups.has_double names_lookups.is_kept names_naming.written names_naming.maybe_written names_naming.slot_or names_naming.named_by names_naming.named names_naming.qualified_by names_naming.qualified names_naming.unwritten names_naming.called names_naming.once_where names_naming.of_table names_naming.names_or names_naming.part_note names_naming.shown names_naming.named_as names_naming.is_alias names_naming.first_names names_rules.lesser names_rules.number names_notes.summed names_notes.clean names_notes.joined names_notes.breaks names_tables.table_of names_trees.named_expr names_trees.named_item names_trees.named_key names_trees.named_source names_trees.named_part names_trees.named_select names_trees.named_query names_trees.last_of names_trees.alone_of typing_aggregates.unused typing_aggregates.either typing_aggregates.of_slot typing_aggregates.of_column typing_aggregates.aggregated typing_aggregates.is_known_aggregate typing_aggregates.called typing_aggregates.of_query typing_aggregates.apart typing_aggregates.outside typing_aggregates.of_select typing_aggregates.or_ typing_kinds.same typing_kinds.only_if typing_kinds.meet typing_kinds.of_type typing_kinds.fits typing_kinds.is_right typing_kinds.settled typing_kinds.type_of typing_parameter_lists.with_expr typing_parameter_lists.with_source typing_parameter_lists.with_select typing_parameter_lists.with_query typing_parameters.taken typing_parameters.no_params typing_trees.uses_of typing_trees.uses_of_source typing_trees.uses_of_select typing_trees.uses_of_query typing_trees.names_at typing_trees.source_names_at typing_trees.select_names_at typing_trees.query_names_at typing_trees.kind_of typing_trees.shape_of_source typing_trees.shape_of_part typing_trees.kinds_of_select typing_trees.shape_of_query typing_typing.kind_at typing_typing.column typing_typing.pair typing_typing.passed typing_typing.castable typing_typing.cast_kind typing_typing.is_ordered typing_typing.call_kind typing_typing.called typing_typing.scalar_kind typing_typing.exists_kind typing_typing.listed typing_typing.table_shape typing_typing.maybe_fits typing_typing.select_kinds typing_typing.both typing_typing.further typing_typing.or_none typing_typing_lists.kinds_over typing_wholes.types_or_none typing_wholes.is_never typing_wholes.is_once typing_wholes.recursive_types typing_wholes.is_table typing_wholes.fits_shape typing_wholes.is_answer typing_wholes.first_type typing_wholes.judged types_findings.precedes types_findings.first_of types_findings.later types_findings.at_first types_findings.own types_findings.nothing types_findings.followed types_findings.both types_resolved_bodies.resolved_stmt types_resolved_bodies.resolved_arm types_statement_rules.may_exit types_statement_rules.may_continue types_statement_rules.closes types_statement_rules.lacks_default types_statement_rules.is_state types_statement_rules.may_raise types_statement_types.asked types_statement_types.asked_of_slot types_statement_types.asked_stmt types_statement_types.asked_arm types_statements.with_variable types_statements.with_slot types_statements.with_hidden types_statements.assigned
+nodes_told = refl
+
 pub selects_break : map queries.broken queries.selects ≡ map queries.wanted queries.selects
-unfolding b.hidden-the_row-Expr-0 b.hidden-the_row-Expr-Chain-1-2-1 b.hidden-the_row-Expr-2 b.hidden-the_row-Expr-Cases-0-2-3 b.hidden-the_row-Query-4 b.hidden-the_row-Select-5 b.hidden-the_row-Item-6 b.hidden-the_row-FromItem-7 b.hidden-the_row-Key-8 b.shown-the_row-Key-8 view.roll-Select view.roll-Recursive view.roll-Query view.out-Query view.out-Recursive view.out-Select s.hidden-the_row-Stmt-0 s.hidden-the_row-Arm-1 denote.Hole.Carrier.hidden denote.Hole.Carrier.roll denote.Hole.Carrier.out denote.Hole.Carrier.shown digits names_files.file names_functions.function names_functions.is_aggregate names_lookups.place_of names_lookups.offers names_lookups.column_named names_lookups.column_qualified names_lookups.variable_named names_lookups.has_double names_lookups.is_kept names_naming.written names_naming.maybe_written names_naming.slot_or names_naming.named_by names_naming.named names_naming.qualified_by names_naming.qualified names_naming.unwritten names_naming.called names_naming.once_where names_naming.of_table names_naming.names_or names_naming.part_note names_naming.shown names_naming.named_as names_naming.is_alias names_naming.first_names names_notes.lesser names_notes.summed names_notes.clean names_notes.joined names_notes.breaks names_tables.table_of names_trees.named_expr names_trees.named_item names_trees.named_key names_trees.named_source names_trees.named_part names_trees.named_select names_trees.named_query names_trees.last_of names_trees.alone_of typing_aggregates.unused typing_aggregates.either typing_aggregates.of_slot typing_aggregates.of_column typing_aggregates.aggregated typing_aggregates.is_known_aggregate typing_aggregates.called typing_aggregates.of_query typing_aggregates.apart typing_aggregates.outside typing_aggregates.of_select typing_aggregates.or_ typing_kinds.same typing_kinds.only_if typing_kinds.meet typing_kinds.of_type typing_kinds.fits typing_kinds.is_right typing_kinds.settled typing_kinds.type_of typing_parameter_lists.with_expr typing_parameter_lists.with_source typing_parameter_lists.with_select typing_parameter_lists.with_query typing_parameters.taken typing_parameters.no_params typing_trees.uses_of typing_trees.uses_of_source typing_trees.uses_of_select typing_trees.uses_of_query typing_trees.names_at typing_trees.source_names_at typing_trees.select_names_at typing_trees.query_names_at typing_trees.kind_of typing_trees.shape_of_source typing_trees.shape_of_part typing_trees.kinds_of_select typing_trees.shape_of_query typing_typing.kind_at typing_typing.column typing_typing.pair typing_typing.passed typing_typing.castable typing_typing.cast_kind typing_typing.is_ordered typing_typing.call_kind typing_typing.called typing_typing.scalar_kind typing_typing.exists_kind typing_typing.listed typing_typing.table_shape typing_typing.maybe_fits typing_typing.select_kinds typing_typing.both typing_typing.further typing_typing.or_none typing_typing_lists.kinds_over typing_wholes.types_or_none typing_wholes.is_never typing_wholes.is_once typing_wholes.recursive_types typing_wholes.is_table typing_wholes.fits_shape typing_wholes.is_answer typing_wholes.first_type typing_wholes.judged types_resolved_bodies.resolved_stmt types_resolved_bodies.resolved_arm types_statement_rules.may_exit types_statement_rules.may_continue types_statement_rules.closes types_statement_rules.lacks_default types_statement_rules.is_state types_statement_rules.may_raise types_statement_types.asked types_statement_types.asked_of_slot types_statement_types.asked_stmt types_statement_types.asked_arm types_statements.with_variable types_statements.with_slot types_statements.with_hidden types_statements.assigned
+unfolding b.hidden-the_row-Expr-0 b.hidden-the_row-Expr-Chain-1-2-1 b.hidden-the_row-Expr-2 b.hidden-the_row-Expr-Cases-0-2-3 b.hidden-the_row-Query-4 b.hidden-the_row-Select-5 b.hidden-the_row-Item-6 b.hidden-the_row-FromItem-7 b.hidden-the_row-Key-8 b.shown-the_row-Key-8 view.roll-Select view.roll-Recursive view.roll-Query view.out-Query view.out-Recursive view.out-Select s.hidden-the_row-Stmt-0 s.hidden-the_row-Arm-1 denote.Hole.Carrier.hidden denote.Hole.Carrier.roll denote.Hole.Carrier.out denote.Hole.Carrier.shown digits names_files.file names_functions.function names_functions.is_aggregate names_lookups.place_of names_lookups.offers names_lookups.column_named names_lookups.column_qualified names_lookups.variable_named names_lookups.has_double names_lookups.is_kept names_naming.written names_naming.maybe_written names_naming.slot_or names_naming.named_by names_naming.named names_naming.qualified_by names_naming.qualified names_naming.unwritten names_naming.called names_naming.once_where names_naming.of_table names_naming.names_or names_naming.part_note names_naming.shown names_naming.named_as names_naming.is_alias names_naming.first_names names_rules.lesser names_rules.number names_notes.summed names_notes.clean names_notes.joined names_notes.breaks names_tables.table_of names_trees.named_expr names_trees.named_item names_trees.named_key names_trees.named_source names_trees.named_part names_trees.named_select names_trees.named_query names_trees.last_of names_trees.alone_of typing_aggregates.unused typing_aggregates.either typing_aggregates.of_slot typing_aggregates.of_column typing_aggregates.aggregated typing_aggregates.is_known_aggregate typing_aggregates.called typing_aggregates.of_query typing_aggregates.apart typing_aggregates.outside typing_aggregates.of_select typing_aggregates.or_ typing_kinds.same typing_kinds.only_if typing_kinds.meet typing_kinds.of_type typing_kinds.fits typing_kinds.is_right typing_kinds.settled typing_kinds.type_of typing_parameter_lists.with_expr typing_parameter_lists.with_source typing_parameter_lists.with_select typing_parameter_lists.with_query typing_parameters.taken typing_parameters.no_params typing_trees.uses_of typing_trees.uses_of_source typing_trees.uses_of_select typing_trees.uses_of_query typing_trees.names_at typing_trees.source_names_at typing_trees.select_names_at typing_trees.query_names_at typing_trees.kind_of typing_trees.shape_of_source typing_trees.shape_of_part typing_trees.kinds_of_select typing_trees.shape_of_query typing_typing.kind_at typing_typing.column typing_typing.pair typing_typing.passed typing_typing.castable typing_typing.cast_kind typing_typing.is_ordered typing_typing.call_kind typing_typing.called typing_typing.scalar_kind typing_typing.exists_kind typing_typing.listed typing_typing.table_shape typing_typing.maybe_fits typing_typing.select_kinds typing_typing.both typing_typing.further typing_typing.or_none typing_typing_lists.kinds_over typing_wholes.types_or_none typing_wholes.is_never typing_wholes.is_once typing_wholes.recursive_types typing_wholes.is_table typing_wholes.fits_shape typing_wholes.is_answer typing_wholes.first_type typing_wholes.judged types_findings.precedes types_findings.first_of types_findings.later types_findings.at_first types_findings.own types_findings.nothing types_findings.followed types_findings.both types_resolved_bodies.resolved_stmt types_resolved_bodies.resolved_arm types_statement_rules.may_exit types_statement_rules.may_continue types_statement_rules.closes types_statement_rules.lacks_default types_statement_rules.is_state types_statement_rules.may_raise types_statement_types.asked types_statement_types.asked_of_slot types_statement_types.asked_stmt types_statement_types.asked_arm types_statements.with_variable types_statements.with_slot types_statements.with_hidden types_statements.assigned
 selects_break = refl
 
 pub recursions_break : map queries.broken queries.recursions ≡ map queries.wanted queries.recursions
-unfolding b.hidden-the_row-Expr-0 b.hidden-the_row-Expr-Chain-1-2-1 b.hidden-the_row-Expr-2 b.hidden-the_row-Expr-Cases-0-2-3 b.hidden-the_row-Query-4 b.hidden-the_row-Select-5 b.hidden-the_row-Item-6 b.hidden-the_row-FromItem-7 b.hidden-the_row-Key-8 b.shown-the_row-Key-8 view.roll-Select view.roll-Recursive view.roll-Query view.out-Query view.out-Recursive view.out-Select s.hidden-the_row-Stmt-0 s.hidden-the_row-Arm-1 denote.Hole.Carrier.hidden denote.Hole.Carrier.roll denote.Hole.Carrier.out denote.Hole.Carrier.shown digits names_files.file names_functions.function names_functions.is_aggregate names_lookups.place_of names_lookups.offers names_lookups.column_named names_lookups.column_qualified names_lookups.variable_named names_lookups.has_double names_lookups.is_kept names_naming.written names_naming.maybe_written names_naming.slot_or names_naming.named_by names_naming.named names_naming.qualified_by names_naming.qualified names_naming.unwritten names_naming.called names_naming.once_where names_naming.of_table names_naming.names_or names_naming.part_note names_naming.shown names_naming.named_as names_naming.is_alias names_naming.first_names names_notes.lesser names_notes.summed names_notes.clean names_notes.joined names_notes.breaks names_tables.table_of names_trees.named_expr names_trees.named_item names_trees.named_key names_trees.named_source names_trees.named_part names_trees.named_select names_trees.named_query names_trees.last_of names_trees.alone_of typing_aggregates.unused typing_aggregates.either typing_aggregates.of_slot typing_aggregates.of_column typing_aggregates.aggregated typing_aggregates.is_known_aggregate typing_aggregates.called typing_aggregates.of_query typing_aggregates.apart typing_aggregates.outside typing_aggregates.of_select typing_aggregates.or_ typing_kinds.same typing_kinds.only_if typing_kinds.meet typing_kinds.of_type typing_kinds.fits typing_kinds.is_right typing_kinds.settled typing_kinds.type_of typing_parameter_lists.with_expr typing_parameter_lists.with_source typing_parameter_lists.with_select typing_parameter_lists.with_query typing_parameters.taken typing_parameters.no_params typing_trees.uses_of typing_trees.uses_of_source typing_trees.uses_of_select typing_trees.uses_of_query typing_trees.names_at typing_trees.source_names_at typing_trees.select_names_at typing_trees.query_names_at typing_trees.kind_of typing_trees.shape_of_source typing_trees.shape_of_part typing_trees.kinds_of_select typing_trees.shape_of_query typing_typing.kind_at typing_typing.column typing_typing.pair typing_typing.passed typing_typing.castable typing_typing.cast_kind typing_typing.is_ordered typing_typing.call_kind typing_typing.called typing_typing.scalar_kind typing_typing.exists_kind typing_typing.listed typing_typing.table_shape typing_typing.maybe_fits typing_typing.select_kinds typing_typing.both typing_typing.further typing_typing.or_none typing_typing_lists.kinds_over typing_wholes.types_or_none typing_wholes.is_never typing_wholes.is_once typing_wholes.recursive_types typing_wholes.is_table typing_wholes.fits_shape typing_wholes.is_answer typing_wholes.first_type typing_wholes.judged types_resolved_bodies.resolved_stmt types_resolved_bodies.resolved_arm types_statement_rules.may_exit types_statement_rules.may_continue types_statement_rules.closes types_statement_rules.lacks_default types_statement_rules.is_state types_statement_rules.may_raise types_statement_types.asked types_statement_types.asked_of_slot types_statement_types.asked_stmt types_statement_types.asked_arm types_statements.with_variable types_statements.with_slot types_statements.with_hidden types_statements.assigned
+unfolding b.hidden-the_row-Expr-0 b.hidden-the_row-Expr-Chain-1-2-1 b.hidden-the_row-Expr-2 b.hidden-the_row-Expr-Cases-0-2-3 b.hidden-the_row-Query-4 b.hidden-the_row-Select-5 b.hidden-the_row-Item-6 b.hidden-the_row-FromItem-7 b.hidden-the_row-Key-8 b.shown-the_row-Key-8 view.roll-Select view.roll-Recursive view.roll-Query view.out-Query view.out-Recursive view.out-Select s.hidden-the_row-Stmt-0 s.hidden-the_row-Arm-1 denote.Hole.Carrier.hidden denote.Hole.Carrier.roll denote.Hole.Carrier.out denote.Hole.Carrier.shown digits names_files.file names_functions.function names_functions.is_aggregate names_lookups.place_of names_lookups.offers names_lookups.column_named names_lookups.column_qualified names_lookups.variable_named names_lookups.has_double names_lookups.is_kept names_naming.written names_naming.maybe_written names_naming.slot_or names_naming.named_by names_naming.named names_naming.qualified_by names_naming.qualified names_naming.unwritten names_naming.called names_naming.once_where names_naming.of_table names_naming.names_or names_naming.part_note names_naming.shown names_naming.named_as names_naming.is_alias names_naming.first_names names_rules.lesser names_rules.number names_notes.summed names_notes.clean names_notes.joined names_notes.breaks names_tables.table_of names_trees.named_expr names_trees.named_item names_trees.named_key names_trees.named_source names_trees.named_part names_trees.named_select names_trees.named_query names_trees.last_of names_trees.alone_of typing_aggregates.unused typing_aggregates.either typing_aggregates.of_slot typing_aggregates.of_column typing_aggregates.aggregated typing_aggregates.is_known_aggregate typing_aggregates.called typing_aggregates.of_query typing_aggregates.apart typing_aggregates.outside typing_aggregates.of_select typing_aggregates.or_ typing_kinds.same typing_kinds.only_if typing_kinds.meet typing_kinds.of_type typing_kinds.fits typing_kinds.is_right typing_kinds.settled typing_kinds.type_of typing_parameter_lists.with_expr typing_parameter_lists.with_source typing_parameter_lists.with_select typing_parameter_lists.with_query typing_parameters.taken typing_parameters.no_params typing_trees.uses_of typing_trees.uses_of_source typing_trees.uses_of_select typing_trees.uses_of_query typing_trees.names_at typing_trees.source_names_at typing_trees.select_names_at typing_trees.query_names_at typing_trees.kind_of typing_trees.shape_of_source typing_trees.shape_of_part typing_trees.kinds_of_select typing_trees.shape_of_query typing_typing.kind_at typing_typing.column typing_typing.pair typing_typing.passed typing_typing.castable typing_typing.cast_kind typing_typing.is_ordered typing_typing.call_kind typing_typing.called typing_typing.scalar_kind typing_typing.exists_kind typing_typing.listed typing_typing.table_shape typing_typing.maybe_fits typing_typing.select_kinds typing_typing.both typing_typing.further typing_typing.or_none typing_typing_lists.kinds_over typing_wholes.types_or_none typing_wholes.is_never typing_wholes.is_once typing_wholes.recursive_types typing_wholes.is_table typing_wholes.fits_shape typing_wholes.is_answer typing_wholes.first_type typing_wholes.judged types_findings.precedes types_findings.first_of types_findings.later types_findings.at_first types_findings.own types_findings.nothing types_findings.followed types_findings.both types_resolved_bodies.resolved_stmt types_resolved_bodies.resolved_arm types_statement_rules.may_exit types_statement_rules.may_continue types_statement_rules.closes types_statement_rules.lacks_default types_statement_rules.is_state types_statement_rules.may_raise types_statement_types.asked types_statement_types.asked_of_slot types_statement_types.asked_stmt types_statement_types.asked_arm types_statements.with_variable types_statements.with_slot types_statements.with_hidden types_statements.assigned
 recursions_break = refl
 
 pub schemas_break : map queries.schema_broken queries.schemas ≡ map queries.schema_wanted queries.schemas
-unfolding b.hidden-the_row-Expr-0 b.hidden-the_row-Expr-Chain-1-2-1 b.hidden-the_row-Expr-2 b.hidden-the_row-Expr-Cases-0-2-3 b.hidden-the_row-Query-4 b.hidden-the_row-Select-5 b.hidden-the_row-Item-6 b.hidden-the_row-FromItem-7 b.hidden-the_row-Key-8 b.shown-the_row-Key-8 view.roll-Select view.roll-Recursive view.roll-Query view.out-Query view.out-Recursive view.out-Select s.hidden-the_row-Stmt-0 s.hidden-the_row-Arm-1 denote.Hole.Carrier.hidden denote.Hole.Carrier.roll denote.Hole.Carrier.out denote.Hole.Carrier.shown digits names_files.file names_functions.function names_functions.is_aggregate names_lookups.place_of names_lookups.offers names_lookups.column_named names_lookups.column_qualified names_lookups.variable_named names_lookups.has_double names_lookups.is_kept names_naming.written names_naming.maybe_written names_naming.slot_or names_naming.named_by names_naming.named names_naming.qualified_by names_naming.qualified names_naming.unwritten names_naming.called names_naming.once_where names_naming.of_table names_naming.names_or names_naming.part_note names_naming.shown names_naming.named_as names_naming.is_alias names_naming.first_names names_notes.lesser names_notes.summed names_notes.clean names_notes.joined names_notes.breaks names_tables.table_of names_trees.named_expr names_trees.named_item names_trees.named_key names_trees.named_source names_trees.named_part names_trees.named_select names_trees.named_query names_trees.last_of names_trees.alone_of typing_aggregates.unused typing_aggregates.either typing_aggregates.of_slot typing_aggregates.of_column typing_aggregates.aggregated typing_aggregates.is_known_aggregate typing_aggregates.called typing_aggregates.of_query typing_aggregates.apart typing_aggregates.outside typing_aggregates.of_select typing_aggregates.or_ typing_kinds.same typing_kinds.only_if typing_kinds.meet typing_kinds.of_type typing_kinds.fits typing_kinds.is_right typing_kinds.settled typing_kinds.type_of typing_parameter_lists.with_expr typing_parameter_lists.with_source typing_parameter_lists.with_select typing_parameter_lists.with_query typing_parameters.taken typing_parameters.no_params typing_trees.uses_of typing_trees.uses_of_source typing_trees.uses_of_select typing_trees.uses_of_query typing_trees.names_at typing_trees.source_names_at typing_trees.select_names_at typing_trees.query_names_at typing_trees.kind_of typing_trees.shape_of_source typing_trees.shape_of_part typing_trees.kinds_of_select typing_trees.shape_of_query typing_typing.kind_at typing_typing.column typing_typing.pair typing_typing.passed typing_typing.castable typing_typing.cast_kind typing_typing.is_ordered typing_typing.call_kind typing_typing.called typing_typing.scalar_kind typing_typing.exists_kind typing_typing.listed typing_typing.table_shape typing_typing.maybe_fits typing_typing.select_kinds typing_typing.both typing_typing.further typing_typing.or_none typing_typing_lists.kinds_over typing_wholes.types_or_none typing_wholes.is_never typing_wholes.is_once typing_wholes.recursive_types typing_wholes.is_table typing_wholes.fits_shape typing_wholes.is_answer typing_wholes.first_type typing_wholes.judged types_resolved_bodies.resolved_stmt types_resolved_bodies.resolved_arm types_statement_rules.may_exit types_statement_rules.may_continue types_statement_rules.closes types_statement_rules.lacks_default types_statement_rules.is_state types_statement_rules.may_raise types_statement_types.asked types_statement_types.asked_of_slot types_statement_types.asked_stmt types_statement_types.asked_arm types_statements.with_variable types_statements.with_slot types_statements.with_hidden types_statements.assigned
+unfolding b.hidden-the_row-Expr-0 b.hidden-the_row-Expr-Chain-1-2-1 b.hidden-the_row-Expr-2 b.hidden-the_row-Expr-Cases-0-2-3 b.hidden-the_row-Query-4 b.hidden-the_row-Select-5 b.hidden-the_row-Item-6 b.hidden-the_row-FromItem-7 b.hidden-the_row-Key-8 b.shown-the_row-Key-8 view.roll-Select view.roll-Recursive view.roll-Query view.out-Query view.out-Recursive view.out-Select s.hidden-the_row-Stmt-0 s.hidden-the_row-Arm-1 denote.Hole.Carrier.hidden denote.Hole.Carrier.roll denote.Hole.Carrier.out denote.Hole.Carrier.shown digits names_files.file names_functions.function names_functions.is_aggregate names_lookups.place_of names_lookups.offers names_lookups.column_named names_lookups.column_qualified names_lookups.variable_named names_lookups.has_double names_lookups.is_kept names_naming.written names_naming.maybe_written names_naming.slot_or names_naming.named_by names_naming.named names_naming.qualified_by names_naming.qualified names_naming.unwritten names_naming.called names_naming.once_where names_naming.of_table names_naming.names_or names_naming.part_note names_naming.shown names_naming.named_as names_naming.is_alias names_naming.first_names names_rules.lesser names_rules.number names_notes.summed names_notes.clean names_notes.joined names_notes.breaks names_tables.table_of names_trees.named_expr names_trees.named_item names_trees.named_key names_trees.named_source names_trees.named_part names_trees.named_select names_trees.named_query names_trees.last_of names_trees.alone_of typing_aggregates.unused typing_aggregates.either typing_aggregates.of_slot typing_aggregates.of_column typing_aggregates.aggregated typing_aggregates.is_known_aggregate typing_aggregates.called typing_aggregates.of_query typing_aggregates.apart typing_aggregates.outside typing_aggregates.of_select typing_aggregates.or_ typing_kinds.same typing_kinds.only_if typing_kinds.meet typing_kinds.of_type typing_kinds.fits typing_kinds.is_right typing_kinds.settled typing_kinds.type_of typing_parameter_lists.with_expr typing_parameter_lists.with_source typing_parameter_lists.with_select typing_parameter_lists.with_query typing_parameters.taken typing_parameters.no_params typing_trees.uses_of typing_trees.uses_of_source typing_trees.uses_of_select typing_trees.uses_of_query typing_trees.names_at typing_trees.source_names_at typing_trees.select_names_at typing_trees.query_names_at typing_trees.kind_of typing_trees.shape_of_source typing_trees.shape_of_part typing_trees.kinds_of_select typing_trees.shape_of_query typing_typing.kind_at typing_typing.column typing_typing.pair typing_typing.passed typing_typing.castable typing_typing.cast_kind typing_typing.is_ordered typing_typing.call_kind typing_typing.called typing_typing.scalar_kind typing_typing.exists_kind typing_typing.listed typing_typing.table_shape typing_typing.maybe_fits typing_typing.select_kinds typing_typing.both typing_typing.further typing_typing.or_none typing_typing_lists.kinds_over typing_wholes.types_or_none typing_wholes.is_never typing_wholes.is_once typing_wholes.recursive_types typing_wholes.is_table typing_wholes.fits_shape typing_wholes.is_answer typing_wholes.first_type typing_wholes.judged types_findings.precedes types_findings.first_of types_findings.later types_findings.at_first types_findings.own types_findings.nothing types_findings.followed types_findings.both types_resolved_bodies.resolved_stmt types_resolved_bodies.resolved_arm types_statement_rules.may_exit types_statement_rules.may_continue types_statement_rules.closes types_statement_rules.lacks_default types_statement_rules.is_state types_statement_rules.may_raise types_statement_types.asked types_statement_types.asked_of_slot types_statement_types.asked_stmt types_statement_types.asked_arm types_statements.with_variable types_statements.with_slot types_statements.with_hidden types_statements.assigned
 schemas_break = refl

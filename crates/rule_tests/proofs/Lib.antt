@@ -1,1 +1,2 @@
 pub mod BrokenRules
+pub mod RowRules

@@ -1,3 +1,4 @@
 pub mod Pieces
 pub mod Functions
 pub mod Queries
+pub mod RowRules

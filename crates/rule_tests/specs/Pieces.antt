@@ -19,17 +19,14 @@ use Rattle.away_trees.specs.declared.statements.Decl.{Decl}
 use Rattle.away_trees.specs.declared.statements.LoopKind.TheVariants as kind
 use Rattle.away_trees.specs.declared.statements.Stmt.{Stmt}
 use Rattle.away_trees.specs.declared.statements.Stmt.TheVariants as stmt
+use Rattle.away_names.specs.declared.rule.Rule.{Rule}
 
 abbrev pub Name : Type 0
 Name = List ℕ
 
--- a rule by its number, and no rule
-abbrev pub none : ℕ
-none = 255
-
--- a tree, and the least rule that it breaks
+-- a tree, and the least rule that it breaks, if it breaks one
 abbrev pub Row : Type 0 → Type 0
-Row A = A × ℕ
+Row A = A × Option Rule
 
 abbrev pub column : Name → Ty → ColumnSchema
 column name type = record { name = name; ty = type; not_null = false }

@@ -8,8 +8,11 @@ mod cases;
 mod copies;
 #[cfg(test)]
 mod queries;
+mod row_rules;
 mod worked_rules;
 
+pub use row_rules::rows_break_the_rules_of_a_query_but_one;
 pub use worked_rules::{
     functions_break_their_rules, queries_break_their_rules, schemas_break_their_rules,
+    the_first_statement_is_told,
 };

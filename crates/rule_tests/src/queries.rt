@@ -3,7 +3,7 @@
 use away_trees::{
     ColumnSchema, Expr, FromItem, Item, Query, Recursive, Schema, Select, Source, TableSchema,
 };
-use away_types::{CheckedSchema, RuleRefusal, check_query, check_schema};
+use away_types::{CheckedSchema, RuleRefusal, check_query, check_rows, check_schema};
 use away_values::{ChainOp, CmpOp, IntOp, Name, Ty, name};
 use itoa::Buffer;
 use sqlite_items::{Boxed, Items};
@@ -122,7 +122,7 @@ fn tables(rt: &(impl Abort + AllocGlobal), number: usize, last: Name) -> Schema 
 fn checked(rt: &(impl Abort + AllocGlobal), s: Schema) -> Result<CheckedSchema, u8> {
     match check_schema(rt.alloc(), s) {
         Ok(schema) => Ok(schema),
-        Err(RuleRefusal::Rule(rule)) => Err(rule),
+        Err(RuleRefusal::Broken(rule)) => Err(rule.number()),
         Err(RuleRefusal::NoMemory) => rt.abort(),
     }
 }
@@ -135,8 +135,29 @@ fn params_or_rule(
 ) -> Result<usize, u8> {
     match check_query(rt.alloc(), s, q) {
         Ok(query) => Ok(query.params.len()),
-        Err(RuleRefusal::Rule(rule)) => Err(rule),
+        Err(RuleRefusal::Broken(rule)) => Err(rule.number()),
         Err(RuleRefusal::NoMemory) => rt.abort(),
+    }
+}
+
+/// The types of the columns of the checked query, or the rule that it breaks.
+fn columns_or_rule(
+    rt: &(impl Abort + AllocGlobal),
+    s: &CheckedSchema,
+    q: Query,
+) -> Result<Items<Ty>, u8> {
+    match check_rows(rt.alloc(), s, q) {
+        Ok(query) => Ok(query.columns),
+        Err(RuleRefusal::Broken(rule)) => Err(rule.number()),
+        Err(RuleRefusal::NoMemory) => rt.abort(),
+    }
+}
+
+/// A query of this list alone.
+fn listing(rt: &(impl Abort + AllocGlobal), list: Items<Item>) -> Query {
+    Query {
+        recursive: None,
+        selects: one(rt, select(rt, list, Items::new(rt.alloc()), None)),
     }
 }
 
@@ -247,4 +268,24 @@ fn a_query_of_one_column_is_refused(rt: HostRuntime) {
         Err(_) => rt.abort(),
         Ok(schema) => assert!(rt; params_or_rule(&rt, &schema, q) == Err(18)),
     }
+}
+
+#[test]
+fn all_columns_of_a_query_are_told(rt: HostRuntime) {
+    let schema = match checked(&rt, tables(&rt, 0, named(&rt, "t"))) {
+        Err(_) => rt.abort(),
+        Ok(schema) => schema,
+    };
+    let number = columns_or_rule(&rt, &schema, listing(&rt, one(&rt, item(Expr::Int(1)))));
+    match number {
+        Ok(columns) => assert!(rt; columns.as_slice() == [Ty::Bigint].as_slice()),
+        Err(_) => rt.abort(),
+    }
+    let pair = two(&rt, item(Expr::Bool(true)), item(Expr::Null));
+    match columns_or_rule(&rt, &schema, listing(&rt, pair)) {
+        Ok(columns) => assert!(rt; columns.as_slice() == [Ty::Boolean, Ty::Text].as_slice()),
+        Err(_) => rt.abort(),
+    }
+    let unknown = listing(&rt, one(&rt, item(column(&rt, "k"))));
+    assert!(rt; columns_or_rule(&rt, &schema, unknown).err() == Some(7));
 }

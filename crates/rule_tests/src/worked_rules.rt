@@ -12,6 +12,11 @@ pub fn functions_break_their_rules()
     ensures types { map functions.broken functions.types ≡ map functions.wanted functions.types }
 {}
 
+/// Of the statements that break the least rule the first is told, by its number among the nodes of the function.
+pub fn the_first_statement_is_told()
+    ensures { map functions.node_of functions.nodes ≡ map functions.wanted_node functions.nodes }
+{}
+
 /// The same of the rules on queries.
 pub fn queries_break_their_rules()
     ensures selects { map queries.broken queries.selects ≡ map queries.wanted queries.selects }

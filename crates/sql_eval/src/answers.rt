@@ -14,6 +14,7 @@ use sqlite_items::Items;
 use std::alloc::Global;
 
 /// The rows of a query at a bound, before an answer is read from them; None where the bound doesn't suffice.
+/// The bound is in iterations of the recursive table (the manual: 7.8.2, Recursive Queries).
 #[tactic(auto, using(crate::proofs::PublicRules::rows_rules))]
 pub fn rows(
     alloc: Global,
@@ -29,6 +30,7 @@ pub fn rows(
 
 /// The answer of a query at a bound. It is that of the definition for every tree and all tables, so nothing is asked of them; a query that was
 /// checked never meets what the definition says of names and of values of a wrong type.
+/// That there is a bound, in iterations of the recursive table (the manual: 7.8.2, Recursive Queries), is our own choice.
 #[tactic(auto, using(crate::proofs::PublicRules::answer_rules))]
 pub fn run_query(
     alloc: Global,

@@ -13,7 +13,7 @@ use away_values::{OpError, Tables, Value};
 use sqlite_items::Items;
 use std::alloc::Global;
 
-/// The value of an expression of a function, by the function's variables.
+/// The value of an expression of a function, by the function's variables. The manual: 43.11.1, Variable Substitution.
 #[tactic(auto, using(crate::proofs::PublicRules::public_rules))]
 pub fn value_in_body(
     alloc: Global,

@@ -20,6 +20,7 @@ pub struct Frames {
 }
 
 /// The value of an expression at variables, parameters, enclosing rows and tables.
+/// The manual: 4.2.14, Expression Evaluation Rules, leaves the order open: from left to right is our own choice.
 #[tactic(auto, using(crate::proofs::PublicRules::public_rules))]
 pub fn eval_expr(
     alloc: Global,

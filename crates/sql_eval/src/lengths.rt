@@ -10,6 +10,7 @@ use away_values::{NoMemory, OpError, Table, Tables, Value};
 use std::alloc::Global;
 
 /// The least bound at which the query doesn't need more, where that is at most `bound`. None comes exactly where it needs more at `bound`.
+/// Bounds are in iterations of the recursive table.
 #[tactic(auto, using(crate::proofs::LeastBounds::length_rules))]
 pub fn query_length(
     alloc: Global,

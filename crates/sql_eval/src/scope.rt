@@ -68,7 +68,13 @@ impl<'f, 't> Model for Scope<'f, 't> {
 
     ghost Value = { Context };
 
-    ghost view = { λ s. record { env = s.env.now; args = s.args.now; frames = frames_of s.row s.outer.now; tables = tables_of s.tables.now s.working; group = s.group.now } };
+    ghost view = { λ s. record {
+      env = s.env.now;
+      args = s.args.now;
+      frames = frames_of s.row s.outer.now;
+      tables = tables_of s.tables.now s.working;
+      group = s.group.now;
+    } };
 }
 
 impl<'f, 't> Scope<'f, 't> {

@@ -20,7 +20,7 @@ pub(crate) fn place_rows<'t>(outside: &Outside<'_, 't>, columns: &[Name]) -> &'t
 }
 
 /// A table's place, where it is below 2^64.
-fn place(columns: &[Name]) -> Option<usize>
+pub(crate) fn place(columns: &[Name]) -> Option<usize>
     ensures { MatchOption result (2 ^ 64 ≤ place_of columns.now) (λ n. n ≡ place_of columns.now) }
 {
     match columns {

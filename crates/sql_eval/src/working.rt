@@ -1,16 +1,18 @@
 //! The working tables of a recursive query, and a query at a bound.
 
-ghost use Rattle.sql_meaning.specs.AtBound.{over_recursive, rows_of_tables, rows_within, table_of};
+ghost use Rattle.sql_meaning.specs.AtBound.{over_found, over_recursive, rows_of_tables, rows_within, table_of};
 ghost use Rattle.away_trees.specs.declared.queries.Expr.TheViews.{out-Recursive};
 ghost use Rattle.sql_meaning.specs.Context.{outermost};
 ghost use Rattle.sql_meaning.specs.Working.{with_table};
+ghost use Rattle.sql_eval.specs.Kept.{over_kept};
 ghost use Rattle.sql_eval.specs.Scopes.{tables_of};
 ghost use Rattle.sql_meaning.specs.Selected.{select_rows};
 ghost use Rattle.sql_meaning.specs.Gives.{Gives, joined_of, query_rows};
 
+use crate::kept_rows::{kept_rows, only_filter};
 use crate::scope::Scope;
 use crate::selects::{query, select, union};
-use away_trees::{Query, Recursive};
+use away_trees::{Expr, Query, Recursive};
 use away_values::{OpError, Table, Tables, Value};
 use sqlite_items::Items;
 use std::alloc::Global;
@@ -102,8 +104,8 @@ pub(crate) fn rows_at(
     }
 }
 
-/// The rows of a query over its recursive table.
-#[tactic(auto, using(sql_meaning::proofs::BoundRules::over_rules))]
+/// The rows of a query over its recursive table, of which only those are held that its condition keeps, where nothing else reads that table.
+#[tactic(auto, using(crate::proofs::KeptRules::either_rules))]
 fn rows_over(
     alloc: Global,
     q: &Query,
@@ -114,7 +116,53 @@ fn rows_over(
 ) -> Result<Option<Items<Items<Value>>>, OpError>
     ensures { Gives (over_recursive q.now r.now (rows_of_tables tables.now) args.now bound) result }
 {
+    match only_filter(q, tables.len()) {
+        Some(test) => rows_over_kept(alloc, q, r, test, tables, args, bound),
+        None => rows_over_all(alloc, q, r, tables, args, bound),
+    }
+}
+
+#[tactic(auto, using(crate::proofs::KeptRules::over_rules))]
+fn rows_over_kept(
+    alloc: Global,
+    q: &Query,
+    r: &Recursive,
+    test: &Expr,
+    tables: &[Table],
+    args: &[Value],
+    bound: u64,
+) -> Result<Option<Items<Items<Value>>>, OpError>
+    ensures { Gives (over_kept q.now test.now r.now (rows_of_tables tables.now) args.now bound) result }
+{
+    let found = kept_rows(alloc, r, test, tables, args, bound)?;
+    rows_of_found(alloc, q, tables, found, args)
+}
+
+#[tactic(auto, using(sql_meaning::proofs::BoundRules::over_rules))]
+fn rows_over_all(
+    alloc: Global,
+    q: &Query,
+    r: &Recursive,
+    tables: &[Table],
+    args: &[Value],
+    bound: u64,
+) -> Result<Option<Items<Items<Value>>>, OpError>
+    ensures { Gives (over_recursive q.now r.now (rows_of_tables tables.now) args.now bound) result }
+{
     let found = recursive_rows(alloc, r, tables, args, bound)?;
+    rows_of_found(alloc, q, tables, found, args)
+}
+
+#[tactic(auto, using(sql_meaning::proofs::BoundRules::over_rules))]
+fn rows_of_found(
+    alloc: Global,
+    q: &Query,
+    tables: &[Table],
+    found: Option<Items<Items<Value>>>,
+    args: &[Value],
+) -> Result<Option<Items<Items<Value>>>, OpError>
+    ensures { Gives (over_found q.now (rows_of_tables tables.now) args.now found) result }
+{
     match found {
         None => Ok(None),
         Some(table) => {

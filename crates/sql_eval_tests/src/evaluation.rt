@@ -4,8 +4,9 @@ mod trees;
 
 use crate::evaluation::trees::Given::{Bool, Int, Null, Text};
 use crate::evaluation::trees::{
-    Given, answering, arithmetic, call, column, comparison, counting, item, key, lateral, literal,
-    none, one, outer_column, query, select, table, tables, value, with,
+    Given, answering, arithmetic, boxed, call, column, comparison, counting, filtered, item, key,
+    lateral, literal, none, one, outer_column, query, recursive, select, table, tables, up_to,
+    value, with,
 };
 use away_trees::{Expr, Query, Select};
 use away_values::{Answer, CmpOp, IntOp, OpError, Tables, Ty, Value};
@@ -135,7 +136,7 @@ fn subqueries(rt: HostRuntime) {
         &rt,
         select(&rt, one(&rt, item(column(0))), one(&rt, table(&rt, "0"))),
     );
-    let scalar = Expr::Scalar(crate::evaluation::trees::boxed(&rt, inner));
+    let scalar = Expr::Scalar(boxed(&rt, inner));
     assert!(rt;
         answers(
             &rt,
@@ -166,6 +167,76 @@ fn recursion(rt: HostRuntime) {
     assert!(rt;
         query_length(rt.alloc(), &plain, &none_at_all, &[], 7).expect(&rt, "memory") == Some(0)
     );
+}
+
+/// 1 / (r.n - of) = 9
+fn ninth(rt: &(impl Abort + AllocGlobal), of: i64) -> Expr {
+    let apart = arithmetic(rt, IntOp::Sub, column(0), Expr::Int(of));
+    let part = arithmetic(rt, IntOp::Div, Expr::Int(1), apart);
+    comparison(rt, CmpOp::Eq, part, Expr::Int(9))
+}
+
+/// The recursion speaks before the condition, whose class is told when it has ended.
+#[test]
+fn conditions_that_fail(rt: HostRuntime) {
+    let none_at_all = tables(&rt, &[]);
+    let q = up_to(&rt, 5, filtered(&rt, column(0), ninth(&rt, 2)));
+    assert!(rt; answer_at(&rt, &q, &none_at_all, 5).as_str() == "fault 22012");
+    assert!(rt; answer_at(&rt, &q, &none_at_all, 4).as_str() == "more");
+    let next = arithmetic(
+        &rt,
+        IntOp::Mul,
+        column(0),
+        Expr::Int(4_000_000_000_000_000_000),
+    );
+    let q = recursive(&rt, next, None, filtered(&rt, column(0), ninth(&rt, 1)));
+    assert!(rt; answer_at(&rt, &q, &none_at_all, 2).as_str() == "fault 22003");
+    assert!(rt; answer_at(&rt, &q, &none_at_all, 1).as_str() == "more");
+}
+
+/// What the select says of the numbers from 1 to 5.
+fn of_five(rt: &(impl Abort + AllocGlobal), s: Select, line: &str) -> bool {
+    let none_at_all = tables(rt, &[]);
+    let q = up_to(rt, 5, s);
+    answer_at(rt, &q, &none_at_all, 5).as_str() == line
+}
+
+/// (SELECT e FROM the table at the place)
+fn over(rt: &(impl Abort + AllocGlobal), e: Expr, place: &str) -> Expr {
+    let s = select(rt, one(rt, item(e)), one(rt, table(rt, place)));
+    Expr::Scalar(boxed(rt, query(rt, s)))
+}
+
+/// r.n = e
+fn is(rt: &(impl Abort + AllocGlobal), e: Expr) -> Expr {
+    comparison(rt, CmpOp::Eq, column(0), e)
+}
+
+/// Where a subquery reads the recursive table, it sees all of its rows, and not those alone that the condition keeps.
+#[test]
+fn tables_in_subqueries(rt: HostRuntime) {
+    let greatest = over(&rt, call(&rt, "max", column(0)), "1");
+    assert!(rt; of_five(&rt, filtered(&rt, column(0), is(&rt, greatest)), "5"));
+    let count = over(&rt, Expr::CountRows, "1");
+    assert!(rt; of_five(&rt, filtered(&rt, count, is(&rt, Expr::Int(2))), "5"));
+    let other = over(&rt, column(0), "0");
+    let q = up_to(&rt, 5, filtered(&rt, column(0), is(&rt, other)));
+    assert!(rt; answer_at(&rt, &q, &tables(&rt, &[Int(4)]), 5).as_str() == "4");
+}
+
+#[test]
+fn rows_that_are_kept(rt: HostRuntime) {
+    let above = comparison(&rt, CmpOp::Gt, column(0), Expr::Int(2));
+    let sum = Expr::Cast(boxed(&rt, call(&rt, "sum", column(0))), Ty::Bigint);
+    assert!(rt; of_five(&rt, filtered(&rt, sum, above), "12"));
+    let not_three = comparison(&rt, CmpOp::Ne, column(0), Expr::Int(3));
+    let mut s = filtered(&rt, column(0), not_three);
+    s.order = one(&rt, key(column(0), true));
+    s.limit = Some(Expr::Int(1));
+    assert!(rt; of_five(&rt, s, "5"));
+    let mut s = filtered(&rt, column(0), Expr::Bool(false));
+    s.limit = Some(Expr::Int(-1));
+    assert!(rt; of_five(&rt, s, "fault 2201W"));
 }
 
 #[test]

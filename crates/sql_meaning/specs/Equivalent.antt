@@ -15,6 +15,7 @@ FunctionAnswer = List Rows → List Value → ℕ → Answer
 -- the function needs more than n turns the query needs more than n iterations; and an answer that the query has at k iterations is the function's
 -- within k turns.
 pub record IsEquivalent (FitTables : List Rows → Type 0) (FitArgs : List Value → Type 0) (weight : ℕ) (f : FunctionAnswer) (q : Query) : Type 0 where
-  pub ends : (T : List Rows) (args : List Value) (n : ℕ) → FitTables T → FitArgs args → f T args n ≢ answer.More → sql q T args ((n + 1) * weight + 1) ≡ f T args n
+  pub ends : (T : List Rows) (args : List Value) (n : ℕ) → FitTables T → FitArgs args → f T args n ≢ answer.More
+      → sql q T args ((n + 1) * weight + 1) ≡ f T args n
   pub goes_on : (T : List Rows) (args : List Value) (n : ℕ) → FitTables T → FitArgs args → f T args n ≡ answer.More → sql q T args n ≡ answer.More
   pub only : (T : List Rows) (args : List Value) (k : ℕ) → FitTables T → FitArgs args → sql q T args k ≢ answer.More → f T args k ≡ sql q T args k

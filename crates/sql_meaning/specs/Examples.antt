@@ -67,7 +67,13 @@ t = table_by (48 ∷ [])
 -- a query of one select with everything, over that table
 abbrev pub whole : List Expr → Option Expr → List (Expr × Bool) → Option Expr → Query
 whole list filter keys limit =
-    one (roll-Select (record { list = map item list; from = t ∷ []; filter = filter; order = map (λ k. roll-Key (record { expr = k.0; descending = k.1 })) keys; limit = limit }))
+    one (roll-Select (record {
+      list = map item list;
+      from = t ∷ [];
+      filter = filter;
+      order = map (λ k. roll-Key (record { expr = k.0; descending = k.1 })) keys;
+      limit = limit;
+    }))
 
 -- ---- tables
 
@@ -88,13 +94,20 @@ numbers = map (λ k. val.Int k ∷ [])
 -- the template of RETURN a + b * 2, for a function of two bigint parameters, over no table
 abbrev pub first_path : Query
 first_path =
-    query_with (48 ∷ []) (ty.Bigint ∷ ty.Bigint ∷ []) ty.Bigint (placed_at ty.Bigint slot_at (chain_of (expr.Slot 0) (chain.Int op.Add) (chain_of (expr.Slot 1) (chain.Int op.Mul) (n 2))))
+    query_with (48 ∷ []) (ty.Bigint ∷ ty.Bigint
+    ∷ []) ty.Bigint (placed_at ty.Bigint slot_at (chain_of (expr.Slot 0) (chain.Int op.Add) (chain_of (expr.Slot 1) (chain.Int op.Mul) (n 2))))
 
 -- WITH RECURSIVE t(i) AS (SELECT first UNION ALL SELECT next FROM t WHERE t.i < 5) SELECT CAST(sum(t.i) AS bigint), CAST(NULL AS text) FROM t
 abbrev pub recursive : Expr → Expr → Query
 recursive first next =
     roll-Query (record {
-      recursive = Some (roll-Recursive (record { name = []; columns = []; first = select (first ∷ []) [] None ∷ []; second = select (next ∷ []) (t ∷ []) (Some (expr.Compare cmp.Lt (col 0 0 0) (n 5))) }));
+      recursive = Some (roll-Recursive (record {
+        name = [];
+        columns = [];
+        first = select (first ∷ []) [] None
+            ∷ [];
+        second = select (next ∷ []) (t ∷ []) (Some (expr.Compare cmp.Lt (col 0 0 0) (n 5)));
+      }));
       selects = select (expr.Cast (call (codes "sum") (col 0 0 0)) ty.Bigint ∷ null_of ty.Text ∷ []) (t ∷ []) None ∷ [];
     })
 
@@ -121,7 +134,8 @@ scalar filter = expr.Scalar (texts filter [] None)
 -- SELECT count(*) FROM (SELECT 1 WHERE some) AS a, LATERAL (SELECT 1 / 0) AS b
 abbrev pub beside : Bool → Query
 beside some =
-    one (select (expr.CountRows ∷ []) (subquery false (one (select (n 1 ∷ []) [] (Some (expr.Bool some)))) ∷ lateral (one (select (by_zero ∷ []) [] None)) ∷ []) None)
+    one (select (expr.CountRows ∷ []) (subquery false (one (select (n 1 ∷ []) [] (Some (expr.Bool some))))
+    ∷ lateral (one (select (by_zero ∷ []) [] None)) ∷ []) None)
 
 -- EXISTS (SELECT 1 / 0 FROM t WHERE filter)
 abbrev pub exists : Option Expr → Expr
@@ -135,4 +149,5 @@ summed = whole (expr.Cast (call (codes "sum") (col 0 0 0)) ty.Bigint ∷ []) Non
 abbrev pub aggregated : Query
 aggregated =
     let big : Expr = expr.Compare cmp.Gt (col 0 0 0) (n 2) in
-    whole (expr.CountRows ∷ call (codes "count") (col 0 0 0) ∷ call (codes "min") (col 0 0 0) ∷ call (codes "max") (col 0 0 0) ∷ expr.Cast (call (codes "sum") (col 0 0 0)) ty.Bigint ∷ call (codes "bool_and") big ∷ call (codes "bool_or") big ∷ []) None [] None
+    whole (expr.CountRows ∷ call (codes "count") (col 0 0 0) ∷ call (codes "min") (col 0 0 0) ∷ call (codes "max")
+    (col 0 0 0) ∷ expr.Cast (call (codes "sum") (col 0 0 0)) ty.Bigint ∷ call (codes "bool_and") big ∷ call (codes "bool_or") big ∷ []) None [] None

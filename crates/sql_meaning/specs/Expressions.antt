@@ -115,12 +115,23 @@ expr_meaning (ex.Chain e links) =
 expr_meaning (ex.Compare op a b) =
     record { aggregates = a.aggregates || b.aggregates; value = λ cx. and_then (a.value cx) (λ v. mapped (compare op v) (b.value cx)) }
 expr_meaning (ex.Between negative e low high) =
-    record { aggregates = e.aggregates || (low.aggregates || high.aggregates); value = λ cx. mapped (negation_if negative) (and_then (e.value cx) (λ v. and_then (low.value cx) (λ l. between v l (high.value cx)))) }
+    record {
+      aggregates = e.aggregates || (low.aggregates || high.aggregates);
+      value = λ cx. mapped (negation_if negative)
+          (and_then (e.value cx) (λ v. and_then (low.value cx) (λ l. between v l (high.value cx))));
+    }
 expr_meaning (ex.OneOf negative e choices) =
-    record { aggregates = e.aggregates || any_aggregates choices; value = λ cx. mapped (negation_if negative) (and_then (e.value cx) (λ v. among v (answers cx choices) (val.Bool false))) }
+    record {
+      aggregates = e.aggregates || any_aggregates choices;
+      value = λ cx. mapped (negation_if negative)
+          (and_then (e.value cx) (λ v. among v (answers cx choices) (val.Bool false)));
+    }
 expr_meaning (ex.Cast e ty) = record { aggregates = e.aggregates; value = λ cx. and_then (e.value cx) (cast ty) }
 expr_meaning (ex.Cases arms other) =
-    record { aggregates = list_any (λ arm. arm.0.aggregates || arm.1.aggregates) arms || other_aggregates other; value = λ cx. chosen (other_value cx other) (arm_answers cx arms) }
+    record {
+      aggregates = list_any (λ arm. arm.0.aggregates || arm.1.aggregates) arms || other_aggregates other;
+      value = λ cx. chosen (other_value cx other) (arm_answers cx arms);
+    }
 expr_meaning (ex.Call name es) =
     record { aggregates = is_aggregate (function name) || any_aggregates es; value = called (function name) es }
 expr_meaning ex.CountRows = record { aggregates = true; value = λ cx. Ok (val.Int (pos (length cx.group))) }

@@ -17,7 +17,9 @@ named_by (f ∷ fs) name = if bytes_eq f.0 name then f.1 else named_by fs name
 -- no checked tree calls another
 abbrev pub function : List ℕ → Function
 function =
-    named_by ((codes "length", Length) ∷ (codes "substr", Substr) ∷ (codes "coalesce", Coalesce) ∷ (codes "greatest", Greatest) ∷ (codes "least", Least) ∷ (codes "count", Count) ∷ (codes "min", Min) ∷ (codes "max", Max) ∷ (codes "sum", Sum) ∷ (codes "bool_and", BoolAnd) ∷ (codes "bool_or", BoolOr) ∷ [])
+    named_by ((codes "length", Length) ∷ (codes "substr", Substr) ∷ (codes "coalesce", Coalesce)
+    ∷ (codes "greatest", Greatest) ∷ (codes "least", Least) ∷ (codes "count", Count) ∷ (codes "min", Min)
+    ∷ (codes "max", Max) ∷ (codes "sum", Sum) ∷ (codes "bool_and", BoolAnd) ∷ (codes "bool_or", BoolOr) ∷ [])
 
 abbrev pub is_aggregate : Function → Bool
 is_aggregate Count = true

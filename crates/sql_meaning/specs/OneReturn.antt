@@ -41,4 +41,6 @@ IsTemplate tables params result e q = bare q ≡ bare (query_of_return tables pa
 -- The first theorem of the compiler.
 abbrev pub OneReturn : Type 0
 OneReturn =
-    (tables weight : ℕ) (params : List Ty) (result : Ty) (e : Expr) → tables < 2 ^ 64 → 0 < weight → IsSource tables (length params) e → (q : Query) → IsTemplate tables params result e q → IsEquivalent (λ T. length T ≡ tables) (λ args. AreTyped params args) weight (answer_of_return e) q
+    (tables weight : ℕ) (params : List Ty) (result : Ty) (e : Expr) → tables < 2 ^ 64 → 0 < weight
+    → IsSource tables (length params) e → (q : Query) → IsTemplate tables params result e q
+    → IsEquivalent (λ T. length T ≡ tables) (λ args. AreTyped params args) weight (answer_of_return e) q

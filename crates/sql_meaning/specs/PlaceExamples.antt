@@ -11,7 +11,11 @@ use Rattle.sql_meaning.specs.Examples.{t, chain_of}
 -- a + b + (SELECT x.v FROM t, LATERAL (SELECT t.k + c) AS x WHERE d IS NULL) + literal
 abbrev pub shape : Expr → Expr → Expr → Expr → Expr → Expr
 shape a b c d literal =
-    expr.Chain a ((chain.Int op.Add, b) ∷ (chain.Int op.Add, expr.Scalar (one (select (col 0 1 0 ∷ []) (t ∷ lateral (one (select (chain_of (col 1 0 0) (chain.Int op.Add) c ∷ []) [] None)) ∷ []) (Some (expr.Is d test.Null false))))) ∷ (chain.Int op.Add, literal) ∷ [])
+    expr.Chain a ((chain.Int op.Add, b) ∷ (
+      chain.Int op.Add,
+      expr.Scalar (one (select (col 0 1 0 ∷ []) (t ∷ lateral (one (select (chain_of (col 1 0 0) (chain.Int op.Add) c ∷ []) [] None))
+          ∷ []) (Some (expr.Is d test.Null false)))),
+    ) ∷ (chain.Int op.Add, literal) ∷ [])
 
 -- over the variables 3, 5 and 1
 abbrev pub over_slots : Expr

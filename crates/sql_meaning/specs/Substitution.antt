@@ -24,9 +24,12 @@ pub record Keeps (cx qx : Context) (e e' : Expr) : Type 0 where
 -- The literals get the casts to their types, and where the expression is the literal NULL it may have the cast to any type.
 abbrev pub Substitution : Type 0
 Substitution =
-    (ref : ℕ → Col) (slots : ℕ → Bool) (params tables : ℕ) (cx qx : Context) → SeesAlike params tables cx qx → ((i : ℕ) → slots i ≡ true → column qx.frames (ref i) ≡ at cx.env i) → (e : Expr) → fits slots params tables e ≡ true → Keeps cx qx e (placed ref e) × ((t : Ty) → Keeps cx qx e (placed_at t ref e))
+    (ref : ℕ → Col) (slots : ℕ → Bool) (params tables : ℕ) (cx qx : Context) → SeesAlike params tables cx qx
+    → ((i : ℕ) → slots i ≡ true → column qx.frames (ref i) ≡ at cx.env i) → (e : Expr) → fits slots params tables e
+    ≡ true → Keeps cx qx e (placed ref e) × ((t : Ty) → Keeps cx qx e (placed_at t ref e))
 
 -- Only the slots that an expression reads matter to its value.
 abbrev pub OnlySlotsMatter : Type 0
 OnlySlotsMatter =
-    (slots : ℕ → Bool) (params tables : ℕ) (cx qx : Context) → SeesAlike params tables cx qx → (e : Expr) → fits slots params tables e ≡ true → All (λ i. at qx.env i ≡ at cx.env i) (slots_of e) → value e qx ≡ value e cx
+    (slots : ℕ → Bool) (params tables : ℕ) (cx qx : Context) → SeesAlike params tables cx qx → (e : Expr)
+    → fits slots params tables e ≡ true → All (λ i. at qx.env i ≡ at cx.env i) (slots_of e) → value e qx ≡ value e cx

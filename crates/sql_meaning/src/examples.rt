@@ -67,13 +67,15 @@ pub fn recursion_needs_its_bound()
     ensures fault { sql to_a_fault [] [] 1 ≡ answer.Fault (class (codes "22012")) }
 {}
 
-/// A query answers a value or a fault by one row of two columns, and any other result tells the number of its rows: a text that is no class, 00000 among them, a value
+/// A query answers a value or a fault by one row of two columns, and any other result tells the number of its rows: a text that is no class,
+/// 00000 among them, a value
 /// beside a class, and rows of one column or of three.
 pub fn a_query_is_asked_for_one_row()
     ensures three { sql (keys_where None) (three ∷ []) [] 0 ≡ answer.Shape 3 }
     ensures none { sql (keys_where (Some (expr.Bool false))) (three ∷ []) [] 0 ≡ answer.Shape 0 }
     ensures value { sql (keys_where None) (numbers (pos 7 ∷ []) ∷ []) [] 0 ≡ answer.Value (int 7) }
-    ensures fault { sql (whole (expr.Null ∷ expr.Str (codes "AB123") ∷ []) None [] None) (numbers (pos 7 ∷ []) ∷ []) [] 0 ≡ answer.Fault (class (codes "AB123")) }
+    ensures fault { sql (whole (expr.Null ∷ expr.Str (codes "AB123") ∷ []) None [] None) (numbers (pos 7 ∷ []) ∷ []) [] 0
+        ≡ answer.Fault (class (codes "AB123")) }
     ensures text { sql (whole (expr.Null ∷ expr.Str (codes "ab123") ∷ []) None [] None) (numbers (pos 7 ∷ []) ∷ []) [] 0 ≡ answer.Shape 1 }
     ensures success { sql (whole (expr.Null ∷ expr.Str (codes "00000") ∷ []) None [] None) (numbers (pos 7 ∷ []) ∷ []) [] 0 ≡ answer.Shape 1 }
     ensures both { sql (whole (n 1 ∷ expr.Str (codes "22012") ∷ []) None [] None) (numbers (pos 7 ∷ []) ∷ []) [] 0 ≡ answer.Shape 1 }
@@ -82,6 +84,7 @@ pub fn a_query_is_asked_for_one_row()
 {}
 
 /// A scalar subquery of two rows is a fault and of none is NULL. An item beside no row isn't evaluated. EXISTS evaluates its list.
+/// 21000 is cardinality_violation (the manual: 4.2.11); the evaluation of EXISTS is our own choice, as 9.23.1 leaves it open.
 pub fn a_subquery_is_evaluated_whole()
     ensures two { over (whole (scalar None ∷ []) None [] None) (three ∷ []) ≡ fails (codes "21000") }
     ensures none { over (whole (scalar (Some (expr.Bool false)) ∷ []) None [] (Some (n 1))) (three ∷ []) ≡ Ok ((val.Null ∷ []) ∷ []) }
@@ -99,17 +102,23 @@ pub fn parts_of_a_select_come_in_order()
     ensures key { over (texts None ((by_zero, false) ∷ []) (Some (expr.Int (negsuc 0)))) (three ∷ []) ≡ fails (codes "22012") }
     ensures limit { over (texts None [] (Some (expr.Int (negsuc 0)))) (three ∷ []) ≡ fails (codes "2201W") }
     ensures nothing { over (texts (Some (expr.Bool false)) [] (Some (expr.Int (negsuc 0)))) (three ∷ []) ≡ fails (codes "2201W") }
-    ensures no_limit { over (texts None [] (Some expr.Null)) (three ∷ []) ≡ Ok ((text (codes "one") ∷ []) ∷ (text (codes "two") ∷ []) ∷ (text (codes "zwei") ∷ []) ∷ []) }
+    ensures no_limit { over (texts None [] (Some expr.Null)) (three ∷ [])
+        ≡ Ok ((text (codes "one") ∷ []) ∷ (text (codes "two") ∷ []) ∷ (text (codes "zwei") ∷ []) ∷ []) }
     ensures first_two { over (texts None [] (Some (n 2))) (three ∷ []) ≡ Ok ((text (codes "one") ∷ []) ∷ (text (codes "two") ∷ []) ∷ []) }
     ensures no_row { over (texts None [] (Some (n 0))) (three ∷ []) ≡ Ok [] }
 {}
 
 /// NULLs come last where the order rises and first where it falls, and rows with equal keys keep their order.
+/// The manual: 7.5, Sorting Rows. The order of equal keys is our own choice.
 pub fn rows_are_put_in_order()
-    ensures rising { over (texts None ((col 0 0 0, false) ∷ []) None) (with_null ∷ []) ≡ Ok ((text (codes "a") ∷ []) ∷ (text (codes "b") ∷ []) ∷ (text (codes "c") ∷ []) ∷ []) }
-    ensures falling { over (texts None ((col 0 0 0, true) ∷ []) None) (with_null ∷ []) ≡ Ok ((text (codes "c") ∷ []) ∷ (text (codes "b") ∷ []) ∷ (text (codes "a") ∷ []) ∷ []) }
-    ensures ties { over (texts None ((col 0 0 0, true) ∷ []) None) (three ∷ []) ≡ Ok ((text (codes "two") ∷ []) ∷ (text (codes "zwei") ∷ []) ∷ (text (codes "one") ∷ []) ∷ []) }
-    ensures second_key { over (texts None ((col 0 0 0, true) ∷ (col 0 0 1, true) ∷ []) None) (three ∷ []) ≡ Ok ((text (codes "zwei") ∷ []) ∷ (text (codes "two") ∷ []) ∷ (text (codes "one") ∷ []) ∷ []) }
+    ensures rising { over (texts None ((col 0 0 0, false) ∷ []) None) (with_null ∷ [])
+        ≡ Ok ((text (codes "a") ∷ []) ∷ (text (codes "b") ∷ []) ∷ (text (codes "c") ∷ []) ∷ []) }
+    ensures falling { over (texts None ((col 0 0 0, true) ∷ []) None) (with_null ∷ [])
+        ≡ Ok ((text (codes "c") ∷ []) ∷ (text (codes "b") ∷ []) ∷ (text (codes "a") ∷ []) ∷ []) }
+    ensures ties { over (texts None ((col 0 0 0, true) ∷ []) None) (three ∷ [])
+        ≡ Ok ((text (codes "two") ∷ []) ∷ (text (codes "zwei") ∷ []) ∷ (text (codes "one") ∷ []) ∷ []) }
+    ensures second_key { over (texts None ((col 0 0 0, true) ∷ (col 0 0 1, true) ∷ []) None) (three ∷ [])
+        ≡ Ok ((text (codes "zwei") ∷ []) ∷ (text (codes "two") ∷ []) ∷ (text (codes "one") ∷ []) ∷ []) }
 {}
 
 /// AND, OR, COALESCE, CASE, BETWEEN and IN stop before a fault where they are decided, and not before a NULL. A chain goes from its left end.
@@ -137,14 +146,17 @@ pub fn operators_stop_where_decided()
 {}
 
 /// Aggregates skip NULLs and are NULL over nothing, except the counts. A sum is tested for its range at its end alone, and adds numbers alone.
+/// The manual: 4.2.7 and 9.21. That the range is tested at the end alone is our own choice.
 pub fn aggregates_skip_null()
     ensures some { over aggregated (with_null ∷ []) ≡ Ok ((int 3 ∷ int 2 ∷ int 2 ∷ int 5 ∷ int 7 ∷ val.Bool false ∷ val.Bool true ∷ []) ∷ []) }
     ensures none { over aggregated ([] ∷ []) ≡ Ok ((int 0 ∷ int 0 ∷ val.Null ∷ val.Null ∷ val.Null ∷ val.Null ∷ val.Null ∷ []) ∷ []) }
     ensures comes_back { over summed (numbers (pos 9223372036854775807 ∷ pos 1 ∷ negsuc 0 ∷ []) ∷ []) ≡ Ok ((int 9223372036854775807 ∷ []) ∷ []) }
     ensures leaves { over summed (numbers (pos 9223372036854775807 ∷ pos 1 ∷ []) ∷ []) ≡ fails (codes "22003") }
-    ensures second { over aggregated (numbers (pos 1 ∷ pos 5 ∷ []) ∷ []) ≡ Ok ((int 2 ∷ int 2 ∷ int 1 ∷ int 5 ∷ int 6 ∷ val.Bool false ∷ val.Bool true ∷ []) ∷ []) }
+    ensures second { over aggregated (numbers (pos 1 ∷ pos 5 ∷ []) ∷ [])
+        ≡ Ok ((int 2 ∷ int 2 ∷ int 1 ∷ int 5 ∷ int 6 ∷ val.Bool false ∷ val.Bool true ∷ []) ∷ []) }
     ensures numbers_alone { aggregate Sum (text (codes "a") ∷ int 3 ∷ text (codes "b") ∷ int 4 ∷ []) ≡ Ok (int 7) }
-    ensures untaken { over (whole (expr.Cases ((expr.Bool false, call (codes "max") by_zero) ∷ []) (Some expr.CountRows) ∷ []) None [] None) (three ∷ []) ≡ Ok ((int 3 ∷ []) ∷ []) }
+    ensures untaken { over (whole (expr.Cases ((expr.Bool false, call (codes "max") by_zero) ∷ []) (Some expr.CountRows) ∷ []) None [] None)
+        (three ∷ []) ≡ Ok ((int 3 ∷ []) ∷ []) }
 {}
 
 /// Operations of 32 bits, their minus and the cast to integer give the value of the bigint operation, where it has 32 bits.

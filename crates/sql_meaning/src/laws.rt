@@ -49,8 +49,10 @@ ghost use Rattle.sql_meaning.specs.Working.{
 /// its class, or, where it is empty, by the working tables up to it, one after the other.
 pub fn the_first_empty_or_faulty_table_decides()
     ensures more { (r : RecursiveMeaning) (T : List Rows) (args : List Value) (k : ℕ) → AreFilledBefore r T args (k + 1) → recursive_table r T args k ≡ None }
-    ensures empty { (r : RecursiveMeaning) (T : List Rows) (args : List Value) (i k : ℕ) → i ≤ k → AreFilledBefore r T args i → working r T args i ≡ Ok [] → recursive_table r T args k ≡ Some (all_working r T args i) }
-    ensures fault { (r : RecursiveMeaning) (T : List Rows) (args : List Value) (i k : ℕ) (c : Class) → i ≤ k → AreFilledBefore r T args i → working r T args i ≡ Err c → recursive_table r T args k ≡ Some (Err c) }
+    ensures empty { (r : RecursiveMeaning) (T : List Rows) (args : List Value) (i k : ℕ) → i ≤ k
+        → AreFilledBefore r T args i → working r T args i ≡ Ok [] → recursive_table r T args k ≡ Some (all_working r T args i) }
+    ensures fault { (r : RecursiveMeaning) (T : List Rows) (args : List Value) (i k : ℕ) (c : Class) → i ≤ k
+        → AreFilledBefore r T args i → working r T args i ≡ Err c → recursive_table r T args k ≡ Some (Err c) }
 {}
 
 /// What a query answers at a bound, other than that it needs more, it answers at every greater bound.
@@ -77,7 +79,8 @@ pub fn stopping_changes_no_value()
 /// Without a key the rows stay as they are.
 pub fn sorting_is_stable()
     ensures sorted { (keys : List KeyMeaning) (xs : List Keyed) → IsSorted (comes_before keys) xs (sorted (comes_before keys) xs) }
-    ensures rows { (cx : Context) (key : KeyMeaning) (more : List KeyMeaning) (frames : List Frame) (rows : Rows) (old : List Keyed) → keyed cx (key ∷ more) frames rows ≡ Ok old → IsOrdered (key ∷ more) old (ordered cx (key ∷ more) frames rows) }
+    ensures rows { (cx : Context) (key : KeyMeaning) (more : List KeyMeaning) (frames : List Frame) (rows : Rows)
+        (old : List Keyed) → keyed cx (key ∷ more) frames rows ≡ Ok old → IsOrdered (key ∷ more) old (ordered cx (key ∷ more) frames rows) }
     ensures no_key { (cx : Context) (frames : List Frame) (rows : Rows) → ordered cx [] frames rows ≡ Ok rows }
 {}
 

@@ -82,7 +82,8 @@ fn opens(terminal: PrintedTerminal<'_>) -> bool
 
 /// Whether no space stands before it.
 fn closes(terminal: PrintedTerminal<'_>) -> bool
-    ensures { result ≡ (is_one 41 (spelled (terminal_of terminal.entry)) || (is_one 44 (spelled (terminal_of terminal.entry)) || is_one 46 (spelled (terminal_of terminal.entry)))) }
+    ensures { result ≡ (is_one 41 (spelled (terminal_of terminal.entry))
+        || (is_one 44 (spelled (terminal_of terminal.entry)) || is_one 46 (spelled (terminal_of terminal.entry)))) }
 {
     matches!(
         terminal,

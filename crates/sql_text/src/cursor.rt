@@ -192,6 +192,7 @@ impl<'a> Cursor<'a> {
     }
 
     /// Takes what stands next, which has to be a test of IS.
+    /// The manual: 9.2, Comparison Functions and Operators, the comparison predicates.
     pub fn test(&mut self) -> Result<IsTest, Refusal>
         ensures found { Found (test_in (first self.old)) result }
         ensures rest { self.new ≡ tail self.old }
@@ -248,6 +249,7 @@ impl<'a> Cursor<'a> {
     }
 
     /// Takes what stands next, which has to be a parameter.
+    /// The manual: 4.2.2, Positional Parameters; that the number is at most 64 is our own choice.
     pub fn parameter(&mut self) -> Result<u32, Refusal>
         ensures found { Found (parameter_in (first self.old)) result }
         ensures rest { self.new ≡ tail self.old }
@@ -262,6 +264,7 @@ impl<'a> Cursor<'a> {
     }
 
     /// Takes the opposite of the least bigint, if it stands next.
+    /// The manual: 4.1.2.6, Numeric Constants, where a minus is an operator and no part of the constant.
     pub fn eat_least(&mut self) -> bool
         ensures yes { OnTrue result ((is_least self.old ≡ true) × (self.new ≡ tail self.old)) }
         ensures no { OnFalse result ((is_least self.old ≡ false) × (self.new ≡ self.old)) }

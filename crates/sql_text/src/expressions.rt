@@ -1,4 +1,4 @@
-//! Expressions, by descent through the levels (PostgreSQL manual, Operator Precedence).
+//! Expressions, by descent through the levels (PostgreSQL manual, 4.1.6, Operator Precedence).
 
 ghost use Rattle.std.specs.Prelude.{◌≡◌, ◌≤◌, length};
 ghost use Rattle.away_grammar.specs.Grammar.{IsChain, Tree, at, links, operands};

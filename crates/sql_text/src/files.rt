@@ -18,7 +18,7 @@ use away_values::{Name, NoMemory};
 use sqlite_items::{Boxed, Items};
 use std::alloc::Global;
 
-/// A query, perhaps behind WITH RECURSIVE, and perhaps with `;` at its end.
+/// A query, perhaps behind WITH RECURSIVE, and perhaps with `;` at its end. The manual: 7.8.2, Recursive Queries.
 pub fn file_of(alloc: Global, tokens: &mut Cursor<'_>) -> Result<Boxed<Query>, Refusal>
     ensures found { Gives Tree plan file file_plan tokens.old result tokens.new }
     ensures shrinks { length tokens.new ≤ length tokens.old }

@@ -34,7 +34,7 @@ pub fn number(value: u64) -> Result<Expr, Refusal>
     }
 }
 
-/// The literal that a reserved word is.
+/// The literal that a reserved word is. The manual: 8.6, Boolean Type, for TRUE and FALSE.
 pub fn literal(mark: Mark) -> Option<Expr>
     ensures { result ≡ literal_of mark }
 {
@@ -46,7 +46,7 @@ pub fn literal(mark: Mark) -> Option<Expr>
     }
 }
 
-/// The name of the function that a reserved word calls.
+/// The name of the function that a reserved word calls. The manual: 9.18, Conditional Expressions (9.18.2 and 9.18.4).
 pub fn called_name(alloc: Global, mark: Mark) -> Result<Name, Refusal>
     ensures { Found (called mark) result }
 {
@@ -62,7 +62,7 @@ pub fn called_name(alloc: Global, mark: Mark) -> Result<Name, Refusal>
     }
 }
 
-/// Whether the expression is an integer literal.
+/// Whether the expression is an integer literal. As a key of ORDER BY, it would be the number of a column (the manual: 7.5, Sorting Rows).
 pub fn is_number(expr: &Expr) -> bool
     ensures { result ≡ spec.is_number expr.now }
 {
@@ -79,7 +79,7 @@ pub fn item_with(expr: Boxed<Expr>, alias: Option<Name>) -> Item
     }
 }
 
-/// The key of ORDER BY.
+/// The key of ORDER BY. The manual: 7.5, Sorting Rows.
 pub fn key_with(expr: Boxed<Expr>, descending: bool) -> Key
     ensures { result ≡ descent.key_with expr descending }
 {
@@ -110,6 +110,7 @@ pub fn plain_query(selects: Items<Select>) -> Query
 }
 
 /// Whether UNION ALL may join the selects: where there are several, none has ORDER BY or LIMIT.
+/// The manual: SELECT, UNION Clause; selects with ORDER BY or LIMIT in parentheses aren't read, which is our own choice.
 pub fn may_join(selects: &[Select]) -> bool
     ensures { result ≡ spec.may_join selects.now }
 {

@@ -20,7 +20,7 @@ use away_values::Name;
 use sqlite_items::Items;
 use std::alloc::Global;
 
-/// What stands alone, is called, or stands in parentheses.
+/// What stands alone, is called, or stands in parentheses. The manual: 4.2, Value Expressions, and 9.18, Conditional Expressions.
 #[cycle(reader)]
 pub fn primary(alloc: Global, tokens: &mut Cursor<'_>) -> Result<Expr, Refusal>
     ensures found { Gives Tree plan (at Level.Primary) primary_plan tokens.old result tokens.new }

@@ -13,7 +13,7 @@ use away_trees::{ColumnSchema, TableSchema};
 use sqlite_items::Items;
 use std::alloc::Global;
 
-/// The tables that CREATE TABLE makes, one behind the other.
+/// The tables that CREATE TABLE makes, one behind the other. The manual: 5.1, Table Basics, and 5.4.2, Not-Null Constraints.
 pub fn tables_of(alloc: Global, tokens: &mut Cursor<'_>) -> Result<Items<TableSchema>, Refusal>
     ensures found { Gives Tree plan tables tables_plan tokens.old result tokens.new }
     ensures shrinks { length tokens.new ≤ length tokens.old }

@@ -18,7 +18,7 @@ use away_trees::{Expr, FromItem, Item, Key, Query, Select};
 use sqlite_items::{Boxed, Items};
 use std::alloc::Global;
 
-/// A query inside another, or inside an expression.
+/// A query inside another, or inside an expression. The manual: 4.2.11, Scalar Subqueries, and 7.2.1.3, Subqueries.
 #[cycle(reader)]
 pub fn query_of(alloc: Global, tokens: &mut Cursor<'_>) -> Result<Boxed<Query>, Refusal>
     ensures found { Gives Tree plan query query_plan tokens.old result tokens.new }
@@ -31,7 +31,7 @@ pub fn query_of(alloc: Global, tokens: &mut Cursor<'_>) -> Result<Boxed<Query>, 
     Ok(Boxed::new(alloc, plain_query(selects))?)
 }
 
-/// Selects with UNION ALL between them.
+/// Selects with UNION ALL between them. The manual: 7.4, Combining Queries.
 #[cycle(reader)]
 pub fn selects_of(alloc: Global, tokens: &mut Cursor<'_>) -> Result<Items<Select>, Refusal>
     ensures found { Gives Tree plan selects selects_plan tokens.old result tokens.new }

@@ -27,6 +27,7 @@ fn from_with(source: Source, alias: Name, columns: Items<Name>) -> FromItem
 }
 
 /// A table, perhaps behind `public.`, and its alias, which is its name where none is written.
+/// The manual: 7.2.1.2, Table and Column Aliases.
 pub fn table_item(alloc: Global, tokens: &mut Cursor<'_>) -> Result<FromItem, Refusal>
     ensures found { Gives Tree plan from_item (descent.schema_qualified_name table_plan) tokens.old result tokens.new }
     ensures shrinks { length tokens.new ≤ length tokens.old }
@@ -35,7 +36,7 @@ pub fn table_item(alloc: Global, tokens: &mut Cursor<'_>) -> Result<FromItem, Re
     aliased_table(alloc, tokens, name)
 }
 
-/// A name, perhaps behind `public.`.
+/// A name, perhaps behind `public.`. The manual: 5.9.2, The Public Schema. That no other schema is read is our own choice.
 pub fn schema_qualified_name(alloc: Global, tokens: &mut Cursor<'_>) -> Result<Name, Refusal>
     ensures found { NameRead tokens.old result tokens.new }
     ensures shrinks { length tokens.new ≤ length tokens.old }
@@ -69,6 +70,7 @@ fn aliased_table(alloc: Global, tokens: &mut Cursor<'_>, name: Name) -> Result<F
 }
 
 /// The alias of a subquery, and its column names if they stand there.
+/// The manual: 7.2.1.3, Subqueries, where a subquery has to have an alias.
 pub fn named_subquery(
     alloc: Global,
     tokens: &mut Cursor<'_>,

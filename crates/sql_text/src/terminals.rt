@@ -204,7 +204,7 @@ fn value_of(digits: &[u8]) -> u64
     }
 }
 
-/// The text that a string spells: each quote in it stands twice.
+/// The text that a string spells: each quote in it stands twice. The manual: 4.1.2.1, String Constants.
 pub fn text_of(alloc: Global, string: &str) -> Result<Word, NoMemory>
     requires { IsString string.now }
     ensures { IfOk result (λ w. w ≡ chars (spec.undoubled (spec.between_quotes string.now))) }
@@ -221,6 +221,7 @@ pub fn text_of(alloc: Global, string: &str) -> Result<Word, NoMemory>
 }
 
 /// The operator of the level that the mark stands for.
+/// The manual: 9.1, Logical Operators, 9.3, Mathematical Functions and Operators, and 9.4, String Functions and Operators.
 pub fn operator_of(level: Level, mark: Mark) -> Option<ChainOp>
     ensures { result ≡ grammar.operator_of level mark }
 {
@@ -237,7 +238,7 @@ pub fn operator_of(level: Level, mark: Mark) -> Option<ChainOp>
     }
 }
 
-/// The comparison that the mark stands for.
+/// The comparison that the mark stands for. The manual: 9.2, Comparison Functions and Operators.
 pub fn comparison_of(mark: Mark) -> Option<CmpOp>
     ensures { result ≡ grammar.comparison_of mark }
 {
@@ -252,7 +253,7 @@ pub fn comparison_of(mark: Mark) -> Option<CmpOp>
     }
 }
 
-/// Whether the mark continues an expression.
+/// Whether the mark continues an expression. The manual: 4.1.6, Operator Precedence.
 pub fn continues(mark: Mark) -> bool
     ensures { result ≡ nat_le (grammar.rank level.Or) (grammar.mark_binds mark) }
 {
@@ -266,7 +267,7 @@ pub fn continues(mark: Mark) -> bool
     }
 }
 
-/// The type of this name, in any case.
+/// The type of this name, in any case. The manual: 8, Data Types, the table of names and aliases.
 #[tactic(auto, unfolding(away_grammar::specs::Grammar::type_named))]
 pub fn type_named(text: &str) -> Option<Ty>
     ensures { result ≡ grammar.type_named (folded text.now) }

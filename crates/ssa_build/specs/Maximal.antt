@@ -54,7 +54,12 @@ module _ (slots entry : ℕ) (g : List Block) (live : ℕ → ℕ → Bool) (phi
   full_phis false b = map (full_phi b) (live_slots b)
 
   abbrev pub full_block : ℕ → Block → SsaBlock
-  full_block b x = record { map = map (λ s. (s, entry_name b s)) (live_slots b); phis = full_phis (nat_eq b entry) b; set = named_set b x.set; end = named_end (after_set x.set b) x.end }
+  full_block b x = record {
+    map = map (λ s. (s, entry_name b s)) (live_slots b);
+    phis = full_phis (nat_eq b entry) b;
+    set = named_set b x.set;
+    end = named_end (after_set x.set b) x.end;
+  }
 
   abbrev pub full : List ℕ → Ssa
   full names = record { names = names; blocks = numbered full_block 0 g }

@@ -40,7 +40,8 @@ pub(crate) fn joined_names(joins: &Joins<'_>, place: PhiPlace, into: &[u32], mer
     requires place_in { IsPlace joins.now.full.now.layout place }
     requires within { IsWithin into.now }
     requires rooted { (n : ℕ) → n < length into.now → IsRoot into.now (walk into.now merges n) }
-    requires operands { (k : ℕ) → k < length (join_at joins.now.full.now joins.now.blocks.now place).operands → get_or (join_at joins.now.full.now joins.now.blocks.now place).operands k 0 < length into.now }
+    requires operands { (k : ℕ) → k < length (join_at joins.now.full.now joins.now.blocks.now place).operands
+        → get_or (join_at joins.now.full.now joins.now.blocks.now place).operands k 0 < length into.now }
     ensures { Tells into.now merges (join_at joins.now.full.now joins.now.blocks.now place) result }
 {
     let block = place.block as usize;

@@ -152,7 +152,9 @@ module _ (frame : Frame) where
           let same : v ≡ w = cc in
           let lt : slot < length s = subst (λ n. slot < n) (sym wide) (below name slot own) in
           let f' : ℕ → Value = (in_names frame).write f name w in
-          let agrees : Agrees ((slot, name) ∷ y.map) (slice_set s slot v) f' = subst (λ w. Agrees ((slot, name) ∷ y.map) (slice_set s slot v) ((in_names frame).write f name w)) same (renewed_agrees names y slot name v s f ok lt own a) in
+          let agrees : Agrees ((slot, name) ∷ y.map)
+          (slice_set s slot v) f' = subst (λ w. Agrees ((slot, name) ∷ y.map) (slice_set s slot v)
+          ((in_names frame).write f name w)) same (renewed_agrees names y slot name v s f ok lt own a) in
           end_alike b ((slot, name) ∷ y.map) (slice_set s slot v) f' (length-set s slot v ∙ wide) agrees x.end y.end r fed
 
       move_alike : (p q : Assignment) → AssignmentRenamed names y.map p q → EndRenamed (with_pair (renewal p q) y.map) x.end y.end
@@ -176,7 +178,8 @@ module _ (frame : Frame) where
         → AgreesAt o s (entered frame o b f)
     edge_agrees b exits None s f fed a = tt
     edge_agrees b exits (Some y) s f fed a =
-        λ i n e. source_agrees exits (at_key exits i) (source y.phis b n) i s f refl (each_at_key (λ i n. Gives (at_key exits i) (source y.phis b n)) y.map i n fed e) a
+        λ i n e. source_agrees exits (at_key exits i)
+        (source y.phis b n) i s f refl (each_at_key (λ i n. Gives (at_key exits i) (source y.phis b n)) y.map i n fed e) a
 
     entering_alike : (b : ℕ) (exits : Pairs) (x : Move (ℕ × List Value)) (y : Move (ℕ × (ℕ → Value))) → AlikeMoves (Left b exits) x y
         → AlikeMoves Meets x (entering frame z b y)

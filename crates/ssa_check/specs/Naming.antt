@@ -28,4 +28,5 @@ NamedRunsInLockstep = (frame : Frame) (z : Ssa) → Named frame.slots frame.para
 -- in each frame of the setting the SSA form bounds the goto form
 abbrev pub BoundsIn : Setting → Ssa → Type 0
 BoundsIn setting z =
-    (frame : Frame) → IsFrameOf frame setting → (args : List Value) → length args ≡ frame.params → Bounds (goto_runs frame setting.goto args) (ssa_runs frame z args)
+    (frame : Frame) → IsFrameOf frame setting → (args : List Value) → length args ≡ frame.params
+    → Bounds (goto_runs frame setting.goto args) (ssa_runs frame z args)

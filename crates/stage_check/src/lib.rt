@@ -5,4 +5,5 @@ mod check;
 mod verdict;
 
 pub use check::check_all;
-pub use verdict::{Relation, Verdict};
+pub use equivalence::Relation;
+pub use verdict::Verdict;

@@ -43,7 +43,7 @@ abbrev pub has_several : List Callers → ℕ → Bool
 has_several callers b = several_there (slice_get callers b)
 
 abbrev pub is_head_of : Goto → ℕ → Bool
-is_head_of g b = is_head (slice_get g.blocks b)
+is_head_of goto b = is_head (slice_get goto.blocks b)
 
 abbrev pub is_firm : Goto → List Callers → ℕ → Bool
-is_firm g callers b = nat_eq b g.entry || (is_head_of g b || has_several callers b)
+is_firm goto callers b = nat_eq b goto.entry || (is_head_of goto b || has_several callers b)

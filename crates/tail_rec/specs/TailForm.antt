@@ -9,7 +9,8 @@ use Rattle.call_forms.specs.declared.forms.Tail.{Tail}
 use Rattle.tail_rec.specs.Walk.{labels_of}
 use Rattle.tail_rec.specs.Columns.{widths_of, columns_of, starts_of, places_of}
 
-pub record IsTailForm (slots : List Slot) (g : Goto) (z : Ssa) (a : Anf) (r : Tail) : Type 0 where
-  pub labels : r.labels ≡ labels_of g a.blocks
-  pub columns : r.columns ≡ columns_of (widths_of (type_of_name slots z.names) a.blocks r.labels)
-  pub places : r.places ≡ places_of (type_of_name slots z.names) a.blocks (starts_of (widths_of (type_of_name slots z.names) a.blocks r.labels)) r.labels
+pub record IsTailForm (slots : List Slot) (goto : Goto) (ssa : Ssa) (anf : Anf) (tail : Tail) : Type 0 where
+  pub labels : tail.labels ≡ labels_of goto anf.blocks
+  pub columns : tail.columns ≡ columns_of (widths_of (type_of_name slots ssa.names) anf.blocks tail.labels)
+  pub places : tail.places
+      ≡ places_of (type_of_name slots ssa.names) anf.blocks (starts_of (widths_of (type_of_name slots ssa.names) anf.blocks tail.labels)) tail.labels

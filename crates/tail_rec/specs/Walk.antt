@@ -56,4 +56,4 @@ labels_among (r ∷ rs) = if r.is_label then r.block ∷ labels_among rs else la
 
 -- the labels of a form: the entry, heads, blocks with several calls to them, and what would have a depth of sixteen
 abbrev pub labels_of : Goto → List AnfBlock → List ℕ
-labels_of g xs = labels_among (walked (is_firm g (callers_of xs)) xs (length xs))
+labels_of goto xs = labels_among (walked (is_firm goto (callers_of xs)) xs (length xs))

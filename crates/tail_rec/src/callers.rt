@@ -59,10 +59,10 @@ pub(crate) fn callers_of(alloc: Global, blocks: &[AnfBlock]) -> Result<Vec<Calle
     Ok(table)
 }
 
-fn is_head(g: &Goto, block: u32) -> bool
-    ensures { result ≡ spec.is_head_of g.now block }
+fn is_head(goto: &Goto, block: u32) -> bool
+    ensures { result ≡ spec.is_head_of goto.now block }
 {
-    match g.blocks.get(block as usize) {
+    match goto.blocks.get(block as usize) {
         None => false,
         Some(found) => found.head,
     }
@@ -78,8 +78,8 @@ fn has_several(callers: &[Callers], block: u32) -> bool
 }
 
 /// Whether a block is a label whatever its depth: the entry, a head, and a block with several calls to it.
-pub(crate) fn is_firm(g: &Goto, callers: &[Callers], block: u32) -> bool
-    ensures { result ≡ spec.is_firm g.now callers.now block }
+pub(crate) fn is_firm(goto: &Goto, callers: &[Callers], block: u32) -> bool
+    ensures { result ≡ spec.is_firm goto.now callers.now block }
 {
-    block == g.entry || is_head(g, block) || has_several(callers, block)
+    block == goto.entry || is_head(goto, block) || has_several(callers, block)
 }

@@ -25,13 +25,13 @@ fn labels_among(alloc: Global, reached: &[Reached]) -> Result<Items<u32>, AllocE
 /// The labels: the entry, heads, blocks with several calls to them, and blocks that would have a depth of sixteen.
 pub(crate) fn labels_of(
     alloc: Global,
-    g: &Goto,
+    goto: &Goto,
     blocks: &[AnfBlock],
 ) -> Result<Items<u32>, AllocError>
     requires { length blocks.now ≤ 2 ^ 32 }
-    ensures { IfOk result (λ v. v ≡ spec.labels_of g.now blocks.now) }
+    ensures { IfOk result (λ v. v ≡ spec.labels_of goto.now blocks.now) }
 {
     let callers = callers_of(alloc, blocks)?;
-    let reached = walk_calls(alloc, g, &callers, blocks)?;
+    let reached = walk_calls(alloc, goto, &callers, blocks)?;
     labels_among(alloc, &reached)
 }

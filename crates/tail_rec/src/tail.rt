@@ -23,18 +23,18 @@ use std::alloc::{AllocError, Global};
 pub(crate) fn tail_form(
     alloc: Global,
     slots: &[Slot],
-    g: &Goto,
-    s: &Ssa,
-    a: &Anf,
+    goto: &Goto,
+    ssa: &Ssa,
+    anf: &Anf,
 ) -> Result<Tail, AllocError>
-    requires few_blocks { length a.now.blocks ≤ 2 ^ 32 }
-    requires few_parameters { Each HasFewParameters a.now.blocks }
-    ensures exact { IfOk result (λ r. IsTailForm slots.now g.now s.now a.now r) }
-    ensures few_columns { IfOk result (λ r. length r.columns < 2 ^ 30) }
+    requires few_blocks { length anf.now.blocks ≤ 2 ^ 32 }
+    requires few_parameters { Each HasFewParameters anf.now.blocks }
+    ensures exact { IfOk result (λ tail. IsTailForm slots.now goto.now ssa.now anf.now tail) }
+    ensures few_columns { IfOk result (λ tail. length tail.columns < 2 ^ 30) }
 {
-    let blocks = a.blocks.as_slice();
-    let names = s.names.as_slice();
-    let labels = labels_of(alloc, g, blocks)?;
+    let blocks = anf.blocks.as_slice();
+    let names = ssa.names.as_slice();
+    let labels = labels_of(alloc, goto, blocks)?;
     let widths = widths_of(slots, names, blocks, labels.as_slice());
     let columns = columns_of(alloc, widths)?;
     let starts = starts_of(widths);
@@ -50,19 +50,19 @@ pub(crate) fn tail_form(
 pub fn to_tail(
     alloc: Global,
     f: &CheckedFunction,
-    g: &Goto,
-    s: &Ssa,
-    a: &Anf,
+    goto: &Goto,
+    ssa: &Ssa,
+    anf: &Anf,
 ) -> Result<Tail, NoMemory>
-    requires named { Named (length f.now.slots) (length f.now.function.params) g.now s.now }
-    requires called { Called g.now s.now a.now }
-    requires few_blocks { length a.now.blocks < 2 ^ 28 }
-    requires few_parameters { Each HasFewParameters a.now.blocks }
-    ensures merged { IfOk result (λ r. Merged g.now a.now r) }
-    ensures columned { IfOk result (λ r. Columned f.now.slots s.now a.now r) }
-    ensures tight { IfOk result (λ r. Tight f.now.slots g.now s.now a.now r) }
-    ensures few_labels { IfOk result (λ r. length r.labels ≤ length a.now.blocks) }
-    ensures few_columns { IfOk result (λ r. length r.columns < 2 ^ 30) }
+    requires named { Named (length f.now.slots) (length f.now.function.params) goto.now ssa.now }
+    requires called { Called goto.now ssa.now anf.now }
+    requires few_blocks { length anf.now.blocks < 2 ^ 28 }
+    requires few_parameters { Each HasFewParameters anf.now.blocks }
+    ensures merged { IfOk result (λ tail. Merged goto.now anf.now tail) }
+    ensures columned { IfOk result (λ tail. Columned f.now.slots ssa.now anf.now tail) }
+    ensures tight { IfOk result (λ tail. Tight f.now.slots goto.now ssa.now anf.now tail) }
+    ensures few_labels { IfOk result (λ tail. length tail.labels ≤ length anf.now.blocks) }
+    ensures few_columns { IfOk result (λ tail. length tail.columns < 2 ^ 30) }
 {
-    Ok(tail_form(alloc, f.slots.as_slice(), g, s, a)?)
+    Ok(tail_form(alloc, f.slots.as_slice(), goto, ssa, anf)?)
 }

@@ -21,17 +21,17 @@ pub(crate) struct Reached {
 /// The labels whatever their depth, in order.
 fn firm_labels(
     alloc: Global,
-    g: &Goto,
+    goto: &Goto,
     callers: &[Callers],
     count: usize,
 ) -> Result<Vec<Reached>, AllocError>
     requires { count ≤ 2 ^ 32 }
-    ensures { IfOk result (λ v. v.items ≡ spec.firm_labels (is_firm g.now callers.now) count) }
+    ensures { IfOk result (λ v. v.items ≡ spec.firm_labels (is_firm goto.now callers.now) count) }
 {
     let mut reached = Vec::new(alloc);
     for at in 0..count {
         let block = at as u32;
-        if is_firm(g, callers, block) {
+        if is_firm(goto, callers, block) {
             reached.push(Reached {
                 block,
                 depth: 0,
@@ -45,14 +45,14 @@ fn firm_labels(
 /// Goes on with a block behind a jump.
 fn reach(
     reached: &mut Vec<Reached>,
-    g: &Goto,
+    goto: &Goto,
     callers: &[Callers],
     block: u32,
     depth: u32,
 ) -> Result<(), AllocError>
-    ensures { OnOk result (reached.new.items ≡ reached.old.items ++ spec.followed (is_firm g.now callers.now) depth block) }
+    ensures { OnOk result (reached.new.items ≡ reached.old.items ++ spec.followed (is_firm goto.now callers.now) depth block) }
 {
-    if is_firm(g, callers, block) {
+    if is_firm(goto, callers, block) {
         return Ok(());
     }
     reached.push(Reached {
@@ -85,14 +85,14 @@ fn behind_test(block: u32, depth: u32) -> Reached
 /// Goes on with an arm of a test.
 fn reach_arm(
     reached: &mut Vec<Reached>,
-    g: &Goto,
+    goto: &Goto,
     callers: &[Callers],
     block: u32,
     depth: u32,
 ) -> Result<(), AllocError>
-    ensures { OnOk result (reached.new.items ≡ reached.old.items ++ spec.picked (is_firm g.now callers.now) depth block) }
+    ensures { OnOk result (reached.new.items ≡ reached.old.items ++ spec.picked (is_firm goto.now callers.now) depth block) }
 {
-    if is_firm(g, callers, block) {
+    if is_firm(goto, callers, block) {
         return Ok(());
     }
     reached.push(behind_test(block, depth))?;
@@ -102,18 +102,18 @@ fn reach_arm(
 /// Goes on with what an end calls.
 fn reach_end(
     reached: &mut Vec<Reached>,
-    g: &Goto,
+    goto: &Goto,
     callers: &[Callers],
     end: &CallEnd,
     depth: u32,
 ) -> Result<(), AllocError>
-    ensures { OnOk result (reached.new.items ≡ reached.old.items ++ spec.after_end (is_firm g.now callers.now) depth end.now) }
+    ensures { OnOk result (reached.new.items ≡ reached.old.items ++ spec.after_end (is_firm goto.now callers.now) depth end.now) }
 {
     match end {
-        CallEnd::Go(call) => reach(reached, g, callers, call.target, depth),
+        CallEnd::Go(call) => reach(reached, goto, callers, call.target, depth),
         CallEnd::Pick(_, yes, no) => {
-            reach_arm(reached, g, callers, yes.target, depth)?;
-            reach_arm(reached, g, callers, no.target, depth)
+            reach_arm(reached, goto, callers, yes.target, depth)?;
+            reach_arm(reached, goto, callers, no.target, depth)
         }
         CallEnd::Return(_) => Ok(()),
         CallEnd::Fail(_) => Ok(()),
@@ -123,34 +123,34 @@ fn reach_end(
 /// Goes on behind a block that is reached.
 fn reach_next(
     reached: &mut Vec<Reached>,
-    g: &Goto,
+    goto: &Goto,
     callers: &[Callers],
     blocks: &[AnfBlock],
     from: Reached,
 ) -> Result<(), AllocError>
-    ensures { OnOk result (reached.new.items ≡ reached.old.items ++ spec.after (is_firm g.now callers.now) blocks.now from) }
+    ensures { OnOk result (reached.new.items ≡ reached.old.items ++ spec.after (is_firm goto.now callers.now) blocks.now from) }
 {
     match blocks.get(from.block as usize) {
         None => Ok(()),
-        Some(block) => reach_end(reached, g, callers, &block.end, from.depth),
+        Some(block) => reach_end(reached, goto, callers, &block.end, from.depth),
     }
 }
 
 /// All blocks that calls reach from labels, each after the block that calls it.
 pub(crate) fn walk_calls(
     alloc: Global,
-    g: &Goto,
+    goto: &Goto,
     callers: &[Callers],
     blocks: &[AnfBlock],
 ) -> Result<Vec<Reached>, AllocError>
     requires { length blocks.now ≤ 2 ^ 32 }
-    ensures { IfOk result (λ v. v.items ≡ spec.walked (is_firm g.now callers.now) blocks.now (length blocks.now)) }
+    ensures { IfOk result (λ v. v.items ≡ spec.walked (is_firm goto.now callers.now) blocks.now (length blocks.now)) }
 {
-    let mut reached = firm_labels(alloc, g, callers, blocks.len())?;
+    let mut reached = firm_labels(alloc, goto, callers, blocks.len())?;
     for at in 0..blocks.len() {
         if at < reached.len() {
             let from = reached[at];
-            reach_next(&mut reached, g, callers, blocks, from)?;
+            reach_next(&mut reached, goto, callers, blocks, from)?;
         }
     }
     Ok(reached)

@@ -4,3 +4,4 @@ pub mod ReadBack
 pub mod WithoutNames
 pub mod PlacedEvents
 pub mod ReadSlots
+pub mod FirstOccurrences

@@ -1,5 +1,5 @@
 -- What a checked query answers is of the types that its check found.
-use Rattle.std.proofs.Common.{◌≡◌, refl, sym, ap, subst, ◌∙◌, ℕ, arith, Bool, true, false, not, List, [], ◌∷◌, ◌++◌, map, Option, Some, None, Ok, Err, option_map}
+use Rattle.std.proofs.Common.{◌≡◌, refl, sym, ap, subst, ◌∙◌, ℕ, Bool, true, false, not, List, [], ◌∷◌, ◌++◌, map, Option, Some, None, Ok, Err, option_map}
 use Rattle.std.specs.Prelude.{if◌then◌else◌, is_some}
 use Rattle.away_values.specs.declared.types.Ty.{Ty}
 use Rattle.away_values.specs.declared.types.Ty.TheVariants as ty
@@ -15,6 +15,7 @@ use Rattle.away_trees.specs.declared.queries.Recursive.{Recursive}
 use Rattle.away_trees.specs.declared.queries.Expr.TheViews.{out-Query}
 use Rattle.away_trees.specs.Algebra.{query_of, recursive_of, select_of}
 use Rattle.away_trees.proofs.Equations as eq
+use Rattle.away_names.specs.declared.rule.Rule.TheVariants as rule
 use Rattle.away_names.specs.declared.note.File.{File}
 use Rattle.away_names.specs.declared.note.Times.{Times}
 use Rattle.away_names.specs.Files.{file}
@@ -29,11 +30,11 @@ use Rattle.sql_meaning.specs.Equations.{recursive_part}
 use Rattle.sql_meaning.specs.Meaning.{rows_of_query}
 use Rattle.sql_meaning.specs.Working.{Bounded, rows, answered, answer_of_rows, over_table, recursive_table}
 use Rattle.sql_meaning.proofs.Nodes.{rows_plain, rows_recursive, rows_union}
-use Rattle.away_types.specs.CheckedQueries.{IsCheckedQuery, query_note}
+use Rattle.away_types.specs.CheckedQueries.{IsCheckedQuery}
 use Rattle.type_soundness.specs.Arguments.{Supplied, standing, all, maybe}
 use Rattle.type_soundness.specs.Sorts.{IsOf}
 use Rattle.type_soundness.specs.Surroundings.{AreRows}
-use Rattle.type_soundness.proofs.CleanNotes.{Clean, clean_parts, test_fails, unbroken_clean}
+use Rattle.type_soundness.proofs.CleanNotes.{Clean, clean_parts, test_fails}
 use Rattle.type_soundness.proofs.Found.{query_supplied}
 use Rattle.type_soundness.proofs.KindRules.{same_is}
 use Rattle.type_soundness.proofs.Trees.{left, right}
@@ -144,14 +145,14 @@ unfolding judged
 judged_parts s f c =
     let r = recursion s f.first.refers f.second.refers (out-Query f.query).recursive in
     let shape = final_shape f.query r in
-    let whole = clean_parts (joined f.note (uses_note f.query)) (joined (breaks 13 (params_of f.query).clash) (joined r.note (answer_note shape))) c in
-    let params = clean_parts (breaks 13 (params_of f.query).clash) (joined r.note (answer_note shape)) whole.1 in
+    let whole = clean_parts (joined f.note (uses_note f.query)) (joined (breaks rule.Types (params_of f.query).clash) (joined r.note (answer_note shape))) c in
+    let params = clean_parts (breaks rule.Types (params_of f.query).clash) (joined r.note (answer_note shape)) whole.1 in
     let rest = clean_parts r.note (answer_note shape) params.1 in
-    let ends = clean_parts (breaks 13 (not (is_some shape))) (breaks 18 (not (is_answer shape))) rest.1 in
+    let ends = clean_parts (breaks rule.Types (not (is_some shape))) (breaks rule.Answer (not (is_answer shape))) rest.1 in
     record {
-      params = test_fails 13 (params_of f.query).clash (omega arith) params.0;
+      params = test_fails rule.Types (params_of f.query).clash params.0;
       terms = rest.0;
-      shape = first_is shape (two_of shape (not_false (is_answer shape) (test_fails 18 (not (is_answer shape)) (omega arith) ends.1)));
+      shape = first_is shape (two_of shape (not_false (is_answer shape) (test_fails rule.Answer (not (is_answer shape)) ends.1)));
     }
 
 of_file : (s : Schema) (f : File) → Clean (judged s f).note → (tables : List Rows) (args : List Value) (k : ℕ) (out : Rows) → FitsSchema s tables → Supplied args (judged s f).params → rows f.query tables args k ≡ Some (Ok out) → AreRows ((judged s f).result ∷ ty.Text ∷ []) out
@@ -171,5 +172,5 @@ typed s written checked params first h = record {
     are : (tables : List Rows) (args : List Value) (k : ℕ) (out : Rows) → FitsSchema s tables → Supplied args params → rows checked tables args k ≡ Some (Ok out) → AreRows (first ∷ ty.Text ∷ []) out
     are tables args k out fits supplied e =
         subst (λ t. AreRows (t ∷ ty.Text ∷ []) out) (sym h.first_is)
-        (of_file s (file s written) (unbroken_clean (query_note s written) h.unbroken) tables args k out fits (subst (Supplied args) h.params_are supplied)
+        (of_file s (file s written) h.unbroken tables args k out fits (subst (Supplied args) h.params_are supplied)
         (ap (λ q. rows q tables args k) (sym h.query) ∙ e))

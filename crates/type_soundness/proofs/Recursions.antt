@@ -12,6 +12,7 @@ use Rattle.away_trees.specs.declared.queries.Recursive.{Recursive}
 use Rattle.away_trees.specs.declared.queries.Expr.TheViews.{out-Recursive, roll-out-Recursive}
 use Rattle.away_trees.specs.Algebra.{select_of, recursive_of}
 use Rattle.away_trees.proofs.Equations as eq
+use Rattle.away_names.specs.declared.rule.Rule.TheVariants as rule
 use Rattle.away_names.specs.declared.note.Times.{Times}
 use Rattle.away_names.specs.Lookups.{Name}
 use Rattle.away_names.specs.Notes.{breaks}
@@ -130,9 +131,9 @@ found_by s a b r (Some ts) f i h =
 pub found_of : (s : Schema) (a b : Times) (r : Recursive) (shape : Shape) → first_shape s r ≡ shape → Clean (recursion_by s a b r shape).note → Found s r (recursion_by s a b r shape).tables
 found_of s a b r shape f c =
     let kinds = second_kinds s a b r shape in
-    let both = clean_parts (breaks 13 (not (is_some shape && is_some kinds))) (breaks 17 (not (is_recursion a b r shape kinds))) c in
-    found_by s a b r shape f (not_false (is_some shape && is_some kinds) (test_fails 13 (not (is_some shape && is_some kinds)) (omega arith) both.0))
-    (not_false (is_recursion a b r shape kinds) (test_fails 17 (not (is_recursion a b r shape kinds)) (omega arith) both.1))
+    let both = clean_parts (breaks rule.Types (not (is_some shape && is_some kinds))) (breaks rule.Recursion (not (is_recursion a b r shape kinds))) c in
+    found_by s a b r shape f (not_false (is_some shape && is_some kinds) (test_fails rule.Types (not (is_some shape && is_some kinds)) both.0))
+    (not_false (is_recursion a b r shape kinds) (test_fails rule.Recursion (not (is_recursion a b r shape kinds)) both.1))
 
 -- ---- the rows of the recursive table
 

@@ -1,5 +1,5 @@
 -- Each expression of a checked function gives a value of the type that is asked of it.
-use Rattle.std.proofs.Common.{◌≡◌, refl, sym, subst, ℕ, zero, suc, arith, Bool, true, false, not, ◌||◌, List, [], ◌∷◌, ◌++◌, fold, Option, Some, None}
+use Rattle.std.proofs.Common.{◌≡◌, refl, sym, subst, ℕ, zero, suc, Bool, true, false, not, ◌||◌, List, [], ◌∷◌, ◌++◌, fold, Option, Some, None}
 use Rattle.std.specs.Prelude.{slice_get}
 use Rattle.away_values.specs.declared.types.Ty.{Ty}
 use Rattle.away_values.specs.declared.types.Ty.TheVariants.{Bigint, Boolean}
@@ -12,12 +12,15 @@ use Rattle.away_trees.specs.declared.statements.LoopKind.TheVariants as kind
 use Rattle.away_trees.specs.declared.statements.Stmt.{Stmt}
 use Rattle.away_trees.specs.declared.statements.Stmt.TheBlock as b
 use Rattle.away_trees.specs.StatementAlgebra.{stmt_of, stmts_of, branches_of, else_of}
+use Rattle.away_names.specs.declared.rule.Rule.TheVariants as rule
 use Rattle.away_names.specs.declared.note.Note.{Note}
 use Rattle.away_names.specs.Notes.{clean, joined, breaks}
 use Rattle.away_typing.specs.Aggregates.{outside}
 use Rattle.away_typing.specs.Kinds.{fits}
 use Rattle.away_typing.specs.Trees.{kind_of, uses_of}
 use Rattle.sql_meaning.specs.Context.{argument}
+use Rattle.away_types.specs.declared.finding.Report.{Report}
+use Rattle.away_types.specs.Findings.{own, nothing, followed, branched}
 use Rattle.away_types.specs.declared.slots.Slot.{Slot}
 use Rattle.away_types.specs.CheckedFunctions.{IsChecked}
 use Rattle.away_types.specs.FunctionChecks.{asked_in, slot_types, function_note, head_note, types_note, body_of, slots_of}
@@ -25,7 +28,8 @@ use Rattle.away_types.specs.StatementTypes as checks
 use Rattle.away_types.specs.StatementTypes.{Asked, asked, maybe_asked, asked_of_slot, head_asked, asked_stmt}
 use Rattle.type_soundness.specs.Arguments.{Params, Supplied, params_in}
 use Rattle.type_soundness.specs.Sorts.{IsOf, Every}
-use Rattle.type_soundness.proofs.CleanNotes.{Clean, clean_parts, not_broken, test_fails, unbroken_clean}
+use Rattle.away_types.proofs.ClearReports.{Clear, clear_own, clear_parts, clear_within, clear_branches, clear_bodies}
+use Rattle.type_soundness.proofs.CleanNotes.{Clean, clean_parts, not_broken, test_fails}
 use Rattle.type_soundness.proofs.KindRules.{fits_typed}
 use Rattle.type_soundness.proofs.Lists.{every_append}
 use Rattle.type_soundness.proofs.Trees.{expr_holds}
@@ -62,8 +66,8 @@ module _ (s : Schema) (slots : List Slot) (result : Ty) where
   one_typed : (t : Ty) (e : Expr) → Clean (asked a t e) → Gives (Some t, e)
   unfolding asked kind_of
   one_typed t e c =
-      let both = clean_parts (breaks 13 (not (fits t (kind_of e a.places)) || (uses_of e).limited)) (breaks 15 (outside (uses_of e)).misused) c in
-      let fails = neither (not (fits t (kind_of e a.places))) (uses_of e).limited (test_fails 13 (not (fits t (kind_of e a.places)) || (uses_of e).limited) (omega arith) both.0) in
+      let both = clean_parts (breaks rule.Types (not (fits t (kind_of e a.places)) || (uses_of e).limited)) (breaks rule.Aggregates (outside (uses_of e)).misused) c in
+      let fails = neither (not (fits t (kind_of e a.places))) (uses_of e).limited (test_fails rule.Types (not (fits t (kind_of e a.places)) || (uses_of e).limited) both.0) in
       λ cx v fit none d. fits_typed t (kind_of e a.places) v (not_false (fits t (kind_of e a.places)) fails.0)
       (expr_holds e a.places cx fit (subst (λ args. Supplied args (params_in e)) (sym none) (none_supplied (params_in e))) v d)
 
@@ -73,7 +77,7 @@ module _ (s : Schema) (slots : List Slot) (result : Ty) where
 
   slot_typed : (o : Option Ty) (e : Expr) → Clean (asked_of_slot a o e) → Gives (o, e)
   unfolding asked_of_slot
-  slot_typed None e c = not_broken 13 (omega arith) c
+  slot_typed None e c = not_broken rule.Types c
   slot_typed (Some t) e c = one_typed t e c
 
   assigned_typed : (slot : Option ℕ) (e : Expr) → Clean (asked_of_slot a (checks.slot_of a slot) e) → AllGive ((here.slot_type (slot_types slots) slot, e) ∷ [])
@@ -95,63 +99,63 @@ module _ (s : Schema) (slots : List Slot) (result : Ty) where
       let both = clean_parts acc (maybe_asked a d.ty d.default) rest.0 in
       (both.0, every_append Gives (here.maybe d.ty d.default) (here.defaults ds) (maybe_typed d.ty d.default both.1) rest.1)
 
-  both_typed : (m n : Note) (xs ys : here.Asked) → (Clean m → AllGive xs) → (Clean n → AllGive ys) → Clean (joined m n) → AllGive (xs ++ ys)
-  both_typed m n xs ys h k c = let both = clean_parts m n c in every_append Gives xs ys (h both.0) (k both.1)
+  within_typed : (j : ℕ) (m : Note) (n : Report) (xs ys : here.Asked) → (Clean m → AllGive xs) → (Clear n → AllGive ys) → Clear (followed (own j m) n) → AllGive (xs ++ ys)
+  within_typed j m n xs ys h k c = let both = clear_within j m n c in every_append Gives xs ys (h both.0) (k both.1)
+
+  both_typed : (m n : Report) (xs ys : here.Asked) → (Clear m → AllGive xs) → (Clear n → AllGive ys) → Clear (branched m n) → AllGive (xs ++ ys)
+  both_typed m n xs ys h k c = let both = clear_branches m n c in every_append Gives xs ys (h both.0) (k both.1)
 
   mutual
-    stmt_typed : (x : Stmt) → Clean (stmt_of checks.asking x a) → AllGive (values (stmt_of here.asking x))
+    stmt_typed : (x : Stmt) → Clear (stmt_of checks.asking x a) → AllGive (values (stmt_of here.asking x))
     stmt_typed (b.Block' label decls n body closing) c =
-        both_typed (checks.defaults decls a) (checks.all_by (stmts_of checks.asking body) a) (here.defaults decls) (values (here.all (stmts_of here.asking body)))
-        (λ c. (defaults_typed decls clean c).1) (λ c. (stmts_typed body clean c).1) c
-    stmt_typed (b.Assign name slot e) c = assigned_typed slot e c
+        within_typed _ (checks.defaults decls a) (checks.all_by (stmts_of checks.asking body) a) (here.defaults decls) (values (here.all (stmts_of here.asking body)))
+        (λ c. (defaults_typed decls clean c).1) (λ c. (stmts_typed body nothing c).1) c
+    stmt_typed (b.Assign name slot e) c = assigned_typed slot e (clear_own 1 _ c)
     stmt_typed (b.If' n arms o) c =
         both_typed (checks.all_by (branches_of checks.asking arms) a) (checks.maybe_by (else_of checks.asking o) a) (values (here.all (branches_of here.asking arms))) (values (here.other (else_of here.asking o)))
-        (λ c. (branches_typed arms clean c).1) (λ c. else_typed o c) c
+        (λ c. (branches_typed arms nothing c).1) (λ c. else_typed o c) c
     stmt_typed (b.Cases' n arms o) c =
         both_typed (checks.all_by (branches_of checks.asking arms) a) (checks.maybe_by (else_of checks.asking o) a) (values (here.all (branches_of here.asking arms))) (values (here.other (else_of here.asking o)))
-        (λ c. (branches_typed arms clean c).1) (λ c. else_typed o c) c
+        (λ c. (branches_typed arms nothing c).1) (λ c. else_typed o c) c
     stmt_typed (b.Loop' label k n body closing) c =
-        both_typed (head_asked k a) (checks.all_by (stmts_of checks.asking body) a) (here.head k) (values (here.all (stmts_of here.asking body)))
-        (λ c. head_typed k c) (λ c. (stmts_typed body clean c).1) c
-    stmt_typed (b.Exit label when) c = maybe_typed Boolean when c
-    stmt_typed (b.Continue label when) c = maybe_typed Boolean when c
-    stmt_typed (b.Return e) c = (one_typed result e c, tt)
+        within_typed 1 (head_asked k a) (checks.all_by (stmts_of checks.asking body) a) (here.head k) (values (here.all (stmts_of here.asking body)))
+        (λ c. head_typed k c) (λ c. (stmts_typed body nothing c).1) c
+    stmt_typed (b.Exit label when) c = maybe_typed Boolean when (clear_own 1 _ c)
+    stmt_typed (b.Continue label when) c = maybe_typed Boolean when (clear_own 1 _ c)
+    stmt_typed (b.Return e) c = (one_typed result e (clear_own 1 _ c), tt)
     stmt_typed (b.Raise raised) c = tt
     stmt_typed (b.Into strict targets query) c = tt
     stmt_typed b.Nothing c = tt
 
-    stmts_typed : {m : _} (body : b.Row_of-Stmt m) (acc : Note) → Clean (fold (λ n (f : checks.By). joined n (f a)) acc (stmts_of checks.asking body)) → Clean acc × AllGive (values (here.all (stmts_of here.asking body)))
+    stmts_typed : {m : _} (body : b.Row_of-Stmt m) (acc : Report) → Clear (fold (λ r (f : checks.By). followed r (f a)) acc (stmts_of checks.asking body)) → Clear acc × AllGive (values (here.all (stmts_of here.asking body)))
     stmts_typed b.end_of-Stmt acc c = (c, tt)
     stmts_typed (b.more_of-Stmt x rest) acc c =
-        let more = stmts_typed rest (joined acc (stmt_of checks.asking x a)) c in
-        let both = clean_parts acc (stmt_of checks.asking x a) more.0 in
+        let more = stmts_typed rest (followed acc (stmt_of checks.asking x a)) c in
+        let both = clear_parts acc (stmt_of checks.asking x a) more.0 in
         (both.0, every_append Gives (values (stmt_of here.asking x)) (values (here.all (stmts_of here.asking rest))) (stmt_typed x both.1) more.1)
 
-    branches_typed : {m : _} (arms : b.Row_of-Arm m) (acc : Note) → Clean (fold (λ n (f : checks.By). joined n (f a)) acc (branches_of checks.asking arms)) → Clean acc × AllGive (values (here.all (branches_of here.asking arms)))
+    branches_typed : {m : _} (arms : b.Row_of-Arm m) (acc : Report) → Clear (fold (λ r (f : checks.By). followed r (f a)) acc (branches_of checks.asking arms)) → Clear acc × AllGive (values (here.all (branches_of here.asking arms)))
     branches_typed b.end_of-Arm acc c = (c, tt)
     branches_typed (b.more_of-Arm test n body rest) acc c =
-        let note = joined (asked a Boolean test) (checks.all_by (stmts_of checks.asking body) a) in
-        let more = branches_typed rest (joined acc note) c in
-        let both = clean_parts acc note more.0 in
-        let arm = clean_parts (asked a Boolean test) (checks.all_by (stmts_of checks.asking body) a) both.1 in (
+        let note = followed (own 1 (asked a Boolean test)) (checks.all_by (stmts_of checks.asking body) a) in
+        let more = branches_typed rest (followed acc note) c in
+        let both = clear_parts acc note more.0 in
+        let arm = clear_within 1 (asked a Boolean test) (checks.all_by (stmts_of checks.asking body) a) both.1 in (
           both.0,
           every_append Gives (here.one Boolean test ++ values (here.all (stmts_of here.asking body))) (values (here.all (branches_of here.asking rest)))
-              (one_typed Boolean test arm.0, (stmts_typed body clean arm.1).1) more.1,
+              (one_typed Boolean test arm.0, (stmts_typed body nothing arm.1).1) more.1,
         )
 
-    else_typed : (o : b.Held-Stmt-If-1) → Clean (checks.maybe_by (else_of checks.asking o) a) → AllGive (values (here.other (else_of here.asking o)))
+    else_typed : (o : b.Held-Stmt-If-1) → Clear (checks.maybe_by (else_of checks.asking o) a) → AllGive (values (here.other (else_of here.asking o)))
     else_typed b.None' c = tt
-    else_typed (b.Some' n body) c = (stmts_typed body clean c).1
+    else_typed (b.Some' n body) c = (stmts_typed body nothing (clear_within 1 clean (checks.all_by (stmts_of checks.asking body) a) c).1).1
 
-of_function : (s : Schema) (f : Function) → Clean (function_note s f) → Every (GivesItsType s (slots_of s f) f.result) (stmt_of here.asking (body_of s f).it (slot_types (slots_of s f)) f.result)
+of_function : (s : Schema) (f : Function) → Clear (function_note s f) → Every (GivesItsType s (slots_of s f) f.result) (stmt_of here.asking (body_of s f).it (slot_types (slots_of s f)) f.result)
 unfolding asked_stmt
-of_function s f c =
-    let whole = clean_parts (head_note f) (joined (body_of s f).note (types_note s f)) c in
-    let body = clean_parts (body_of s f).note (types_note s f) whole.1 in
-    stmt_typed s (slots_of s f) f.result (body_of s f).it body.1
+of_function s f c = stmt_typed s (slots_of s f) f.result (body_of s f).it (clear_bodies _ (head_note f) (body_of s f).note (types_note s f) c).1
 
 pub typed : (s : Schema) (written checked : Function) (slots : List Slot) → IsChecked s written checked slots → Every (GivesItsType s slots checked.result) (here.asked_of checked slots)
 typed s written checked slots h =
     subst (λ f. Every (GivesItsType s slots f.result) (here.asked_of f slots)) (sym h.function)
     (subst (λ xs. Every (GivesItsType s xs written.result) (stmt_of here.asking (body_of s written).it (slot_types xs) written.result)) (sym h.slots_are)
-    (of_function s written (unbroken_clean (function_note s written) h.unbroken)))
+    (of_function s written h.unbroken))

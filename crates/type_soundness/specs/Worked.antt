@@ -19,7 +19,13 @@ abbrev pub seven : Query
 seven =
     roll-Query (record {
       recursive = None;
-      selects = roll-Select (record { list = item (expr.Int (pos 7)) ∷ item (expr.Cast expr.Null ty.Text) ∷ []; from = []; filter = None; order = []; limit = None }) ∷ [];
+      selects = roll-Select (record {
+        list = item (expr.Int (pos 7)) ∷ item (expr.Cast expr.Null ty.Text) ∷ [];
+        from = [];
+        filter = None;
+        order = [];
+        limit = None;
+      }) ∷ [];
     })
 
 abbrev pub checked_seven : Query

@@ -1,4 +1,4 @@
-use Rattle.std.proofs.Common.{◌≡◌, ◌++◌, drop, fold, map}
+use Rattle.std.proofs.Common.{◌≡◌, drop, fold, map}
 use Rattle.away_trees.specs.declared.queries.Expr.TheViews.{out-Item}
 use Rattle.away_names.specs.Notes.{added, each}
 use Rattle.away_names.specs.Naming.{with_item, with_select, with_part}

@@ -7,7 +7,7 @@ ghost use Rattle.away_top.specs.Steps.{IsEnding};
 
 use crate::Status;
 use crate::ending::{Ending, with_output};
-use away_values::{Answer, Value};
+use away_values::{Answer, Class, Value};
 use itoa::Buffer;
 use std::alloc::{AllocError, Global};
 
@@ -17,14 +17,28 @@ pub fn answer_ending(alloc: Global, answer: &Answer) -> Result<Ending, AllocErro
 {
     match answer {
         Answer::Value(v) => value_ending(alloc, v),
-        Answer::Fault(class) => with_details(alloc, Status::Fault, b"fault ", &class.code),
-        Answer::More => with_output(alloc, Status::More, b"more\n"),
+        Answer::Fault(class) => fault_ending(alloc, class),
+        Answer::More => more_ending(alloc),
         Answer::Shape(rows) => {
             let mut buffer = Buffer::new();
             let count = buffer.format(*rows).as_bytes();
             with_details(alloc, Status::Shape, b"shape ", count)
         }
     }
+}
+
+/// How a run ends that meets a fault of this class.
+pub fn fault_ending(alloc: Global, class: &Class) -> Result<Ending, AllocError>
+    ensures { IfOk result (λ ending. IsEnding ending Status.Fault (line (codes "fault " ++ class.now.code))) }
+{
+    with_details(alloc, Status::Fault, b"fault ", &class.code)
+}
+
+/// How a run ends whose bound doesn't suffice.
+pub fn more_ending(alloc: Global) -> Result<Ending, AllocError>
+    ensures { IfOk result (λ ending. IsEnding ending Status.More (line (codes "more"))) }
+{
+    with_output(alloc, Status::More, b"more\n")
 }
 
 fn value_ending(alloc: Global, v: &Value) -> Result<Ending, AllocError>

@@ -2,6 +2,7 @@
 
 pub mod answer_lines;
 pub mod arguments;
-pub mod run_fn;
-pub mod sql;
+pub mod program;
+pub mod row_records;
+pub mod run;
 pub mod tables;

@@ -166,11 +166,15 @@ pub(crate) fn tables(rt: &(impl Abort + AllocGlobal), column: &[Given]) -> Table
     }
 }
 
-/// WITH RECURSIVE r(n) AS (SELECT 1 UNION ALL SELECT r.n + 1 FROM r WHERE r.n < last) SELECT count(*), NULL FROM r, over a schema of one table.
-pub(crate) fn counting(rt: &(impl Abort + AllocGlobal), last: i64) -> Query {
-    let next = arithmetic(rt, IntOp::Add, column(0), Expr::Int(1));
+/// WITH RECURSIVE r(n) AS (SELECT 1 UNION ALL SELECT next FROM r [WHERE filter]), and a select, over a schema of one table.
+pub(crate) fn recursive(
+    rt: &(impl Abort + AllocGlobal),
+    next: Expr,
+    filter: Option<Expr>,
+    last: Select,
+) -> Query {
     let mut second = select(rt, one(rt, item(next)), one(rt, table(rt, "1")));
-    second.filter = Some(comparison(rt, CmpOp::Lt, column(0), Expr::Int(last)));
+    second.filter = filter;
     let recursive = Recursive {
         name: named(rt, "r"),
         columns: one(rt, named(rt, "n")),
@@ -179,6 +183,26 @@ pub(crate) fn counting(rt: &(impl Abort + AllocGlobal), last: i64) -> Query {
     };
     Query {
         recursive: Some(recursive),
-        selects: one(rt, answering(rt, Expr::CountRows, one(rt, table(rt, "1")))),
+        selects: one(rt, last),
     }
+}
+
+/// WITH RECURSIVE r(n) AS (SELECT 1 UNION ALL SELECT r.n + 1 FROM r WHERE r.n < last), and a select.
+pub(crate) fn up_to(rt: &(impl Abort + AllocGlobal), last: i64, s: Select) -> Query {
+    let next = arithmetic(rt, IntOp::Add, column(0), Expr::Int(1));
+    let filter = comparison(rt, CmpOp::Lt, column(0), Expr::Int(last));
+    recursive(rt, next, Some(filter), s)
+}
+
+/// The same, and SELECT count(*), NULL FROM r.
+pub(crate) fn counting(rt: &(impl Abort + AllocGlobal), last: i64) -> Query {
+    let s = answering(rt, Expr::CountRows, one(rt, table(rt, "1")));
+    up_to(rt, last, s)
+}
+
+/// SELECT e, NULL FROM r WHERE filter
+pub(crate) fn filtered(rt: &(impl Abort + AllocGlobal), e: Expr, filter: Expr) -> Select {
+    let mut s = answering(rt, e, one(rt, table(rt, "1")));
+    s.filter = Some(filter);
+    s
 }

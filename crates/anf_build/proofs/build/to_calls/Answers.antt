@@ -8,7 +8,7 @@ returns c =
     let n = c.requires.named in
     let made = c.in_ok-normal_form.ensures in
     record {
-      called = is_called n.slots n.params c.args.g.now c.args.s.now c.in_ok-normal_form.field-0 n.named made;
-      useful = all_useful n.slots n.params c.args.g.now c.args.s.now c.in_ok-normal_form.field-0 n.named made;
-      short = all_within n.slots n.params c.args.g.now c.args.s.now c.in_ok-normal_form.field-0 n.named made;
+      called = is_called n.slots n.params c.args.goto.now c.args.ssa.now c.in_ok-normal_form.field-0 n.named made;
+      useful = all_useful n.slots n.params c.args.goto.now c.args.ssa.now c.in_ok-normal_form.field-0 n.named made;
+      short = all_within n.slots n.params c.args.goto.now c.args.ssa.now c.in_ok-normal_form.field-0 n.named made;
     }

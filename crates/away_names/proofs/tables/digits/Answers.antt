@@ -1,5 +1,4 @@
-use Rattle.std.proofs.Common.{rules, ◌≡◌, subst, sym}
-use Rattle.std.specs.Fmt.{decimal}
+use Rattle.std.proofs.Common.{subst, sym}
 use Rattle.away_values.specs.Words.{IsName}
 use Rattle.away_names.proofs.Digits.{digits_are_name}
 use Rattle.away_names.proofs.tables.digits.Goals as goal

@@ -1,5 +1,5 @@
-use Rattle.std.proofs.Common.{◌≡◌, IfOk, string_bytes, subst, sym}
-use Rattle.cert_json.specs.Writable.{HasSpelling}
+use Rattle.std.proofs.Common.{IfOk, string_bytes, subst, sym}
+use Rattle.call_forms.specs.Writable.{HasSpelling}
 use Rattle.away_top.specs.CompileCourse.{IsOutput}
 use Rattle.away_top.proofs.compile.output_of.Goals as goal
 

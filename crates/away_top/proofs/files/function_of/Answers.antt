@@ -9,6 +9,6 @@ use Rattle.away_top.proofs.files.function_of.Goals as goal
 pub returns : goal.returns
 returns g c =
     let tables = c.args.tables.now.schema in
-    let holds = subst (Holds (g.F.Files.held c.args.files.now c.args.name.now) 1048576) (sym c.deref.ensures.value) c.in_ok-bytes.ensures.bytes in
+    let holds = subst (Holds g.F.Files c.args.files.now c.args.name.now 1048576) (sym c.deref.ensures.value) c.in_ok-bytes.ensures.bytes in
     let judged = judged_here g.F.Files c.bytes_of.new.files (RefusedBy c.args.name.now (RefusesFunction tables c.deref.result.now)) (λ (f : IsFunction tables c.deref.result.now). callable_of tables f.written) as_callable c.function_in.result c.function_in.ensures in
     inr (c.bytes_of.new.files, c.bytes_of.ensures.read, inr (c.deref.result.now, holds, judged))

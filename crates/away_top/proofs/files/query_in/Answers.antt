@@ -4,7 +4,7 @@ use Rattle.away_types.specs.CheckedQueries.{IsCheckedQuery, query_note}
 use Rattle.away_top.specs.Course.{RefusedBy}
 use Rattle.away_top.specs.Refusals.{BreaksRule, ReadsAsQuery, RefusesQuery}
 use Rattle.away_top.proofs.Compiling.{refused_so}
-use Rattle.away_top.proofs.Querying.{asked_is}
+use Rattle.away_top.proofs.Judging.{asked_is}
 use Rattle.away_top.proofs.Stretches.{judged_so}
 use Rattle.away_top.proofs.files.query_in.Goals as goal
 

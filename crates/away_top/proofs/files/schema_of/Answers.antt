@@ -7,6 +7,6 @@ use Rattle.away_top.proofs.files.schema_of.Goals as goal
 
 pub returns : goal.returns
 returns g c =
-    let holds = subst (Holds (g.F.Files.held c.args.files.now c.args.name.now) 67108864) (sym c.deref.ensures.value) c.in_ok-bytes.ensures.bytes in
+    let holds = subst (Holds g.F.Files c.args.files.now c.args.name.now 67108864) (sym c.deref.ensures.value) c.in_ok-bytes.ensures.bytes in
     let judged = judged_here g.F.Files c.bytes_of.new.files (RefusedBy c.args.name.now (RefusesSchema c.deref.result.now)) (λ (s : IsSchema c.deref.result.now). s.schema) (λ x. x.schema) c.schema_in.result c.schema_in.ensures in
     inr (c.bytes_of.new.files, c.bytes_of.ensures.read, inr (c.deref.result.now, holds, judged))

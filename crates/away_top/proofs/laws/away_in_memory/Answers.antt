@@ -1,38 +1,46 @@
 use Rattle.std.proofs.Common.{map, string_bytes}
-use Rattle.away_top.proofs.CallsInMemory as calls
+use Rattle.away_top.specs.Commands.{course}
 use Rattle.away_top.proofs.ChecksInMemory as checks
 use Rattle.away_top.proofs.DemosInMemory as demos
-use Rattle.away_top.proofs.InMemory.{all_safe, translated}
-use Rattle.away_top.proofs.QueriesInMemory as queries
+use Rattle.away_top.proofs.EndsInMemory.{absent_sure, each_sure, in_room, unread}
+use Rattle.away_top.proofs.InMemory.{translated}
+use Rattle.away_top.proofs.RunsInMemory.{run_told}
 use Rattle.away_top.proofs.laws.away_in_memory.Goals as goal
+
+pub returns-clause-every : goal.returns-clause-every
+returns-clause-every c = λ no_failure none.
+    let a = c.away.ensures.answer in (
+      a.run.text,
+      in_room c.args.out.now c.away.new.out c.away.result _ _ (λ status output whole. (whole.status_is, whole.written)) none
+          (a.complete (each_sure c.args.files.now no_failure (course (map string_bytes c.args.words.now) a.run.text))),
+    )
+
+pub returns-clause-missing : goal.returns-clause-missing
+returns-clause-missing c = λ name begins absent none.
+    let a = c.away.ensures.answer in
+    let path = course (map string_bytes c.args.words.now) a.run.text in
+    unread c.args.files.now name absent path (begins a.run.text) c.args.out.now c.away.new.out c.away.result
+    (in_room c.args.out.now c.away.new.out c.away.result _ _ (λ status output whole. (whole.status_is, whole.written)) none
+    (a.complete (absent_sure c.args.files.now name absent path (begins a.run.text))))
 
 pub returns-clause-compile : goal.returns-clause-compile
 returns-clause-compile c = λ wanted tables function may none.
-    let a = c.away.ensures.answer in
-    translated c.args.files.now wanted c.args.out.now c.away.new.out (map string_bytes c.args.words.now) a.text tables function c.away.result _ (λ status output whole. (whole.status_is, whole.written)) may none
-    (a.complete (all_safe c.args.files.now wanted (map string_bytes c.args.words.now) a.text tables function may))
+    let ended = returns-clause-every c may.no_failure none in
+    translated c.args.files.now wanted c.args.out.now c.away.new.out (map string_bytes c.args.words.now) ended.0 tables function c.away.result may ended.1
 
 pub returns-clause-check : goal.returns-clause-check
 returns-clause-check c = λ schema func query cert tables function asked forms is may none.
-    let a = c.away.ensures.answer in
-    checks.judged c.args.files.now schema func query cert tables function asked forms may c.args.out.now c.away.new.out (map string_bytes c.args.words.now) a.text c.away.result _
-    (λ status output whole. (whole.status_is, whole.written)) is none
-    (a.complete (checks.all_safe c.args.files.now schema func query cert tables function asked forms may (map string_bytes c.args.words.now) a.text is))
+    let ended = returns-clause-every c may.no_failure none in
+    checks.judged c.args.files.now schema func query cert tables function asked forms may c.args.out.now c.away.new.out (map string_bytes c.args.words.now) ended.0 c.away.result is ended.1
 
 pub returns-clause-demo : goal.returns-clause-demo
 returns-clause-demo c = λ word is spells none.
     let a = c.away.ensures.answer in
-    demos.shown c.args.files.now c.args.out.now c.away.new.out (map string_bytes c.args.words.now) a.text word c.away.result _ (λ status output whole. (whole.status_is, whole.written)) is spells none
-    (a.complete (demos.all_safe c.args.files.now (map string_bytes c.args.words.now) a.text word is))
+    demos.shown c.args.files.now c.args.out.now c.away.new.out (map string_bytes c.args.words.now) a.run.text word c.away.result is spells
+    (in_room c.args.out.now c.away.new.out c.away.result _ _ (λ status output whole. (whole.status_is, whole.written)) none
+    (a.complete (demos.all_sure c.args.files.now (map string_bytes c.args.words.now) a.run.text word is)))
 
-pub returns-clause-query : goal.returns-clause-query
-returns-clause-query c = λ bound schema query dir args is may none.
-    let a = c.away.ensures.answer in
-    queries.answered c.args.files.now c.args.out.now c.away.new.out (map string_bytes c.args.words.now) a.text bound schema query dir args c.away.result _ (λ status output whole. (whole.status_is, whole.written)) is may none
-    (a.complete (queries.all_safe c.args.files.now (map string_bytes c.args.words.now) a.text bound schema query dir args is may))
-
-pub returns-clause-function : goal.returns-clause-function
-returns-clause-function c = λ bound schema func dir args is may none.
-    let a = c.away.ensures.answer in
-    calls.answered c.args.files.now c.args.out.now c.away.new.out (map string_bytes c.args.words.now) a.text bound schema func dir args c.away.result _ (λ status output whole. (whole.status_is, whole.written)) is may none
-    (a.complete (calls.all_safe c.args.files.now (map string_bytes c.args.words.now) a.text bound schema func dir args is may))
+pub returns-clause-run : goal.returns-clause-run
+returns-clause-run c = λ what bound schema file dir args is may none.
+    let ended = returns-clause-every c may.no_failure none in
+    run_told what c.args.files.now c.args.out.now c.away.new.out (map string_bytes c.args.words.now) ended.0 bound schema file dir args c.away.result is may ended.1

@@ -10,10 +10,10 @@ use Rattle.tail_rec.proofs.walk.reach_next.Goals as goal
 pub returns-in-None : goal.returns-in-None
 returns-in-None c =
     let none : slice_get c.args.blocks.now c.args.from.block ≡ None = grind (arith, common_steps, gets) in
-    after_no_block (is_firm c.args.g.now c.args.callers.now) c.args.blocks.now c.args.reached.now.items c.args.from none
+    after_no_block (is_firm c.args.goto.now c.args.callers.now) c.args.blocks.now c.args.reached.now.items c.args.from none
 
 pub returns-in-Some : goal.returns-in-Some
 returns-in-Some c =
     let some : slice_get c.args.blocks.now c.args.from.block ≡ Some c.in-Some.block.now = grind (arith, common_steps, gets) in
     subst (λ l. OnOk c.reach_end.result (c.reach_end.new.reached.items ≡ c.args.reached.now.items ++ l))
-    (after_this_block (is_firm c.args.g.now c.args.callers.now) c.args.blocks.now c.args.from c.in-Some.block.now some) c.reach_end.ensures
+    (after_this_block (is_firm c.args.goto.now c.args.callers.now) c.args.blocks.now c.args.from c.in-Some.block.now some) c.reach_end.ensures

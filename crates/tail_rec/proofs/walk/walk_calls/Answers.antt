@@ -9,7 +9,7 @@ use Rattle.tail_rec.proofs.walk.walk_calls.Goals.{then-at-len+in_ok-reach_next, 
 
 pub loop-at-preserved : goal.loop-at-preserved
 loop-at-preserved c =
-    let firm = is_firm c.args.g.now c.args.callers.now in
+    let firm = is_firm c.args.goto.now c.args.callers.now in
     let rs = c.loop-at.reached.items in
     elim c.if-at-len.branch [
       | then-at-len+in_ok-reach_next w ↦

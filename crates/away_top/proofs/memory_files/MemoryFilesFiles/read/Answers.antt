@@ -41,3 +41,12 @@ returns-in-Err-clause-too_long c = λ bytes quiet told lt.
     let same : c.in-Some.bytes.now ≡ bytes = told_once _ _ _ (told_here _ _ _ c.args.self.now _ _ c.deref-2.ensures.value (ap (λ m. m.held) (sym c.self.view_is)) c.in-Some.ensures) told in
     let lengths : length c.in-Some.bytes.now ≡ length bytes = ap length same in
     absurd (omega (arith, lengths))
+
+pub returns-then-bytes-limit-clause-absent_name : goal.returns-then-bytes-limit-clause-absent_name
+returns-then-bytes-limit-clause-absent_name c = λ none. absurd (told_nothing _ c.in-Some.bytes.now none (told_here _ _ _ c.args.self.now _ _ c.deref-2.ensures.value (ap (λ m. m.held) (sym c.self.view_is)) c.in-Some.ensures))
+
+pub returns-in-Ok-clause-absent_name : goal.returns-in-Ok-clause-absent_name
+returns-in-Ok-clause-absent_name c = λ none. absurd (told_nothing _ c.in-Some.bytes.now none (told_here _ _ _ c.args.self.now _ _ c.deref-2.ensures.value (ap (λ m. m.held) (sym c.self.view_is)) c.in-Some.ensures))
+
+pub returns-in-Err-clause-absent_name : goal.returns-in-Err-clause-absent_name
+returns-in-Err-clause-absent_name c = λ none. absurd (told_nothing _ c.in-Some.bytes.now none (told_here _ _ _ c.args.self.now _ _ c.deref-2.ensures.value (ap (λ m. m.held) (sym c.self.view_is)) c.in-Some.ensures))

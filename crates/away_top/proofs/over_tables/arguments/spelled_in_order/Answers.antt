@@ -1,4 +1,4 @@
-use Rattle.std.proofs.Common.{rules, string_bytes, sym, length, ◌<◌, ◌≤◌, subst}
+use Rattle.std.proofs.Common.{rules, string_bytes, sym, ◌<◌, ◌≤◌, subst}
 use Rattle.away_top.proofs.ParameterSteps.{match_ends, match_more, match_none}
 use Rattle.away_top.proofs.over_tables.arguments.spelled_in_order.Goals as goal
 

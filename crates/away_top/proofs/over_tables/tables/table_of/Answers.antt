@@ -14,7 +14,7 @@ returns-in_err-bytes g c =
 pub returns : goal.returns
 returns g c =
     let file = c.deref.result.now in
-    let holds = subst (Holds (g.F.Files.held c.args.files.now file) 67108864) (sym c.deref-2.ensures.value) c.in_ok-bytes.ensures.bytes in
+    let holds = subst (Holds g.F.Files c.args.files.now file 67108864) (sym c.deref-2.ensures.value) c.in_ok-bytes.ensures.bytes in
     let ending = c.in_ok-refuse-in-Err.field-0 in
     let refused = subst (λ f. RefusedBy f (IsTableRule c.in-Err.refusal) ending.status ending.output.items) (search rules) c.in_ok-refuse-in-Err.ensures in
     table_refused g.F.Files c.args.files.now c.bytes_of.new.files c.args.dir.now file c.args.table.now c.deref-2.result.now (search rules) c.bytes_of.ensures.read holds

@@ -1,0 +1,17 @@
+use Rattle.away_top.proofs.Unrefused.{cert_unrefused, function_kept_over, query_kept_over, row_query_kept_over, schema_unrefused}
+use Rattle.away_top.proofs.fitting.what_fits_is_not_refused.Goals as goal
+
+pub returns-clause-schema : goal.returns-clause-schema
+returns-clause-schema c = λ bytes rule s. schema_unrefused s rule
+
+pub returns-clause-function : goal.returns-clause-function
+returns-clause-function c = λ schema bytes rule f. function_kept_over schema bytes f rule
+
+pub returns-clause-query : goal.returns-clause-query
+returns-clause-query c = λ schema bytes rule q. query_kept_over schema bytes q rule
+
+pub returns-clause-rows : goal.returns-clause-rows
+returns-clause-rows c = λ schema bytes rule q. row_query_kept_over schema bytes q rule
+
+pub returns-clause-certificate : goal.returns-clause-certificate
+returns-clause-certificate c = λ bytes rule cert. cert_unrefused cert rule

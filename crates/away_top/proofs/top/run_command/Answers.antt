@@ -1,0 +1,15 @@
+use Rattle.std.proofs.Common.{[], subst, sym}
+use Rattle.away_top.specs.declared.command.Command.{Command}
+use Rattle.away_top.specs.Commands.{as_command, course_of}
+use Rattle.away_top.specs.Runs.{Runs}
+use Rattle.away_top.specs.Steps.{run_end}
+use Rattle.away_top.proofs.top.run_command.Goals as goal
+
+pub returns-in-Compile : goal.returns-in-Compile
+returns-in-Compile g c =
+    subst (λ (x : Command). Runs g.F.Files c.args.files.now (course_of (as_command x)) c.compile.new.files (run_end c.compile.result)) (sym c.in-Compile.is) c.compile.ensures
+
+pub returns-in-Check : goal.returns-in-Check
+returns-in-Check g c =
+    subst (λ (x : Command). Runs g.F.Files c.args.files.now (course_of (as_command x)) c.check.new.files (run_end c.check.result)) (sym c.in-Check.is)
+    (record { text = []; follows = c.check.ensures })

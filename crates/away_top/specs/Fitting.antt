@@ -1,0 +1,20 @@
+-- That what a file reads as and is judged to be excludes its refusals.
+use Rattle.std.specs.Prelude.{ℕ, List}
+use Rattle.away_trees.specs.declared.schemas.Schema.{Schema}
+use Rattle.away_top.specs.Certificates.{IsCert, RefusesCert}
+use Rattle.away_top.specs.Refusals.{IsFunction, IsQuery, IsRowQuery, IsSchema, RefusesFunction, RefusesQuery, RefusesRowQuery, RefusesSchema}
+
+abbrev pub FitSchemasAreNotRefused : Type 0
+FitSchemasAreNotRefused = (bytes rule : List ℕ) → IsSchema bytes → ¬ (RefusesSchema bytes rule)
+
+abbrev pub FitFunctionsAreNotRefused : Type 0
+FitFunctionsAreNotRefused = (schema : Schema) (bytes rule : List ℕ) → IsFunction schema bytes → ¬ (RefusesFunction schema bytes rule)
+
+abbrev pub FitQueriesAreNotRefused : Type 0
+FitQueriesAreNotRefused = (schema : Schema) (bytes rule : List ℕ) → IsQuery schema bytes → ¬ (RefusesQuery schema bytes rule)
+
+abbrev pub FitRowQueriesAreNotRefused : Type 0
+FitRowQueriesAreNotRefused = (schema : Schema) (bytes rule : List ℕ) → IsRowQuery schema bytes → ¬ (RefusesRowQuery schema bytes rule)
+
+abbrev pub FitCertificatesAreNotRefused : Type 0
+FitCertificatesAreNotRefused = (bytes rule : List ℕ) → IsCert bytes → ¬ (RefusesCert bytes rule)

@@ -1,0 +1,149 @@
+//! What the words ask for.
+
+ghost use Rattle.std.specs.Prelude.{◌≡◌, map, string_bytes};
+ghost use Rattle.away_top.specs.Commands.{as_command, asked_by, command_of, forms};
+ghost use Rattle.away_top.specs.Commands as form;
+
+use crate::compile::Wanted;
+use crate::over_tables::program::Runnable;
+
+/// What words ask for, with those behind the first.
+#[derive(Clone, Copy)]
+pub(crate) enum Command<'a> {
+    Help,
+    Version,
+    Compile {
+        wanted: Wanted,
+        schema: &'a str,
+        func: &'a str,
+    },
+    Check {
+        schema: &'a str,
+        func: &'a str,
+        query: &'a str,
+        cert: &'a str,
+    },
+    Demo {
+        number: &'a str,
+    },
+    OverTables {
+        what: Runnable,
+        bound: &'a str,
+        schema: &'a str,
+        file: &'a str,
+        dir: &'a str,
+        args: &'a [String],
+    },
+    /// The words are no form.
+    NoForm,
+}
+
+impl<'a> Command<'a> {
+    /// The command that the words ask for, told by the first.
+    #[tactic(auto, unfolding(crate::specs::Commands::command_of))]
+    pub fn parse(words: &'a [String]) -> Command<'a>
+        ensures { as_command result ≡ command_of (map string_bytes words.now) }
+    {
+        match words {
+            [word, rest @ ..] => Command::named(word.as_str(), rest),
+            [] => Command::NoForm,
+        }
+    }
+
+    /// The command of this name, with the words behind it.
+    fn named(word: &str, rest: &'a [String]) -> Command<'a>
+        ensures { as_command result ≡ asked_by forms word.now (map string_bytes rest.now) }
+    {
+        if word == "--help" {
+            return alone(Command::Help, rest);
+        }
+        if word == "--version" {
+            return alone(Command::Version, rest);
+        }
+        if word == "compile" {
+            return compile(Wanted::Query, rest);
+        }
+        if word == "certify" {
+            return compile(Wanted::Certificate, rest);
+        }
+        if word == "check" {
+            return check(rest);
+        }
+        if word == "demo" {
+            return demo(rest);
+        }
+        if word == "sql" {
+            return over_tables(Runnable::Query, rest);
+        }
+        if word == "rows" {
+            return over_tables(Runnable::Rows, rest);
+        }
+        if word == "fn" {
+            return over_tables(Runnable::Function, rest);
+        }
+        Command::NoForm
+    }
+}
+
+fn alone<'a>(asked: Command<'a>, rest: &[String]) -> Command<'a>
+    ensures { as_command result ≡ form.alone (as_command asked.entry) (map string_bytes rest.now) }
+{
+    match rest {
+        [] => asked,
+        [_, ..] => Command::NoForm,
+    }
+}
+
+fn compile<'a>(wanted: Wanted, rest: &'a [String]) -> Command<'a>
+    ensures { as_command result ≡ form.with_two (form.compile wanted) (map string_bytes rest.now) }
+{
+    match rest {
+        [schema, func] => Command::Compile {
+            wanted,
+            schema: schema.as_str(),
+            func: func.as_str(),
+        },
+        _ => Command::NoForm,
+    }
+}
+
+fn check<'a>(rest: &'a [String]) -> Command<'a>
+    ensures { as_command result ≡ form.with_four form.check (map string_bytes rest.now) }
+{
+    match rest {
+        [schema, func, query, cert] => Command::Check {
+            schema: schema.as_str(),
+            func: func.as_str(),
+            query: query.as_str(),
+            cert: cert.as_str(),
+        },
+        _ => Command::NoForm,
+    }
+}
+
+fn demo<'a>(rest: &'a [String]) -> Command<'a>
+    ensures { as_command result ≡ form.with_one form.demo (map string_bytes rest.now) }
+{
+    match rest {
+        [number] => Command::Demo {
+            number: number.as_str(),
+        },
+        _ => Command::NoForm,
+    }
+}
+
+fn over_tables<'a>(what: Runnable, rest: &'a [String]) -> Command<'a>
+    ensures { as_command result ≡ form.with_tables (form.over_tables what) (map string_bytes rest.now) }
+{
+    match rest {
+        [bound, schema, file, dir, args @ ..] => Command::OverTables {
+            what,
+            bound: bound.as_str(),
+            schema: schema.as_str(),
+            file: file.as_str(),
+            dir: dir.as_str(),
+            args,
+        },
+        _ => Command::NoForm,
+    }
+}
