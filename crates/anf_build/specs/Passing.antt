@@ -1,6 +1,21 @@
--- The blocks of the normal form, from tables of live slots: a block has the names of its live slots as parameters, and a call passes for each of them
--- the name that its slot has where the calling block ends.
-use Rattle.std.specs.Prelude.{◌≡◌, ℕ, ◌<◌, Bool, List, [], map, length, get_or, slice_get, Option, Some, None}
+-- The blocks of the normal form, from tables of live slots: a block has the names of its live slots
+-- as parameters, and a call passes for each of them the name that its slot has where the calling
+-- block ends.
+use Rattle.std.specs.Prelude.{
+  ◌≡◌,
+  ℕ,
+  ◌<◌,
+  Bool,
+  List,
+  [],
+  map,
+  length,
+  get_or,
+  slice_get,
+  Option,
+  Some,
+  None,
+}
 use Rattle.std.specs.List.{filter}
 use Rattle.block_forms.specs.declared.forms.Block.{Block}
 use Rattle.block_forms.specs.declared.forms.End.{End}

@@ -1,4 +1,5 @@
--- A linear congruential generator of 64 bits: each draw moves the state on, and takes its number from the upper bits.
+-- A linear congruential generator of 64 bits: each draw moves the state on, and takes its number
+-- from the upper bits.
 use Rattle.std.specs.Prelude.{ℕ, zero, suc, ◌+◌, ◌*◌, ◌/◌, ◌%◌, ◌^◌, List, [], ◌∷◌}
 
 -- the state behind a state

@@ -1,4 +1,5 @@
--- What a case is made of, in the order of the draws: the rows of the table, then two arguments, then the statements of the loop.
+-- What a case is made of, in the order of the draws: the rows of the table, then two arguments,
+-- then the statements of the loop.
 use Rattle.std.specs.Prelude.{ℕ, ◌+◌, ◌*◌, ◌==◌, if◌then◌else◌, List}
 use Rattle.away_gen.specs.declared.parts.Kind.{Kind}
 use Rattle.away_gen.specs.declared.parts.Kind.TheVariants.{Add, Multiply, Subtract, Loop, Query}

@@ -1,4 +1,5 @@
--- The texts of a case: a table of routes, a function whose loop runs the statements twenty times, and the table's file.
+-- The texts of a case: a table of routes, a function whose loop runs the statements twenty times,
+-- and the table's file.
 use Rattle.std.specs.Prelude.{◌≡◌, ℕ, pos, List, [], ◌∷◌, ◌++◌, codes, flat_map}
 use Rattle.std.specs.Fmt.{decimal}
 use Rattle.std.specs.List.{concat}

@@ -1,4 +1,5 @@
--- What a case is that runs: its texts read and break no rule, its table fits, and its arguments have the types of the parameters.
+-- What a case is that runs: its texts read and break no rule, its table fits, and its arguments
+-- have the types of the parameters.
 use Rattle.std.specs.Prelude.{◌≡◌, ℕ, List, [], ◌∷◌, Ok, map}
 use Rattle.std.specs.List.{AllZip}
 use Rattle.away_values.specs.Values.{HasType}
@@ -26,7 +27,8 @@ pub record IsSchemaText (bytes : List ℕ) (schema : Schema) : Type 0 where
   pub reads : ReadsSchema bytes schema
   pub unbroken : IsUnbroken (schema_note schema)
 
--- The bytes read as this function, which keeps the limits and breaks no rule over the tables of the schema.
+-- The bytes read as this function, which keeps the limits and breaks no rule over the tables of the
+-- schema.
 pub record IsFunctionText (schema : Schema) (bytes : List ℕ) (function : Function) : Type 0 where
   pub may_be_read : functions.MayBeRead bytes
   pub reads : ReadsFunction bytes function

@@ -55,7 +55,8 @@ fn function_of(
     schema: &CheckedSchema,
     bytes: &[u8],
 ) -> Result<Boxed<CheckedFunction>, NoMemory>
-    ensures { IfOk result (λ c. (f : FunctionTree) × IsFunctionText schema.now.schema bytes.now f × (c.function.params ≡ f.params)) }
+    ensures { IfOk result (λ c. (f : FunctionTree) × IsFunctionText schema.now.schema bytes.now f
+        × (c.function.params ≡ f.params)) }
 {
     let Ok(function) = read_function(alloc, bytes) else {
         return Err(NoMemory);

@@ -35,7 +35,8 @@ pub fn table_text(alloc: Global, rows: &[Row]) -> Result<String, AllocError>
 }
 
 fn push_row(text: &mut String, row: &Row) -> Result<(), AllocError>
-    ensures { OnOk result (string_bytes text.new ≡ string_bytes text.old ++ line (row_text row.now)) }
+    ensures { OnOk result (string_bytes text.new ≡ string_bytes text.old
+        ++ line (row_text row.now)) }
 {
     let Row { src, dst, cost } = *row;
     write!(text, "{src},{dst},{cost}\n")
@@ -55,7 +56,8 @@ pub fn function_text(alloc: Global, statements: &[Statement]) -> Result<String, 
 }
 
 fn push_statement(alloc: Global, text: &mut String, statement: &Statement) -> Result<(), AllocError>
-    ensures { OnOk result (string_bytes text.new ≡ string_bytes text.old ++ statement_text statement.now) }
+    ensures { OnOk result (string_bytes text.new ≡ string_bytes text.old
+        ++ statement_text statement.now) }
 {
     let target = variable(alloc, statement.target)?;
     let source = variable(alloc, statement.source)?;
@@ -77,7 +79,8 @@ fn number(alloc: Global, number: u64) -> Result<String, AllocError>
 
 /// Adds the statement of the kind over the variables x and y and the constant c.
 fn push_over(text: &mut String, kind: Kind, x: &str, y: &str, c: &str) -> Result<(), AllocError>
-    ensures { OnOk result (string_bytes text.new ≡ string_bytes text.old ++ statement_over kind x.now y.now c.now) }
+    ensures { OnOk result (string_bytes text.new ≡ string_bytes text.old
+        ++ statement_over kind x.now y.now c.now) }
 {
     match kind {
         Kind::Add => push_all(text, &[x, " := ", y, " + ", c, ";"]),
@@ -129,7 +132,8 @@ fn push_over(text: &mut String, kind: Kind, x: &str, y: &str, c: &str) -> Result
 }
 
 fn push_all(text: &mut String, pieces: &[&str]) -> Result<(), AllocError>
-    ensures { OnOk result (string_bytes text.new ≡ string_bytes text.old ++ flat_map (λ p. p.now) pieces.now) }
+    ensures { OnOk result (string_bytes text.new ≡ string_bytes text.old
+        ++ flat_map (λ p. p.now) pieces.now) }
 {
     for piece in pieces {
         text.push_str(piece)?;

@@ -1,5 +1,21 @@
 -- The two token lists of a function's file: the outer list, of the whole file, and the body's list.
-use Rattle.std.specs.Prelude.{◌≡◌, ℕ, ◌+◌, Bool, true, false, if◌then◌else◌, List, [], ◌∷◌, ◌++◌, length, Option, Some, None}
+use Rattle.std.specs.Prelude.{
+  ◌≡◌,
+  ℕ,
+  ◌+◌,
+  Bool,
+  true,
+  false,
+  if◌then◌else◌,
+  List,
+  [],
+  ◌∷◌,
+  ◌++◌,
+  length,
+  Option,
+  Some,
+  None,
+}
 use Rattle.away_grammar.specs.declared.tokens.TokenKind.{TokenKind}
 use Rattle.away_grammar.specs.declared.tokens.TokenKind.TheVariants.{Dollar}
 use Rattle.away_grammar.specs.Spellings.{IsTag, mark_of}
@@ -30,7 +46,8 @@ abbrev pub bad_with_dollar : List Lexeme → Option ℕ → Option ℕ
 bad_with_dollar [] bad = bad
 bad_with_dollar (t ∷ ts) bad = if is_dollar t.kind then Some t.start else bad_with_dollar ts bad
 
--- The tokens of a part of a file, from its offset on, and the first bad offset, where a dollar quote is a bad token.
+-- The tokens of a part of a file, from its offset on, and the first bad offset, where a dollar
+-- quote is a bad token.
 pub record LexesPart (at : ℕ) (z : List ℕ) (ts : List Lexeme) (bad : Option ℕ) : Type 0 where
   pub all : List Lexeme
   pub all_bad : Option ℕ

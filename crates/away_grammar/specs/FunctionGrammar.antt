@@ -1,9 +1,30 @@
 -- The grammar of functions: which terminals read as which tree. A constructor is a production.
 --
--- The productions are those of PostgreSQL's manual (CREATE FUNCTION; PL/pgSQL: Basic Statements, Control Structures, Errors and
--- Messages), cut down to this profile. A file has two lists of terminals: the outer one, of the whole file, reads as a function
--- around a body, and the one of the inside of its dollar quote reads as that body.
-use Rattle.std.specs.Prelude.{◌≡◌, ℕ, ◌+◌, ◌==◌, nat_lt, Bool, true, false, not, ◌&&◌, if◌then◌else◌, List, [], ◌∷◌, Option, Some, None, codes, bytes_eq}
+-- The productions are those of PostgreSQL's manual (CREATE FUNCTION; PL/pgSQL: Basic Statements,
+-- Control Structures, Errors and Messages), cut down to this profile. A file has two lists of
+-- terminals: the outer one, of the whole file, reads as a function around a body, and the one of
+-- the inside of its dollar quote reads as that body.
+use Rattle.std.specs.Prelude.{
+  ◌≡◌,
+  ℕ,
+  ◌+◌,
+  ◌==◌,
+  nat_lt,
+  Bool,
+  true,
+  false,
+  not,
+  ◌&&◌,
+  if◌then◌else◌,
+  List,
+  [],
+  ◌∷◌,
+  Option,
+  Some,
+  None,
+  codes,
+  bytes_eq,
+}
 use Rattle.std.specs.List.{list_any}
 use Rattle.away_grammar.specs.declared.grammar.Mark.{Mark}
 use Rattle.away_grammar.specs.declared.grammar.Mark.TheVariants as m
@@ -20,7 +41,15 @@ use Rattle.away_trees.specs.declared.statements.Raised.TheVariants as r
 use Rattle.away_trees.specs.declared.statements.Stmt.{Stmt}
 use Rattle.away_trees.specs.declared.statements.Stmt.TheVariants as s
 use Rattle.away_trees.specs.declared.statements.Function.{Function}
-use Rattle.away_grammar.specs.Terminals.{Terminal, mark, name, integer, string, quote, token_terminals}
+use Rattle.away_grammar.specs.Terminals.{
+  Terminal,
+  mark,
+  name,
+  integer,
+  string,
+  quote,
+  token_terminals,
+}
 use Rattle.away_grammar.specs.Grammar.{at, Reads, perhaps, schema_qualified, not_null, type_named}
 use Rattle.away_grammar.specs.Tokens.{Lexeme}
 use Rattle.away_grammar.specs.FunctionFile.{LexesFile}
@@ -59,8 +88,9 @@ assigns m.Assign = true
 assigns m.Equal = true
 assigns _ = false
 
--- END directly before LOOP is one closing word, `END LOOP`. Whether a LOOP stands among the terminals and the first one isn't of such a word; `behind` says
--- whether END stands directly before the terminals.
+-- END directly before LOOP is one closing word, `END LOOP`. Whether a LOOP stands among the
+-- terminals and the first one isn't of such a word; `behind` says whether END stands directly
+-- before the terminals.
 abbrev pub mark_opens_loop : Mark → (Bool → Bool) → Bool → Bool
 mark_opens_loop m.Loop later behind = not behind
 mark_opens_loop m.End later behind = later true
@@ -71,7 +101,8 @@ loop_opens [] behind = false
 loop_opens (mark terminal ∷ ts) behind = mark_opens_loop terminal (loop_opens ts) behind
 loop_opens (_ ∷ ts) behind = loop_opens ts false
 
--- An expression has no LOOP, so what stands before the LOOP that opens a loop doesn't end with an END.
+-- An expression has no LOOP, so what stands before the LOOP that opens a loop doesn't end with an
+-- END.
 abbrev pub opens_loop : List Terminal → Bool
 opens_loop ts = loop_opens ts false
 
@@ -204,23 +235,28 @@ pub data ReadsPart : (p : Part) → List Terminal → PartTree p → List Termin
       → ReadsPart decls ts (d ∷ ds) rest
   -- [<< name >>] [DECLARE {decl}] BEGIN {stmt} END [name]
   plain_block : {ts rest : List Terminal} {label : Option (List ℕ)} {ss : List Stmt} (closing : Option (List ℕ))
-      → ReadsPart statements ts ss (mark m.End ∷ perhaps_name closing rest) → ReadsPart (block label) (mark m.Begin ∷ ts) (s.Block label [] ss closing) rest
+      → ReadsPart statements ts ss (mark m.End ∷ perhaps_name closing rest)
+      → ReadsPart (block label) (mark m.Begin ∷ ts) (s.Block label [] ss closing) rest
   declaring_block : {ts middle rest : List Terminal} {label : Option (List ℕ)} {ds : List Decl} {ss : List Stmt} (closing : Option (List ℕ))
       → ReadsPart decls ts ds (mark m.Begin ∷ middle) → ReadsPart statements middle ss (mark m.End ∷ perhaps_name closing rest)
       → ReadsPart (block label) (mark m.Declare ∷ ts) (s.Block label ds ss closing) rest
   block_statement : {ts rest : List Terminal} {x : Stmt} (label : Option (List ℕ)) → ReadsPart (block label) ts x (mark m.Semicolon ∷ rest)
       → ReadsPart statement (labelled label ts) x rest
   -- name (:= | =) expr ;
-  assignment : {ts rest : List Terminal} {n : List ℕ} {x : Expr} (terminal : Mark) → assigns terminal ≡ true → Reads (at l.Or) ts x (mark m.Semicolon ∷ rest)
+  assignment : {ts rest : List Terminal} {n : List ℕ} {x : Expr} (terminal : Mark)
+      → assigns terminal ≡ true → Reads (at l.Or) ts x (mark m.Semicolon ∷ rest)
       → ReadsPart statement (name n ∷ mark terminal ∷ ts) (s.Assign n None x) rest
   nothing : {rest : List Terminal} → ReadsPart statement (mark m.Null ∷ mark m.Semicolon ∷ rest) s.Nothing rest
-  return_of : {ts rest : List Terminal} {x : Expr} → Reads (at l.Or) ts x (mark m.Semicolon ∷ rest) → ReadsPart statement (mark m.Return ∷ ts) (s.Return x) rest
+  return_of : {ts rest : List Terminal} {x : Expr} → Reads (at l.Or) ts x (mark m.Semicolon ∷ rest)
+      → ReadsPart statement (mark m.Return ∷ ts) (s.Return x) rest
   -- expr THEN {stmt}
-  branch_of : {ts middle rest : List Terminal} {x : Expr} {ss : List Stmt} → Reads (at l.Or) ts x (mark m.Then ∷ middle) → ReadsPart statements middle ss rest
+  branch_of : {ts middle rest : List Terminal} {x : Expr} {ss : List Stmt}
+      → Reads (at l.Or) ts x (mark m.Then ∷ middle) → ReadsPart statements middle ss rest
       → ReadsPart branch ts (record { test = x; body = ss }) rest
   -- {(ELSIF | ELSEIF) expr THEN {stmt}}
   no_elsif : {ts : List Terminal} → ReadsPart elsifs ts [] ts
-  elsif : {ts middle rest : List Terminal} {a : Arm} {more : List Arm} (short : Bool) → ReadsPart branch ts a middle → ReadsPart elsifs middle more rest
+  elsif : {ts middle rest : List Terminal} {a : Arm} {more : List Arm} (short : Bool)
+      → ReadsPart branch ts a middle → ReadsPart elsifs middle more rest
       → ReadsPart elsifs (mark (either short m.Elsif m.Elseif) ∷ ts) (a ∷ more) rest
   -- {WHEN expr THEN {stmt}}
   no_when : {ts : List Terminal} → ReadsPart whens ts [] ts
@@ -230,17 +266,20 @@ pub data ReadsPart : (p : Part) → List Terminal → PartTree p → List Termin
   no_else : {ts : List Terminal} → ReadsPart otherwise ts None ts
   else_of : {ts rest : List Terminal} {ss : List Stmt} → ReadsPart statements ts ss rest → ReadsPart otherwise (mark m.Else ∷ ts) (Some ss) rest
   if_of : {ts middle after rest : List Terminal} {a : Arm} {more : List Arm} {other : Option (List Stmt)}
-      → ReadsPart branch ts a middle → ReadsPart elsifs middle more after → ReadsPart otherwise after other (mark m.End ∷ mark m.If ∷ mark m.Semicolon ∷ rest)
+      → ReadsPart branch ts a middle → ReadsPart elsifs middle more after
+      → ReadsPart otherwise after other (mark m.End ∷ mark m.If ∷ mark m.Semicolon ∷ rest)
       → ReadsPart statement (mark m.If ∷ ts) (s.If (a ∷ more) other) rest
   cases_of : {ts middle after rest : List Terminal} {a : Arm} {more : List Arm} {other : Option (List Stmt)}
-      → ReadsPart branch ts a middle → ReadsPart whens middle more after → ReadsPart otherwise after other (mark m.End ∷ mark m.Case ∷ mark m.Semicolon ∷ rest)
+      → ReadsPart branch ts a middle → ReadsPart whens middle more after
+      → ReadsPart otherwise after other (mark m.End ∷ mark m.Case ∷ mark m.Semicolon ∷ rest)
       → ReadsPart statement (mark m.Case ∷ mark m.When ∷ ts) (s.Cases (a ∷ more) other) rest
   -- [BY expr]
   no_step : {ts : List Terminal} → ReadsPart step ts None ts
   step_of : {ts rest : List Terminal} {x : Expr} → Reads (at l.Or) ts x rest → ReadsPart step (mark m.By ∷ ts) (Some x) rest
   -- [WHILE expr | FOR name IN [REVERSE] expr .. expr [BY expr]]
   plain_loop : {ts : List Terminal} → ReadsPart kind ts k.Plain ts
-  while_loop : {ts rest : List Terminal} {x : Expr} → opens_loop ts ≡ true → Reads (at l.Or) ts x rest → ReadsPart kind (mark m.While ∷ ts) (k.While x) rest
+  while_loop : {ts rest : List Terminal} {x : Expr} → opens_loop ts ≡ true
+      → Reads (at l.Or) ts x rest → ReadsPart kind (mark m.While ∷ ts) (k.While x) rest
   for_loop : {ts after middle rest : List Terminal} {n : List ℕ} {reverse : Bool} {first last : Expr} {x : Option Expr}
       → opens_loop ts ≡ true → Reads (at l.Or) ts first (mark m.Dots ∷ after) → Reads (at l.Or) after last middle → ReadsPart step middle x rest
       → ReadsPart kind (mark m.For ∷ name n ∷ mark m.In ∷ perhaps reverse (mark m.Reverse) ts) (k.Count n reverse first last x) rest
@@ -266,10 +305,12 @@ pub data ReadsPart : (p : Part) → List Terminal → PartTree p → List Termin
       (s.Raise (r.State z)) rest
   -- {stmt}
   no_statement : {ts : List Terminal} → ReadsPart statements ts [] ts
-  another_statement : {ts middle rest : List Terminal} {x : Stmt} {xs : List Stmt} → ReadsPart statement ts x middle → ReadsPart statements middle xs rest
+  another_statement : {ts middle rest : List Terminal} {x : Stmt} {xs : List Stmt}
+      → ReadsPart statement ts x middle → ReadsPart statements middle xs rest
       → ReadsPart statements ts (x ∷ xs) rest
   -- block [;]
-  body_of : {ts rest : List Terminal} {x : Stmt} (label : Option (List ℕ)) (w : Bool) → ReadsPart (block label) ts x (perhaps w (mark m.Semicolon) rest)
+  body_of : {ts rest : List Terminal} {x : Stmt} (label : Option (List ℕ)) (w : Bool)
+      → ReadsPart (block label) ts x (perhaps w (mark m.Semicolon) rest)
       → ReadsPart body (labelled label ts) x rest
   -- [IN] name type
   parameter_of : {rest : List Terminal} {n : List ℕ} {ty : Ty} (w : Bool) (t : List ℕ) → type_named t ≡ Some ty
@@ -281,19 +322,23 @@ pub data ReadsPart : (p : Part) → List Terminal → PartTree p → List Termin
   no_parameter : {rest : List Terminal} → ReadsPart signature (mark m.Open ∷ mark m.Close ∷ rest) [] rest
   signature_of : {ts rest : List Terminal} {xs : List (List ℕ × Ty)} → ReadsPart parameters ts xs (mark m.Close ∷ rest)
       → ReadsPart signature (mark m.Open ∷ ts) xs rest
-  -- LANGUAGE (plpgsql | 'plpgsql') | AS dollar quote | IMMUTABLE | STABLE | VOLATILE | STRICT | RETURNS NULL ON NULL INPUT | CALLED ON NULL INPUT
-  -- | [NOT] LEAKPROOF | PARALLEL (SAFE | RESTRICTED | UNSAFE) | COST integer
+  -- LANGUAGE (plpgsql | 'plpgsql') | AS dollar quote | IMMUTABLE | STABLE | VOLATILE | STRICT |
+  -- RETURNS NULL ON NULL INPUT | CALLED ON NULL INPUT | [NOT] LEAKPROOF | PARALLEL (SAFE |
+  -- RESTRICTED | UNSAFE) | COST integer
   language_name : {rest : List Terminal} → ReadsPart attribute_of (name (codes "language") ∷ name (codes "plpgsql") ∷ rest) attribute.Language rest
-  language_string : {rest : List Terminal} → ReadsPart attribute_of (name (codes "language") ∷ string (codes "plpgsql") ∷ rest) attribute.Language rest
+  language_string : {rest : List Terminal} → ReadsPart attribute_of
+      (name (codes "language") ∷ string (codes "plpgsql") ∷ rest) attribute.Language rest
   as_quote : {rest : List Terminal} {z : List ℕ} → ReadsPart attribute_of (mark m.As ∷ quote z ∷ rest) attribute.Body rest
   word_attribute : {rest : List Terminal} {z : List ℕ} {a : Attribute} → one_word z ≡ Some a → ReadsPart attribute_of (name z ∷ rest) a rest
   strict : {rest : List Terminal} → ReadsPart attribute_of (mark m.Strict ∷ rest) (attribute.NullInput true) rest
-  returns_null : {rest : List Terminal} → ReadsPart attribute_of (name (codes "returns") ∷ mark m.Null ∷ mark m.On ∷ mark m.Null ∷ name (codes "input")
+  returns_null : {rest : List Terminal} → ReadsPart attribute_of
+      (name (codes "returns") ∷ mark m.Null ∷ mark m.On ∷ mark m.Null ∷ name (codes "input")
       ∷ rest) (attribute.NullInput true) rest
   called_on_null : {rest : List Terminal} → ReadsPart attribute_of (name (codes "called") ∷ mark m.On ∷ mark m.Null ∷ name (codes "input")
       ∷ rest) (attribute.NullInput false) rest
   not_leakproof : {rest : List Terminal} → ReadsPart attribute_of (mark m.Not ∷ name (codes "leakproof") ∷ rest) attribute.Leakproof rest
-  parallel : {rest : List Terminal} {z : List ℕ} → may_run z ≡ true → ReadsPart attribute_of (name (codes "parallel") ∷ name z ∷ rest) attribute.Parallel rest
+  parallel : {rest : List Terminal} {z : List ℕ} → may_run z ≡ true
+      → ReadsPart attribute_of (name (codes "parallel") ∷ name z ∷ rest) attribute.Parallel rest
   cost : {rest : List Terminal} {n : ℕ} → ReadsPart attribute_of (name (codes "cost") ∷ integer n ∷ rest) attribute.Cost rest
   no_attribute : {ts : List Terminal} → ReadsPart attributes ts [] ts
   another_attribute : {ts middle rest : List Terminal} {a : Attribute} {found : List Attribute} → ReadsPart attribute_of ts a middle

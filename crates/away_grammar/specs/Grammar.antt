@@ -1,8 +1,33 @@
--- The grammar of expressions, queries and schemas: which terminals read as which tree. A constructor is a production.
+-- The grammar of expressions, queries and schemas: which terminals read as which tree. A
+-- constructor is a production.
 --
--- The productions are those of PostgreSQL's manual (Value Expressions; SELECT; WITH Queries; CREATE TABLE), cut down to this
--- profile. A repeated NOT or unary minus, and a third `::` in a row, need parentheses; that is our own choice.
-use Rattle.std.specs.Prelude.{◌≡◌, ℕ, ◌<◌, ◌^◌, ◌-◌, pos, negsuc, Bool, true, false, ◌&&◌, ◌||◌, if◌then◌else◌, List, [], ◌∷◌, ◌++◌, Option, Some, None, codes, bytes_eq}
+-- The productions are those of PostgreSQL's manual (Value Expressions; SELECT; WITH Queries; CREATE
+-- TABLE), cut down to this profile. A repeated NOT or unary minus, and a third `::` in a row, need
+-- parentheses; that is our own choice.
+use Rattle.std.specs.Prelude.{
+  ◌≡◌,
+  ℕ,
+  ◌<◌,
+  ◌^◌,
+  ◌-◌,
+  pos,
+  negsuc,
+  Bool,
+  true,
+  false,
+  ◌&&◌,
+  ◌||◌,
+  if◌then◌else◌,
+  List,
+  [],
+  ◌∷◌,
+  ◌++◌,
+  Option,
+  Some,
+  None,
+  codes,
+  bytes_eq,
+}
 use Rattle.std.specs.List.{list_all}
 use Rattle.away_grammar.specs.declared.grammar.Mark.{Mark}
 use Rattle.away_grammar.specs.declared.grammar.Mark.TheVariants as m
@@ -27,7 +52,15 @@ use Rattle.away_trees.specs.declared.queries.Key.{Key}
 use Rattle.away_trees.specs.declared.queries.Select.{Select}
 use Rattle.away_trees.specs.declared.queries.Recursive.{Recursive}
 use Rattle.away_trees.specs.declared.queries.Query.{Query}
-use Rattle.away_trees.specs.declared.queries.Expr.TheViews.{roll-Item, roll-FromItem, roll-Key, roll-Select, roll-Recursive, roll-Query, out-Select}
+use Rattle.away_trees.specs.declared.queries.Expr.TheViews.{
+  roll-Item,
+  roll-FromItem,
+  roll-Key,
+  roll-Select,
+  roll-Recursive,
+  roll-Query,
+  out-Select,
+}
 use Rattle.away_trees.specs.declared.schemas.ColumnSchema.{ColumnSchema}
 use Rattle.away_trees.specs.declared.schemas.TableSchema.{TableSchema}
 use Rattle.away_grammar.specs.Terminals.{Terminal, mark, name, integer, string, parameter}
@@ -235,7 +268,8 @@ Tree tables = List TableSchema
 pub data Reads : (n : Sort) → List Terminal → Tree n → List Terminal → Type 0 where
   -- and {OR and}, and likewise for AND, `||`, `+ -` and `* / %`
   chain : {level : Level} {ts middle rest : List Terminal} {first : Expr} {more : List (ChainOp × Expr)}
-      → IsChain level → Reads (at (operands level)) ts first middle → Reads (links level) middle more rest → Reads (at level) ts (chained first more) rest
+      → IsChain level → Reads (at (operands level)) ts first middle
+      → Reads (links level) middle more rest → Reads (at level) ts (chained first more) rest
   no_link : {level : Level} {ts : List Terminal} → Reads (links level) ts [] ts
   link : {level : Level} {ts middle rest : List Terminal} {o : ChainOp} {x : Expr} {more : List (ChainOp × Expr)} (terminal : Mark)
       → operator_of level terminal ≡ Some o → Reads (at (operands level)) ts x middle → Reads (links level) middle more rest
@@ -268,7 +302,8 @@ pub data Reads : (n : Sort) → List Terminal → Tree n → List Terminal → T
   least : {rest : List Terminal} → Reads (at l.Sign) (mark m.Minus ∷ integer (2 ^ 63) ∷ rest) (e.Int (negsuc (2 ^ 63 - 1))) rest
   -- prim [:: type [:: type]]
   uncast : {ts rest : List Terminal} {x : Expr} → Reads (at l.Primary) ts x rest → Reads (at l.Cast) ts x rest
-  cast_once : {ts rest : List Terminal} {x : Expr} {ty : Ty} (t : List ℕ) → type_named t ≡ Some ty → Reads (at l.Primary) ts x (mark m.Colons ∷ name t ∷ rest)
+  cast_once : {ts rest : List Terminal} {x : Expr} {ty : Ty} (t : List ℕ) → type_named t ≡ Some ty
+      → Reads (at l.Primary) ts x (mark m.Colons ∷ name t ∷ rest)
       → Reads (at l.Cast) ts (e.Cast x ty) rest
   cast_twice : {ts rest : List Terminal} {x : Expr} {first second : Ty} (t u : List ℕ)
       → type_named t ≡ Some first → type_named u ≡ Some second → Reads (at l.Primary) ts x (mark m.Colons ∷ name t ∷ mark m.Colons ∷ name u ∷ rest)
@@ -285,7 +320,8 @@ pub data Reads : (n : Sort) → List Terminal → Tree n → List Terminal → T
       → Reads (at l.Primary) (parameter i ∷ mark m.Colons ∷ name t ∷ rest) (e.Param i ty) rest
   parentheses : {ts rest : List Terminal} {x : Expr} → Reads (at l.Or) ts x (mark m.Close ∷ rest) → Reads (at l.Primary) (mark m.Open ∷ ts) x rest
   scalar : {ts rest : List Terminal} {q : Query} → Reads query ts q (mark m.Close ∷ rest) → Reads (at l.Primary) (mark m.Open ∷ ts) (e.Scalar q) rest
-  cast : {ts rest : List Terminal} {x : Expr} {ty : Ty} (t : List ℕ) → type_named t ≡ Some ty → Reads (at l.Or) ts x (mark m.As ∷ name t ∷ mark m.Close ∷ rest)
+  cast : {ts rest : List Terminal} {x : Expr} {ty : Ty} (t : List ℕ) → type_named t ≡ Some ty
+      → Reads (at l.Or) ts x (mark m.As ∷ name t ∷ mark m.Close ∷ rest)
       → Reads (at l.Primary) (mark m.Cast ∷ mark m.Open ∷ ts) (e.Cast x ty) rest
   exists : {ts rest : List Terminal} {q : Query} → Reads query ts q (mark m.Close ∷ rest)
       → Reads (at l.Primary) (mark m.Exists ∷ mark m.Open ∷ ts) (e.Exists q) rest
@@ -294,7 +330,8 @@ pub data Reads : (n : Sort) → List Terminal → Tree n → List Terminal → T
   cases_else : {ts middle rest : List Terminal} {a : Expr × Expr} {more : List (Expr × Expr)} {x : Expr}
       → Reads arms ts (a ∷ more) (mark m.Else ∷ middle) → Reads (at l.Or) middle x (mark m.End ∷ rest)
       → Reads (at l.Primary) (mark m.Case ∷ ts) (e.Cases (a ∷ more) (Some x)) rest
-  call_word : {ts rest : List Terminal} {n : List ℕ} {xs : List Expr} (terminal : Mark) → called terminal ≡ Some n → Reads list ts xs (mark m.Close ∷ rest)
+  call_word : {ts rest : List Terminal} {n : List ℕ} {xs : List Expr} (terminal : Mark)
+      → called terminal ≡ Some n → Reads list ts xs (mark m.Close ∷ rest)
       → Reads (at l.Primary) (mark terminal ∷ mark m.Open ∷ ts) (e.Call n xs) rest
   count_rows : {rest : List Terminal} → Reads (at l.Primary) (name (codes "count") ∷ mark m.Open ∷ mark m.Star ∷ mark m.Close ∷ rest) e.CountRows rest
   call_empty : {rest : List Terminal} {n : List ℕ} → Reads (at l.Primary) (name n ∷ mark m.Open ∷ mark m.Close ∷ rest) (e.Call n []) rest
@@ -322,11 +359,14 @@ pub data Reads : (n : Sort) → List Terminal → Tree n → List Terminal → T
   table_as : {rest : List Terminal} {n a : List ℕ} (q w : Bool)
       → Reads from_item (schema_qualified q (name n ∷ perhaps w (mark m.As) (name a ∷ rest)))
       (roll-FromItem (record { source = source.Table n; alias = a; columns = [] })) rest
-  sub_alone : {ts rest : List Terminal} {q : Query} {a : List ℕ} {v : Bool} (w : Bool) → Reads query ts q (mark m.Close ∷ perhaps w (mark m.As) (name a ∷ rest))
-      → Reads from_item (perhaps v (mark m.Lateral) (mark m.Open ∷ ts)) (roll-FromItem (record { source = source.Sub q v; alias = a; columns = [] })) rest
+  sub_alone : {ts rest : List Terminal} {q : Query} {a : List ℕ} {v : Bool} (w : Bool)
+      → Reads query ts q (mark m.Close ∷ perhaps w (mark m.As) (name a ∷ rest))
+      → Reads from_item (perhaps v (mark m.Lateral) (mark m.Open ∷ ts))
+      (roll-FromItem (record { source = source.Sub q v; alias = a; columns = [] })) rest
   sub_columns : {ts after rest : List Terminal} {q : Query} {a : List ℕ} {ns : List (List ℕ)} {v : Bool} (w : Bool)
       → Reads query ts q (mark m.Close ∷ perhaps w (mark m.As) (name a ∷ mark m.Open ∷ after)) → Reads names after ns (mark m.Close ∷ rest)
-      → Reads from_item (perhaps v (mark m.Lateral) (mark m.Open ∷ ts)) (roll-FromItem (record { source = source.Sub q v; alias = a; columns = ns })) rest
+      → Reads from_item (perhaps v (mark m.Lateral) (mark m.Open ∷ ts))
+      (roll-FromItem (record { source = source.Sub q v; alias = a; columns = ns })) rest
   last_from : {ts rest : List Terminal} {x : FromItem} → Reads from_item ts x rest → Reads from_items ts (x ∷ []) rest
   another_from : {ts middle rest : List Terminal} {x : FromItem} {xs : List FromItem} → Reads from_item ts x (mark m.Comma ∷ middle)
       → Reads from_items middle xs rest → Reads from_items ts (x ∷ xs) rest
@@ -362,7 +402,8 @@ pub data Reads : (n : Sort) → List Terminal → Tree n → List Terminal → T
       → Reads selects middle ss rest → Reads selects ts (s ∷ ss) rest
   query_of : {ts rest : List Terminal} {ss : List Select} → may_join ss ≡ true → Reads selects ts ss rest
       → Reads query ts (roll-Query (record { recursive = None; selects = ss })) rest
-  -- WITH RECURSIVE name ( name {, name} ) AS ( select {UNION ALL select} UNION ALL select ): the last one is the second term
+  -- WITH RECURSIVE name ( name {, name} ) AS ( select {UNION ALL select} UNION ALL select ): the
+  -- last one is the second term
   recursive_of : {ts after rest : List Terminal} {n : List ℕ} {ns : List (List ℕ)} {s : Select} (ss : List Select) (second : Select)
       → Reads names ts ns (mark m.Close ∷ mark m.As ∷ mark m.Open ∷ after) → Reads selects after (s ∷ (ss ++ second ∷ [])) (mark m.Close ∷ rest)
       → Reads recursive (mark m.With ∷ mark m.Recursive ∷ name n ∷ mark m.Open ∷ ts)
@@ -426,7 +467,8 @@ rank_of recursive = 5
 rank_of file = 4
 rank_of tables = 3
 
--- The tightest sort that the mark can continue, and 0 where there is none. From `Or` on these are the tokens that continue an expression.
+-- The tightest sort that the mark can continue, and 0 where there is none. From `Or` on these are
+-- the tokens that continue an expression.
 abbrev pub mark_binds : Mark → ℕ
 mark_binds m.Dot = 32
 mark_binds m.Open = 32

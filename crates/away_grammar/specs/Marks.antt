@@ -11,12 +11,14 @@ abbrev pub reserved_words : List Entry
 reserved_words =
     (codes "all", m.All) ∷ (codes "and", m.And) ∷ (codes "as", m.As) ∷ (codes "asc", m.Asc) ∷ (codes "begin", m.Begin) ∷ (codes "between", m.Between)
     ∷ (codes "by", m.By) ∷ (codes "case", m.Case) ∷ (codes "cast", m.Cast) ∷ (codes "coalesce", m.Coalesce) ∷ (codes "constant", m.Constant)
-    ∷ (codes "continue", m.Continue) ∷ (codes "create", m.Create) ∷ (codes "declare", m.Declare) ∷ (codes "default", m.Default) ∷ (codes "desc", m.Desc)
+    ∷ (codes "continue", m.Continue) ∷ (codes "create", m.Create) ∷ (codes "declare", m.Declare)
+    ∷ (codes "default", m.Default) ∷ (codes "desc", m.Desc)
     ∷ (codes "else", m.Else) ∷ (codes "elseif", m.Elseif) ∷ (codes "elsif", m.Elsif) ∷ (codes "end", m.End) ∷ (codes "exists", m.Exists)
     ∷ (codes "exit", m.Exit) ∷ (codes "false", m.False) ∷ (codes "for", m.For) ∷ (codes "from", m.From) ∷ (codes "greatest", m.Greatest)
     ∷ (codes "if", m.If) ∷ (codes "in", m.In) ∷ (codes "into", m.Into) ∷ (codes "is", m.Is) ∷ (codes "lateral", m.Lateral) ∷ (codes "least", m.Least)
     ∷ (codes "limit", m.Limit) ∷ (codes "loop", m.Loop) ∷ (codes "not", m.Not) ∷ (codes "null", m.Null) ∷ (codes "on", m.On) ∷ (codes "or", m.Or)
-    ∷ (codes "order", m.Order) ∷ (codes "raise", m.Raise) ∷ (codes "recursive", m.Recursive) ∷ (codes "return", m.Return) ∷ (codes "reverse", m.Reverse)
+    ∷ (codes "order", m.Order) ∷ (codes "raise", m.Raise) ∷ (codes "recursive", m.Recursive)
+    ∷ (codes "return", m.Return) ∷ (codes "reverse", m.Reverse)
     ∷ (codes "select", m.Select) ∷ (codes "strict", m.Strict) ∷ (codes "table", m.Table) ∷ (codes "then", m.Then) ∷ (codes "true", m.True)
     ∷ (codes "union", m.Union) ∷ (codes "when", m.When) ∷ (codes "where", m.Where) ∷ (codes "while", m.While) ∷ (codes "with", m.With) ∷ []
 

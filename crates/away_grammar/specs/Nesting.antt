@@ -1,5 +1,21 @@
 -- How deep the parentheses and blocks of a token list nest.
-use Rattle.std.specs.Prelude.{◌≡◌, ◌≤◌, ℕ, ◌+◌, Bool, false, ◌&&◌, ◌||◌, if◌then◌else◌, List, [], ◌∷◌, take, codes, bytes_eq}
+use Rattle.std.specs.Prelude.{
+  ◌≡◌,
+  ◌≤◌,
+  ℕ,
+  ◌+◌,
+  Bool,
+  false,
+  ◌&&◌,
+  ◌||◌,
+  if◌then◌else◌,
+  List,
+  [],
+  ◌∷◌,
+  take,
+  codes,
+  bytes_eq,
+}
 use Rattle.away_grammar.specs.declared.tokens.TokenKind.{TokenKind}
 use Rattle.away_grammar.specs.declared.tokens.TokenKind.TheVariants.{Word, Symbol}
 use Rattle.away_grammar.specs.Tokens.{Lexeme}
@@ -62,8 +78,8 @@ closed (opens ∷ cs) = closed cs
 closed (closes ∷ cs) = closed cs + 1
 closed (stays ∷ cs) = closed cs
 
--- The count of a front is what opened in it less what closed. No front has a greater count than this, and some front has it;
--- the empty front has the count 0.
+-- The count of a front is what opened in it less what closed. No front has a greater count than
+-- this, and some front has it; the empty front has the count 0.
 pub record IsGreatest (cs : List Change) (n : ℕ) : Type 0 where
   pub most : (at : ℕ) → opened (take at cs) ≤ n + closed (take at cs)
   pub reached : (at : ℕ) × (opened (take at cs) ≡ n + closed (take at cs))

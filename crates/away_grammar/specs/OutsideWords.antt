@@ -1,5 +1,21 @@
--- Words of PL/pgSQL and SQL that stand outside this profile. A function's file that isn't read is refused by the first of them, where it has one.
-use Rattle.std.specs.Prelude.{ℕ, Bool, true, false, ◌&&◌, ◌||◌, if◌then◌else◌, List, [], ◌∷◌, Option, Some, None, codes}
+-- Words of PL/pgSQL and SQL that stand outside this profile. A function's file that isn't read is
+-- refused by the first of them, where it has one.
+use Rattle.std.specs.Prelude.{
+  ℕ,
+  Bool,
+  true,
+  false,
+  ◌&&◌,
+  ◌||◌,
+  if◌then◌else◌,
+  List,
+  [],
+  ◌∷◌,
+  Option,
+  Some,
+  None,
+  codes,
+}
 use Rattle.std.specs.List.{list_any}
 use Rattle.std.specs.Str.{str_eq_ignore_ascii_case}
 use Rattle.away_grammar.specs.Tokens.{Lexeme, is_word_kind}
@@ -8,10 +24,12 @@ abbrev pub outside_words : List (List ℕ)
 outside_words =
     codes "alias" ∷ codes "array" ∷ codes "assert" ∷ codes "call" ∷ codes "close" ∷ codes "collate" ∷ codes "commit"
     ∷ codes "cross" ∷ codes "cursor" ∷ codes "debug"
-    ∷ codes "delete" ∷ codes "diagnostics" ∷ codes "distinct" ∷ codes "execute" ∷ codes "fetch" ∷ codes "foreach" ∷ codes "full" ∷ codes "get" ∷ codes "group"
+    ∷ codes "delete" ∷ codes "diagnostics" ∷ codes "distinct" ∷ codes "execute" ∷ codes "fetch"
+    ∷ codes "foreach" ∷ codes "full" ∷ codes "get" ∷ codes "group"
     ∷ codes "having" ∷ codes "ilike" ∷ codes "info" ∷ codes "inout" ∷ codes "insert" ∷ codes "int" ∷ codes "int4"
     ∷ codes "integer" ∷ codes "intersect" ∷ codes "into"
-    ∷ codes "join" ∷ codes "left" ∷ codes "like" ∷ codes "log" ∷ codes "merge" ∷ codes "move" ∷ codes "next" ∷ codes "notice" ∷ codes "numeric" ∷ codes "open"
+    ∷ codes "join" ∷ codes "left" ∷ codes "like" ∷ codes "log" ∷ codes "merge" ∷ codes "move"
+    ∷ codes "next" ∷ codes "notice" ∷ codes "numeric" ∷ codes "open"
     ∷ codes "out" ∷ codes "over" ∷ codes "perform" ∷ codes "query" ∷ codes "record" ∷ codes "right" ∷ codes "rollback"
     ∷ codes "security" ∷ codes "set" ∷ codes "setof"
     ∷ codes "similar" ∷ codes "slice" ∷ codes "trigger" ∷ codes "update" ∷ codes "using" ∷ codes "variadic"

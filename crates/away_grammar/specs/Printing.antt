@@ -1,9 +1,34 @@
--- The one text that a query prints as. First its terminals: each tree prints as the terminals that read as it, with parentheses only
--- where they are needed. Then the text: each terminal is spelled, and the tokens stand with the spacing of printed text.
+-- The one text that a query prints as. First its terminals: each tree prints as the terminals that
+-- read as it, with parentheses only where they are needed. Then the text: each terminal is spelled,
+-- and the tokens stand with the spacing of printed text.
 --
--- Some trees are read from no text: slots, columns, operations of 32 bits, negative integers but the least bigint, chains
--- without links, CASE without arms, lists without an element, a table's columns. What these print as says nothing.
-use Rattle.std.specs.Prelude.{ℕ, suc, ℤ, pos, negsuc, nat_lt, Bool, true, false, if◌then◌else◌, List, [], ◌∷◌, ◌++◌, map, Option, Some, None, codes, bytes_eq, encode_utf8_all, decimal}
+-- Some trees are read from no text: slots, columns, operations of 32 bits, negative integers but
+-- the least bigint, chains without links, CASE without arms, lists without an element, a table's
+-- columns. What these print as says nothing.
+use Rattle.std.specs.Prelude.{
+  ℕ,
+  suc,
+  ℤ,
+  pos,
+  negsuc,
+  nat_lt,
+  Bool,
+  true,
+  false,
+  if◌then◌else◌,
+  List,
+  [],
+  ◌∷◌,
+  ◌++◌,
+  map,
+  Option,
+  Some,
+  None,
+  codes,
+  bytes_eq,
+  encode_utf8_all,
+  decimal,
+}
 use Rattle.away_grammar.specs.declared.grammar.Mark.{Mark}
 use Rattle.away_grammar.specs.declared.grammar.Mark.TheVariants as m
 use Rattle.away_grammar.specs.declared.grammar.Level.{Level}
@@ -20,10 +45,26 @@ use Rattle.away_values.specs.declared.operators.IsTest.{IsTest}
 use Rattle.away_values.specs.declared.operators.IsTest.TheVariants as tests
 use Rattle.away_trees.specs.declared.queries.Expr.{Expr}
 use Rattle.away_trees.specs.declared.queries.Query.{Query}
-use Rattle.away_trees.specs.declared.queries.Expr.TheOpen.{Expr-F, Source-F, FromItem-F, Item-F, Key-F, Select-F, Recursive-F, Query-F}
+use Rattle.away_trees.specs.declared.queries.Expr.TheOpen.{
+  Expr-F,
+  Source-F,
+  FromItem-F,
+  Item-F,
+  Key-F,
+  Select-F,
+  Recursive-F,
+  Query-F,
+}
 use Rattle.away_trees.specs.declared.queries.Expr.TheOpen as ex
 use Rattle.away_trees.specs.Algebra.{Algebra, expr_of, query_of}
-use Rattle.away_grammar.specs.declared.tokens.TokenKind.TheVariants.{Word, Integer, Str, Parameter, Dollar, Symbol}
+use Rattle.away_grammar.specs.declared.tokens.TokenKind.TheVariants.{
+  Word,
+  Integer,
+  Str,
+  Parameter,
+  Dollar,
+  Symbol,
+}
 use Rattle.away_grammar.specs.Terminals.{Terminal, mark, name, integer, string, parameter, quote}
 use Rattle.away_grammar.specs.Spellings.{quoted}
 use Rattle.away_grammar.specs.Spacing.{Spelled, written, laid}
@@ -94,11 +135,13 @@ pub record Printed : Type 0 where
   pub level : Level
   pub terminals : List Terminal
 
--- `(` and `)` stand round an expression exactly where its place doesn't read its level: where the place is tighter.
+-- `(` and `)` stand round an expression exactly where its place doesn't read its level: where the
+-- place is tighter.
 abbrev pub placed : Level → Printed → List Terminal
 placed place p = if nat_lt (rank p.level) (rank place) then mark m.Open ∷ (p.terminals ++ mark m.Close ∷ []) else p.terminals
 
--- what a FROM item takes its rows from: its terminals, and the alias that it has where none is written
+-- what a FROM item takes its rows from: its terminals, and the alias that it has where none is
+-- written
 pub record Origin : Type 0 where
   pub terminals : List Terminal
   pub own_alias : Option (List ℕ)
@@ -209,7 +252,8 @@ abbrev item_as : Option (List ℕ) → List Terminal
 item_as None = []
 item_as (Some n) = mark m.As ∷ name n ∷ []
 
-abbrev pub print_item : Item-F Printed Origin (List Terminal) (List Terminal) (List Terminal) (List Terminal) (List Terminal) (List Terminal) → List Terminal
+abbrev pub print_item : Item-F Printed Origin (List Terminal) (List Terminal) (List Terminal)
+    (List Terminal) (List Terminal) (List Terminal) → List Terminal
 print_item i = placed l.Or i.expr ++ item_as i.alias
 
 -- A table's own name is its alias where no other is written.
@@ -230,7 +274,8 @@ abbrev pub print_from : FromItem-F Printed Origin (List Terminal) (List Terminal
 print_from f = f.source.terminals ++ (from_as f.source.own_alias f.alias ++ columns_terminals f.columns)
 
 -- nothing stands for the ascending order
-abbrev pub print_key : Key-F Printed Origin (List Terminal) (List Terminal) (List Terminal) (List Terminal) (List Terminal) (List Terminal) → List Terminal
+abbrev pub print_key : Key-F Printed Origin (List Terminal) (List Terminal) (List Terminal)
+    (List Terminal) (List Terminal) (List Terminal) → List Terminal
 print_key k = placed l.Or k.expr ++ perhaps k.descending (mark m.Desc) []
 
 abbrev pub from_terminals : List (List Terminal) → List Terminal
@@ -259,7 +304,8 @@ print_select s = mark m.Select ∷ (with_commas s.list ++ (from_terminals s.from
 abbrev pub selects_terminals : List (List Terminal) → List Terminal
 selects_terminals = joined (mark m.Union ∷ mark m.All ∷ [])
 
-abbrev pub print_recursive : Recursive-F Printed Origin (List Terminal) (List Terminal) (List Terminal) (List Terminal) (List Terminal) (List Terminal)
+abbrev pub print_recursive : Recursive-F Printed Origin (List Terminal) (List Terminal)
+    (List Terminal) (List Terminal) (List Terminal) (List Terminal)
     → List Terminal
 print_recursive r =
     mark m.With ∷ mark m.Recursive ∷ name r.name ∷ mark m.Open
@@ -269,7 +315,8 @@ abbrev with_terminals : Option (List Terminal) → List Terminal
 with_terminals None = []
 with_terminals (Some terminals) = terminals
 
-abbrev pub print_step : Query-F Printed Origin (List Terminal) (List Terminal) (List Terminal) (List Terminal) (List Terminal) (List Terminal) → List Terminal
+abbrev pub print_step : Query-F Printed Origin (List Terminal) (List Terminal) (List Terminal)
+    (List Terminal) (List Terminal) (List Terminal) → List Terminal
 print_step q = with_terminals q.recursive ++ selects_terminals q.selects
 
 abbrev pub printing : Algebra

@@ -15,7 +15,8 @@ reserved = texts_of reserved_words
 unfoldable pub is_reserved : List ℕ → Bool
 is_reserved word = list_any (str_eq_ignore_ascii_case word) reserved
 
--- A word that a printed `(` follows without a space: a name, or one of the reserved words that read as a function's name.
+-- A word that a printed `(` follows without a space: a name, or one of the reserved words that read
+-- as a function's name.
 unfoldable pub calls : List ℕ → Bool
 calls word = not (is_reserved word) || list_any (str_eq_ignore_ascii_case word) (codes "cast" ∷ codes "coalesce"
     ∷ codes "greatest" ∷ codes "least" ∷ codes "exists" ∷ [])

@@ -1,5 +1,22 @@
 -- Tokens written one after the other, and the spacing of printed text.
-use Rattle.std.specs.Prelude.{◌≡◌, ℕ, ◌+◌, Bool, true, false, not, ◌&&◌, ◌||◌, if◌then◌else◌, ◌==◌, List, [], ◌∷◌, ◌++◌, length}
+use Rattle.std.specs.Prelude.{
+  ◌≡◌,
+  ℕ,
+  ◌+◌,
+  Bool,
+  true,
+  false,
+  not,
+  ◌&&◌,
+  ◌||◌,
+  if◌then◌else◌,
+  ◌==◌,
+  List,
+  [],
+  ◌∷◌,
+  ◌++◌,
+  length,
+}
 use Rattle.away_grammar.specs.declared.tokens.TokenKind.{TokenKind}
 use Rattle.away_grammar.specs.declared.tokens.TokenKind.TheVariants.{Symbol}
 use Rattle.away_grammar.specs.Spellings.{byte, Spells, may_precede}
@@ -44,7 +61,9 @@ is_one b t = is_one_of b t.kind t.text
 
 -- No space behind `(` and `.`, before `)`, `,` and `.`, and between a word that calls and `(`.
 abbrev pub is_glued : (List ℕ → Bool) → Spelled → Spelled → Bool
-is_glued calls a b = is_one 40 a || (is_one 46 a || (is_one 41 b || (is_one 44 b || (is_one 46 b || (is_word_kind a.kind && (calls a.text && is_one 40 b))))))
+is_glued calls a b = is_one 40 a ||
+    (is_one 46 a || (is_one 41 b ||
+    (is_one 44 b || (is_one 46 b || (is_word_kind a.kind && (calls a.text && is_one 40 b))))))
 
 abbrev pub laid_behind : (List ℕ → Bool) → Spelled → List Spelled → List Written
 laid_behind calls a [] = []

@@ -1,9 +1,42 @@
 -- How a token of each kind is spelled, by its bytes.
-use Rattle.std.specs.Prelude.{◌≡◌, ◌≤◌, ◌<◌, ◌⊎◌, ℕ, ◌+◌, ◌*◌, ◌-◌, Bool, true, not, ◌&&◌, ◌||◌, ◌==◌, if◌then◌else◌, List, [], ◌∷◌, ◌++◌, take, drop, length, slice_index, bytes_eq, codes}
+use Rattle.std.specs.Prelude.{
+  ◌≡◌,
+  ◌≤◌,
+  ◌<◌,
+  ◌⊎◌,
+  ℕ,
+  ◌+◌,
+  ◌*◌,
+  ◌-◌,
+  Bool,
+  true,
+  not,
+  ◌&&◌,
+  ◌||◌,
+  ◌==◌,
+  if◌then◌else◌,
+  List,
+  [],
+  ◌∷◌,
+  ◌++◌,
+  take,
+  drop,
+  length,
+  slice_index,
+  bytes_eq,
+  codes,
+}
 use Rattle.std.specs.Char.{is_ascii_digit, is_ascii_alphabetic, is_ascii_alphanumeric}
 use Rattle.std.specs.List.{list_all, list_any}
 use Rattle.away_grammar.specs.declared.tokens.TokenKind.{TokenKind}
-use Rattle.away_grammar.specs.declared.tokens.TokenKind.TheVariants.{Word, Integer, Str, Parameter, Dollar, Symbol}
+use Rattle.away_grammar.specs.declared.tokens.TokenKind.TheVariants.{
+  Word,
+  Integer,
+  Str,
+  Parameter,
+  Dollar,
+  Symbol,
+}
 use Rattle.away_grammar.specs.Marks.{spelled_symbols, texts_of}
 use Rattle.away_values.specs.Words.{IsWord, longest_name}
 
@@ -117,8 +150,8 @@ Spells Parameter z = IsParameter z
 Spells Dollar z = IsDollarQuote z
 Spells Symbol z = is_symbol_text z ≡ true
 
--- A token may stand directly before this byte, or before the end of the text (0): the byte doesn't go on with a name or
--- a number, double a quote, or make a longer symbol or a comment's opening.
+-- A token may stand directly before this byte, or before the end of the text (0): the byte doesn't
+-- go on with a name or a number, double a quote, or make a longer symbol or a comment's opening.
 abbrev pub may_precede : TokenKind → List ℕ → ℕ → Bool
 may_precede Word z b = not (goes_on b)
 may_precede Integer z b = not (goes_on b)

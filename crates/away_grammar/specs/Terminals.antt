@@ -1,8 +1,39 @@
--- The terminal that a token is: a symbol or a reserved word, a name in lower case, or the value that is spelled.
-use Rattle.std.specs.Prelude.{◌≡◌, ℕ, ◌-◌, Bool, true, false, ◌&&◌, ◌==◌, if◌then◌else◌, List, [], ◌∷◌, Option, Some, None, take, drop, length, map, chars, codes, bytes_eq}
+-- The terminal that a token is: a symbol or a reserved word, a name in lower case, or the value
+-- that is spelled.
+use Rattle.std.specs.Prelude.{
+  ◌≡◌,
+  ℕ,
+  ◌-◌,
+  Bool,
+  true,
+  false,
+  ◌&&◌,
+  ◌==◌,
+  if◌then◌else◌,
+  List,
+  [],
+  ◌∷◌,
+  Option,
+  Some,
+  None,
+  take,
+  drop,
+  length,
+  map,
+  chars,
+  codes,
+  bytes_eq,
+}
 use Rattle.std.specs.Str.{str_eq_ignore_ascii_case}
 use Rattle.away_grammar.specs.declared.tokens.TokenKind.{TokenKind}
-use Rattle.away_grammar.specs.declared.tokens.TokenKind.TheVariants.{Word, Integer, Str, Parameter, Dollar, Symbol}
+use Rattle.away_grammar.specs.declared.tokens.TokenKind.TheVariants.{
+  Word,
+  Integer,
+  Str,
+  Parameter,
+  Dollar,
+  Symbol,
+}
 use Rattle.away_grammar.specs.declared.grammar.Mark.{Mark}
 use Rattle.away_grammar.specs.Marks.{Entry, reserved_words, spelled_symbols}
 use Rattle.away_grammar.specs.Spellings.{number}

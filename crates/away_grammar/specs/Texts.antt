@@ -1,4 +1,5 @@
--- What it is for a text to read as a query or as a schema, and for a part of a token list to read as an expression.
+-- What it is for a text to read as a query or as a schema, and for a part of a token list to read
+-- as an expression.
 use Rattle.std.specs.Prelude.{◌≤◌, ℕ, List, [], drop, length, Contains, IsUtf8, None}
 use Rattle.away_grammar.specs.declared.grammar.Level.TheVariants as l
 use Rattle.away_trees.specs.declared.queries.Expr.{Expr}
@@ -21,7 +22,8 @@ ReadsQuery z q = (ts : List Lexeme) × Lexes 0 z ts None × Reads file (token_te
 abbrev pub ReadsSchema : List ℕ → Schema → Type 0
 ReadsSchema z s = (ts : List Lexeme) × Lexes 0 z ts None × Reads tables (token_terminals ts) s.tables []
 
--- The grammar reads the tokens of the list from one place up to another as the expression, and the token there can't continue it.
+-- The grammar reads the tokens of the list from one place up to another as the expression, and the
+-- token there can't continue it.
 pub record IsExpression (list : List Lexeme) (begin : ℕ) (x : Expr) (end : ℕ) : Type 0 where
   pub forward : begin ≤ end
   pub within : end ≤ length list

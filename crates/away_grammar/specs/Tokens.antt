@@ -1,6 +1,29 @@
--- The tokens of a text: the text is cut into pieces, in order, with nothing left over. A piece is a token, or white space or a
--- comment, which gives no token.
-use Rattle.std.specs.Prelude.{◌≡◌, ◌≤◌, ◌<◌, ℕ, ◌+◌, Bool, true, false, not, ◌&&◌, ◌||◌, ◌==◌, List, [], ◌∷◌, ◌++◌, take, drop, length, Option, Some, None}
+-- The tokens of a text: the text is cut into pieces, in order, with nothing left over. A piece is a
+-- token, or white space or a comment, which gives no token.
+use Rattle.std.specs.Prelude.{
+  ◌≡◌,
+  ◌≤◌,
+  ◌<◌,
+  ℕ,
+  ◌+◌,
+  Bool,
+  true,
+  false,
+  not,
+  ◌&&◌,
+  ◌||◌,
+  ◌==◌,
+  List,
+  [],
+  ◌∷◌,
+  ◌++◌,
+  take,
+  drop,
+  length,
+  Option,
+  Some,
+  None,
+}
 use Rattle.std.specs.List.{list_all}
 use Rattle.away_grammar.specs.declared.tokens.TokenKind.{TokenKind}
 use Rattle.away_grammar.specs.declared.tokens.TokenKind.TheVariants.{Word}
@@ -24,7 +47,8 @@ is_comment_opening b c = b == 47 && c == 42
 abbrev pub is_comment_closing : ℕ → ℕ → Bool
 is_comment_closing b c = b == 42 && c == 47
 
--- What stands behind `/*`, with the `*/` that closes it: other bytes, and whole comments, each from its `/*` to its own `*/`.
+-- What stands behind `/*`, with the `*/` that closes it: other bytes, and whole comments, each from
+-- its `/*` to its own `*/`.
 pub data ClosesComment : List ℕ → Type 0 where
   closes : ClosesComment (42 ∷ 47 ∷ [])
   other : {b c : ℕ} {z : List ℕ} → is_comment_closing b c ≡ false → is_comment_opening b c ≡ false → ClosesComment (c ∷ z) → ClosesComment (b ∷ c ∷ z)
@@ -38,13 +62,14 @@ pub data Skips : List ℕ → List ℕ → Type 0 where
 
 -- ---- pieces that are tokens
 
--- A token before what is left of the text. It is the longest that fits: what follows doesn't go on with it.
+-- A token before what is left of the text. It is the longest that fits: what follows doesn't go on
+-- with it.
 pub record Stands (kind : TokenKind) (z rest : List ℕ) : Type 0 where
   pub spelled : Spells kind z
   pub apart : may_precede kind z (byte rest 0) ≡ true
 
--- No piece stands at the front of the text, so a bad token begins there: an unclosed string, comment or dollar quote, what is
--- over its limit, or a byte that begins no token.
+-- No piece stands at the front of the text, so a bad token begins there: an unclosed string,
+-- comment or dollar quote, what is over its limit, or a byte that begins no token.
 abbrev pub NoPiece : List ℕ → Type 0
 NoPiece z = (piece rest : List ℕ) → z ≡ piece ++ rest → (Skips piece rest → ⊥) × ((kind : TokenKind) → Stands kind piece rest → ⊥)
 
@@ -60,7 +85,8 @@ abbrev pub is_word_kind : TokenKind → Bool
 is_word_kind Word = true
 is_word_kind _ = false
 
--- A text with the offset of its first byte, its tokens, and the offset of the first bad one if there is one.
+-- A text with the offset of its first byte, its tokens, and the offset of the first bad one if
+-- there is one.
 pub data Lexes : ℕ → List ℕ → List Lexeme → Option ℕ → Type 0 where
   ends : {at : ℕ} → Lexes at [] [] None
   skips : {at : ℕ} {z piece rest : List ℕ} {ts : List Lexeme} {bad : Option ℕ}
@@ -115,7 +141,8 @@ pub record IsCut (at : ℕ) (z : List ℕ) (ts : List Lexeme) (bad : Option ℕ)
   pub tokens : ts ≡ tokens_of at pieces
   pub left : IsLeft rest bad (at + length (text_of_pieces pieces))
 
--- Each token is a slice of the text at its start, has a byte, and begins at or behind the end of the one before it.
+-- Each token is a slice of the text at its start, has a byte, and begins at or behind the end of
+-- the one before it.
 abbrev pub StandInOrder : ℕ → List ℕ → List Lexeme → Type 0
 StandInOrder at z [] = Unit {0}
 StandInOrder at z (t ∷ ts) = (gap : ℕ) × ((n : ℕ) × (t.start ≡ at + gap) × (t.text ≡ take n (drop gap z))

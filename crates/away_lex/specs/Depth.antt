@@ -7,7 +7,8 @@ use Rattle.away_grammar.specs.Nesting.{is_end, is_closed, is_opening, is_closing
 abbrev pub counted : Lexeme → ℕ → ℕ
 counted t n = if is_opening t then n + 1 else (if is_closing t then n - 1 else n)
 
--- In front of a list whose greatest count is n, what takes one leaves n - 1, and no less than the count 0 of the empty front.
+-- In front of a list whose greatest count is n, what takes one leaves n - 1, and no less than the
+-- count 0 of the empty front.
 abbrev pub greatest : List Lexeme → ℕ
 greatest [] = 0
 greatest (t ∷ []) = counted t 0

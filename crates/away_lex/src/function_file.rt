@@ -106,7 +106,8 @@ pub fn function_tokens<'a>(
     alloc: Global,
     text: &'a str,
 ) -> Result<FunctionTokens<'a>, TokensRefusal>
-    ensures ok { IfOk result (λ f. LexesFile text.now (map seen f.outer.items) (map seen f.body.items) None) }
+    ensures ok { IfOk result (λ f. LexesFile text.now (map seen f.outer.items)
+        (map seen f.body.items) None) }
     ensures err { IfErr result (FileRefusedAs text.now) }
 {
     let outer = match tokens(alloc, text) {

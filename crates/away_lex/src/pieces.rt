@@ -103,10 +103,12 @@ pub fn number(digits: &[u8], limit: u64) -> Option<u64>
 /// The number of at most a limit that stands at the front with no letter behind it, and how many digits it has.
 fn numeral(z: &[u8], limit: u64) -> Option<(u64, usize)>
     requires { limit ≤ 2 ^ 63 }
-    ensures some { IfSome result (λ p. (spec.is_number limit z.now ≡ true) × (p.0 ≡ spec.number (take p.1 z.now)) × (p.1 ≡ spec.run Class.Digit z.now)) }
+    ensures some { IfSome result (λ p. (spec.is_number limit z.now ≡ true)
+        × (p.0 ≡ spec.number (take p.1 z.now)) × (p.1 ≡ spec.run Class.Digit z.now)) }
     ensures none { IfNone result (spec.is_number limit z.now ≡ false) }
     ensures within { IfSome result (λ p. p.1 ≤ length z.now) }
-    ensures last { IfSome result (λ p. 0 < p.1 → spec.is_in Class.Digit (slice_index z.now (p.1 - 1)) ≡ true) }
+    ensures last { IfSome result
+        (λ p. 0 < p.1 → spec.is_in Class.Digit (slice_index z.now (p.1 - 1)) ≡ true) }
 {
     let len = run(Class::Digit, z);
     if is_start(byte(z, len)) {
@@ -132,7 +134,8 @@ fn integer(z: &[u8]) -> Option<Piece>
 #[tactic(auto, using(crate::proofs::Steps::closing_steps))]
 fn closing(z: &[u8]) -> Option<usize>
     ensures value { result ≡ spec.closing z.now }
-    ensures within { IfSome result (λ n. (1 ≤ n) × (n ≤ length z.now) × (spec.byte z.now (n - 1) ≡ 39)) }
+    ensures within { IfSome result
+        (λ n. (1 ≤ n) × (n ≤ length z.now) × (spec.byte z.now (n - 1) ≡ 39)) }
 {
     let mut at = 0;
     while at < z.len() {
@@ -197,7 +200,8 @@ fn place_of(mark: &[u8], z: &[u8]) -> Option<usize>
     requires { 0 < length mark.now }
     ensures value { result ≡ spec.place_of mark.now z.now }
     ensures within { IfSome result (λ n. n + length mark.now ≤ length z.now) }
-    ensures last { IfSome result (λ n. spec.byte z.now (n + length mark.now - 1) ≡ spec.byte mark.now (length mark.now - 1)) }
+    ensures last { IfSome result (λ n. spec.byte z.now (n + length mark.now - 1)
+        ≡ spec.byte mark.now (length mark.now - 1)) }
 {
     let mut at = 0;
     while at < z.len() {
@@ -264,7 +268,8 @@ fn stand_at(z: &[u8], at: usize, b: u8, c: u8) -> bool
 #[tactic(auto, using(crate::proofs::Steps::comment_steps))]
 fn comment_len(z: &[u8]) -> Option<usize>
     ensures value { result ≡ spec.comment_len 0 z.now }
-    ensures within { IfSome result (λ n. (1 ≤ n) × (n ≤ length z.now) × (spec.byte z.now (n - 1) ≡ 47)) }
+    ensures within { IfSome result
+        (λ n. (1 ≤ n) × (n ≤ length z.now) × (spec.byte z.now (n - 1) ≡ 47)) }
 {
     let mut depth: usize = 0;
     let mut at = 0;
@@ -303,7 +308,8 @@ fn is_single(b: u8) -> bool
 
 fn symbol(b: u8, c: u8) -> Option<Piece>
     ensures value { result ≡ spec.symbol b c }
-    ensures one { IfSome result (λ p. spec.len_of p ≢ 2 → (spec.len_of p ≡ 1) × (b ≢ 0) × (b < 128)) }
+    ensures one { IfSome result (λ p. spec.len_of p ≢ 2 → (spec.len_of p ≡ 1) × (b ≢ 0)
+        × (b < 128)) }
     ensures two { IfSome result (λ p. spec.len_of p ≡ 2 → (c ≢ 0) × (c < 128)) }
 {
     if is_pair(b, c) {

@@ -4,7 +4,12 @@ use Rattle.away_trees.specs.declared.schemas.Schema.{Schema}
 use Rattle.away_trees.specs.declared.queries.Select.{Select}
 use Rattle.away_trees.specs.declared.queries.Recursive.{Recursive}
 use Rattle.away_trees.specs.declared.queries.Query.{Query}
-use Rattle.away_trees.specs.declared.queries.Expr.TheViews.{roll-Recursive, roll-Query, out-Query, out-Recursive}
+use Rattle.away_trees.specs.declared.queries.Expr.TheViews.{
+  roll-Recursive,
+  roll-Query,
+  out-Query,
+  out-Recursive,
+}
 use Rattle.away_names.specs.declared.rule.Rule.TheVariants as rule
 use Rattle.away_names.specs.declared.scope.Working.{Working}
 use Rattle.away_names.specs.declared.note.File.{File}
@@ -17,7 +22,14 @@ use Rattle.away_names.specs.Tables.{table_of, outermost}
 
 -- the recursive table has the place behind the last table of the schema
 abbrev pub working : Schema → Recursive → Working
-working s r = record { name = (out-Recursive r).name; table = record { written = decimal (length s.tables) ∷ (out-Recursive r).columns; recursive = true } }
+working s r = record {
+  name = (out-Recursive r).name;
+  table =
+      record {
+        written = decimal (length s.tables) ∷ (out-Recursive r).columns;
+        recursive = true;
+      };
+}
 
 -- it is in sight everywhere in the query, in its own terms too
 abbrev pub with_working : Schema → Recursive → Scope

@@ -1,5 +1,24 @@
--- What a name at a place stands for: a variable, a column of a FROM item of an enclosing select, a table.
-use Rattle.std.specs.Prelude.{ℕ, ◌+◌, Bool, false, ◌||◌, if◌then◌else◌, List, [], ◌∷◌, fold, Option, Some, None, option_map, bytes_eq, nat_eq, codes}
+-- What a name at a place stands for: a variable, a column of a FROM item of an enclosing select, a
+-- table.
+use Rattle.std.specs.Prelude.{
+  ℕ,
+  ◌+◌,
+  Bool,
+  false,
+  ◌||◌,
+  if◌then◌else◌,
+  List,
+  [],
+  ◌∷◌,
+  fold,
+  Option,
+  Some,
+  None,
+  option_map,
+  bytes_eq,
+  nat_eq,
+  codes,
+}
 use Rattle.std.specs.List.{list_any, starts_with, position_from}
 use Rattle.away_names.specs.declared.scope.Seen.{Seen}
 use Rattle.away_names.specs.declared.scope.Variable.{Variable}
@@ -14,7 +33,8 @@ Name = List ℕ
 abbrev pub Level : Type 0
 Level = List Seen
 
--- What the names of tables stand for; the columns of FROM, where the innermost select comes first; and the variables, the innermost last.
+-- What the names of tables stand for; the columns of FROM, where the innermost select comes first;
+-- and the variables, the innermost last.
 pub record Scope : Type 0 where
   pub table : Name → Option Listed
   pub levels : List Level

@@ -1,6 +1,25 @@
--- A tree with what its names stand for, and the rules that its names break. A rule above the least one that is broken may be noted wrongly: it is
--- judged only where the lower ones hold.
-use Rattle.std.specs.Prelude.{Bool, true, false, not, ◌&&◌, ◌||◌, if◌then◌else◌, List, [], ◌∷◌, ◌++◌, map, fold, drop, Option, Some, None, is_some}
+-- A tree with what its names stand for, and the rules that its names break. A rule above the least
+-- one that is broken may be noted wrongly: it is judged only where the lower ones hold.
+use Rattle.std.specs.Prelude.{
+  Bool,
+  true,
+  false,
+  not,
+  ◌&&◌,
+  ◌||◌,
+  if◌then◌else◌,
+  List,
+  [],
+  ◌∷◌,
+  ◌++◌,
+  map,
+  fold,
+  drop,
+  Option,
+  Some,
+  None,
+  is_some,
+}
 use Rattle.std.specs.List.{list_any}
 use Rattle.away_values.specs.declared.operators.ChainOp.{ChainOp}
 use Rattle.away_trees.specs.declared.queries.Expr.{Expr}
@@ -11,9 +30,24 @@ use Rattle.away_trees.specs.declared.queries.Item.{Item}
 use Rattle.away_trees.specs.declared.queries.Key.{Key}
 use Rattle.away_trees.specs.declared.queries.Select.{Select}
 use Rattle.away_trees.specs.declared.queries.Query.{Query}
-use Rattle.away_trees.specs.declared.queries.Expr.TheOpen.{Expr-F, Source-F, FromItem-F, Item-F, Key-F, Select-F, Recursive-F, Query-F}
+use Rattle.away_trees.specs.declared.queries.Expr.TheOpen.{
+  Expr-F,
+  Source-F,
+  FromItem-F,
+  Item-F,
+  Key-F,
+  Select-F,
+  Recursive-F,
+  Query-F,
+}
 use Rattle.away_trees.specs.declared.queries.Expr.TheOpen as ex
-use Rattle.away_trees.specs.declared.queries.Expr.TheViews.{roll-Item, roll-FromItem, roll-Key, roll-Select, roll-Query}
+use Rattle.away_trees.specs.declared.queries.Expr.TheViews.{
+  roll-Item,
+  roll-FromItem,
+  roll-Key,
+  roll-Select,
+  roll-Query,
+}
 use Rattle.away_trees.specs.Algebra.{Algebra}
 use Rattle.away_trees.specs.AlgebraEquations.{algebra}
 use Rattle.away_names.specs.declared.rule.Rule.TheVariants as rule
@@ -29,12 +63,37 @@ use Rattle.away_names.specs.declared.scope.Variable.{Variable}
 use Rattle.away_names.specs.declared.scope.Listed.{Listed}
 use Rattle.away_names.specs.declared.scope.Hit.{Hit}
 use Rattle.away_names.specs.Functions.{function}
-use Rattle.away_names.specs.Notes.{clean, joined, breaks, pure, noted, mapped, also, paired, each, held, all_notes}
-use Rattle.away_names.specs.Lookups.{Name, Level, Scope, inside, or_else, is_named, column_named, column_qualified, variable_named, has_double, is_kept}
+use Rattle.away_names.specs.Notes.{
+  clean,
+  joined,
+  breaks,
+  pure,
+  noted,
+  mapped,
+  also,
+  paired,
+  each,
+  held,
+  all_notes,
+}
+use Rattle.away_names.specs.Lookups.{
+  Name,
+  Level,
+  Scope,
+  inside,
+  or_else,
+  is_named,
+  column_named,
+  column_qualified,
+  variable_named,
+  has_double,
+  is_kept,
+}
 
 -- ---- what stands for a tree
 
--- `alone` is the name where that is the whole expression, and `last` the name of a column written with or without its item
+-- `alone` is the name where that is the whole expression, and `last` the name of a column written
+-- with or without its item
 pub record Term : Type 0 where
   pub judge : Scope → Noted Expr
   pub alone : Option Name
@@ -52,7 +111,8 @@ Listing = Scope → Noted (Shown Select)
 abbrev pub Whole : Type 0
 Whole = Scope → Noted (Shown Query)
 
--- by the written list of columns and the items before it: the source, the list of columns, and the columns as names see them
+-- by the written list of columns and the items before it: the source, the list of columns, and the
+-- columns as names see them
 abbrev pub Rows : Type 0
 Rows = List Name → Scope → Level → Noted Origin
 
@@ -101,7 +161,8 @@ qualified_by a n None = noted (breaks rule.Names true) (expr.Dotted a n)
 unfoldable pub qualified : Name → Name → Scope → Noted Expr
 qualified a n s = also (joined (written s a) (written s n)) (qualified_by a n (column_qualified a n s.levels))
 
--- slots and columns stand for names, and no reader writes one; where one is written, it's no name that is known
+-- slots and columns stand for names, and no reader writes one; where one is written, it's no name
+-- that is known
 unfoldable pub unwritten : Expr → Noted Expr
 unwritten e = noted (breaks rule.Names true) e
 
@@ -135,7 +196,8 @@ judge (ex.Is e test negative) s = mapped (λ e. expr.Is e test negative) (e.judg
 judge (ex.Chain e links) s = paired (λ e links. expr.Chain e links) (e.judge s) (each (linked s) links)
 judge (ex.Compare op a b) s = paired (λ a b. expr.Compare op a b) (a.judge s) (b.judge s)
 judge (ex.Between negative e low high) s =
-    paired (λ e (range : Expr × Expr). expr.Between negative e range.0 range.1) (e.judge s) (paired (λ low high. (low, high)) (low.judge s) (high.judge s))
+    paired (λ e (range : Expr × Expr). expr.Between negative e range.0 range.1) (e.judge s)
+    (paired (λ low high. (low, high)) (low.judge s) (high.judge s))
 judge (ex.OneOf negative e choices) s = paired (λ e choices. expr.OneOf negative e choices) (e.judge s) (each (λ t. t.judge s) choices)
 judge (ex.Cast e ty) s = mapped (λ e. expr.Cast e ty) (e.judge s)
 judge (ex.Cases arms other) s = paired (λ arms other. expr.Cases arms other) (each (armed s) arms) (held (λ t. t.judge s) other)
@@ -240,13 +302,25 @@ is_alias aliases (Some n) = list_any (is_named n) aliases
 
 abbrev pub sort : Key-F Term Rows Piece Entry Sort Whole Terms Listing → Sort
 sort k aliases s =
-    also (breaks rule.Ambiguity (is_alias aliases k.expr.alone)) (mapped (λ e. roll-Key (record { expr = e; descending = k.descending })) (k.expr.judge s))
+    also (breaks rule.Ambiguity (is_alias aliases k.expr.alone))
+    (mapped (λ e. roll-Key (record { expr = e; descending = k.descending }))
+    (k.expr.judge s))
 
 -- the list, the condition, the keys and LIMIT, which see the columns of FROM
 abbrev pub select_of : List FromItem → Noted (Shown (List Item)) → Noted (Option Expr) → Noted (List Key) → Noted (Option Expr) → Noted (Shown Select)
 select_of from list filter order limit =
     noted (joined (joined list.note filter.note) (joined order.note limit.note))
-    (record { it = roll-Select (record { list = list.it.it; from = from; filter = filter.it; order = order.it; limit = limit.it }); names = list.it.names })
+    (record {
+      it = roll-Select
+          (record {
+            list = list.it.it;
+            from = from;
+            filter = filter.it;
+            order = order.it;
+            limit = limit.it;
+          });
+      names = list.it.names;
+    })
 
 abbrev pub over : Select-F Term Rows Piece Entry Sort Whole Terms Listing → Scope → List FromItem → Noted (Shown Select)
 over s inner from =
@@ -278,7 +352,8 @@ united selects s = fold (λ a l. with_select a (l s)) no_select selects
 abbrev pub query_with : Shown (List Select) → Shown Query
 query_with x = record { it = roll-Query (record { recursive = None; selects = x.it }); names = x.names }
 
--- WITH stands before a whole file alone; elsewhere, where no reader puts it, it has no type and is left out
+-- WITH stands before a whole file alone; elsewhere, where no reader puts it, it has no type and is
+-- left out
 abbrev pub whole : Query-F Term Rows Piece Entry Sort Whole Terms Listing → Whole
 whole q s = also (breaks rule.Types (is_some q.recursive)) (mapped query_with (united q.selects s))
 

@@ -16,7 +16,15 @@ use Rattle.away_names.specs.declared.note.Shown.{Shown}
 use Rattle.away_names.specs.declared.note.Framed.{Framed}
 use Rattle.away_names.specs.Notes.{mapped, paired, each, held}
 use Rattle.away_names.specs.Lookups.{Name, Scope}
-use Rattle.away_names.specs.Naming.{with_item, no_item, with_select, no_select, with_part, no_part, select_of}
+use Rattle.away_names.specs.Naming.{
+  with_item,
+  no_item,
+  with_select,
+  no_select,
+  with_part,
+  no_part,
+  select_of,
+}
 use Rattle.away_names.specs.Trees.{named_expr, named_item, named_key, named_part, named_select}
 
 abbrev pub named_in : Scope → Expr → Noted Expr

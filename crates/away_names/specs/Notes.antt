@@ -1,4 +1,5 @@
--- A result beside what was found on the way to it: the least rule that is broken, and how often the recursive table is named.
+-- A result beside what was found on the way to it: the least rule that is broken, and how often the
+-- recursive table is named.
 use Rattle.std.specs.Prelude.{Bool, if◌then◌else◌, List, [], ◌∷◌, ◌++◌, fold, Option, Some, None}
 use Rattle.away_names.specs.declared.note.Times.{Times}
 use Rattle.away_names.specs.declared.note.Times.TheVariants.{Never, Once, Often}

@@ -1,7 +1,17 @@
 -- The rules of names, scopes and types by the numbers that are printed, and the lesser of two.
 use Rattle.std.specs.Prelude.{◌≡◌, ℕ, if◌then◌else◌, nat_le, Option, Some, None}
 use Rattle.away_names.specs.declared.rule.Rule.{Rule}
-use Rattle.away_names.specs.declared.rule.Rule.TheVariants.{Duplicates, Names, Ambiguity, Tables, Labels, Constants, Defaults, Types, Reserved}
+use Rattle.away_names.specs.declared.rule.Rule.TheVariants.{
+  Duplicates,
+  Names,
+  Ambiguity,
+  Tables,
+  Labels,
+  Constants,
+  Defaults,
+  Types,
+  Reserved,
+}
 use Rattle.away_names.specs.declared.rule.Rule.TheVariants.{Aggregates, Raises, Recursion, Answer}
 
 unfoldable pub number : Rule → ℕ

@@ -1,12 +1,26 @@
 -- What the names of tables stand for.
-use Rattle.std.specs.Prelude.{ℕ, ◌+◌, false, if◌then◌else◌, List, [], ◌∷◌, Option, Some, None, bytes_eq, decimal}
+use Rattle.std.specs.Prelude.{
+  ℕ,
+  ◌+◌,
+  false,
+  if◌then◌else◌,
+  List,
+  [],
+  ◌∷◌,
+  Option,
+  Some,
+  None,
+  bytes_eq,
+  decimal,
+}
 use Rattle.away_trees.specs.declared.schemas.Schema.{Schema}
 use Rattle.away_trees.specs.declared.schemas.TableSchema.{TableSchema}
 use Rattle.away_names.specs.declared.scope.Listed.{Listed}
 use Rattle.away_names.specs.Lookups.{Name, Scope}
 use Rattle.away_names.specs.Schemas.{column_names}
 
--- a table that may be named, by its place in the schema: the digits of the place, then the names of its columns
+-- a table that may be named, by its place in the schema: the digits of the place, then the names of
+-- its columns
 abbrev pub listed : ℕ → TableSchema → Listed
 listed place t = record { written = decimal place ∷ column_names t; recursive = false }
 

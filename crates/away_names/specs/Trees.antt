@@ -8,7 +8,15 @@ use Rattle.away_trees.specs.declared.queries.Item.{Item}
 use Rattle.away_trees.specs.declared.queries.Key.{Key}
 use Rattle.away_trees.specs.declared.queries.Select.{Select}
 use Rattle.away_trees.specs.declared.queries.Query.{Query}
-use Rattle.away_trees.specs.Algebra.{expr_of, source_of, from_of, item_of, key_of, query_of, select_of}
+use Rattle.away_trees.specs.Algebra.{
+  expr_of,
+  source_of,
+  from_of,
+  item_of,
+  key_of,
+  query_of,
+  select_of,
+}
 use Rattle.away_names.specs.declared.note.Noted.{Noted}
 use Rattle.away_names.specs.declared.note.Shown.{Shown}
 use Rattle.away_names.specs.declared.note.Column.{Column}

@@ -95,7 +95,8 @@ pub fn column_of(
     written: &Expr,
     x: Noted<Expr>,
 ) -> Result<Noted<Column>, NoMemory>
-    ensures { IfOk result (λ r. r ≡ notes.also (spec.maybe_written (scope s.now) alias.now) (notes.mapped (spec.item_of alias.now (last_of written.now)) x)) }
+    ensures { IfOk result (λ r. r ≡ notes.also (spec.maybe_written (scope s.now) alias.now)
+        (notes.mapped (spec.item_of alias.now (last_of written.now)) x)) }
 {
     let name = named_as(alloc, alias, &x.it, written)?;
     let alias_copy = copy_alias(alloc, alias)?;

@@ -170,7 +170,8 @@ fn named_box(alloc: Global, e: &Expr, s: &Scope<'_>) -> Result<Noted<Boxed<Expr>
 
 #[cycle(naming)]
 fn named_subquery(alloc: Global, q: &Query, s: &Scope<'_>) -> Result<Noted<Boxed<Query>>, NoMemory>
-    ensures { IfOk result (λ x. x ≡ notes.mapped (λ y. y.it) (trees.named_query q.now (scope s.now))) }
+    ensures { IfOk result (λ x. x
+        ≡ notes.mapped (λ y. y.it) (trees.named_query q.now (scope s.now))) }
 {
     let Noted { it, note } = named_query(alloc, q, s)?;
     let Shown { it, names: _ } = it;

@@ -97,7 +97,8 @@ fn named_over(
     from: Items<FromItem>,
     s: &Scope<'_>,
 ) -> Result<Noted<Shown<Select>>, NoMemory>
-    ensures { IfOk result (λ x. x ≡ lists.named_over (out-Select select.now) (inside seen.now (scope s.now)) from) }
+    ensures { IfOk result (λ x. x ≡ lists.named_over (out-Select select.now)
+        (inside seen.now (scope s.now)) from) }
 {
     let levels = nested(alloc, seen, s.levels)?;
     let inner = Scope {
@@ -165,7 +166,8 @@ fn named_keys(
     list: &[Item],
     s: &Scope<'_>,
 ) -> Result<Noted<Items<Key>>, NoMemory>
-    ensures { IfOk result (λ x. x ≡ notes.each (lists.named_key_in (map (λ i. (out-Item i).alias) list.now) (scope s.now)) keys.now) }
+    ensures { IfOk result (λ x. x ≡ notes.each
+        (lists.named_key_in (map (λ i. (out-Item i).alias) list.now) (scope s.now)) keys.now) }
 {
     let mut done = Items::new(alloc);
     let mut note = clean();
@@ -180,7 +182,8 @@ fn named_keys(
 #[cycle(naming)]
 #[tactic(auto, using(crate::proofs::NamingRules::key_rule))]
 fn named_key(alloc: Global, key: &Key, list: &[Item], s: &Scope<'_>) -> Result<Noted<Key>, NoMemory>
-    ensures { IfOk result (λ x. x ≡ trees.named_key key.now (map (λ i. (out-Item i).alias) list.now) (scope s.now)) }
+    ensures { IfOk result (λ x. x ≡ trees.named_key key.now (map (λ i. (out-Item i).alias) list.now)
+        (scope s.now)) }
 {
     let found = breaks(Rule::Ambiguity, is_alias(list, &key.expr));
     let x = named_expr(alloc, &key.expr, s)?;
@@ -240,7 +243,8 @@ fn named_source(
     s: &Scope<'_>,
     level: &Items<Seen>,
 ) -> Result<Noted<Origin>, NoMemory>
-    ensures { IfOk result (λ x. x ≡ trees.named_source source.now columns.now (scope s.now) level.now) }
+    ensures { IfOk result (λ x. x ≡ trees.named_source source.now columns.now
+        (scope s.now) level.now) }
 {
     match source {
         Source::Table(n) => table(alloc, n, s),
@@ -260,7 +264,8 @@ fn named_beside(
     s: &Scope<'_>,
     level: &Items<Seen>,
 ) -> Result<Noted<Shown<Query>>, NoMemory>
-    ensures { IfOk result (λ x. x ≡ trees.named_query q.now (inside (spec.before lateral level.now) (scope s.now))) }
+    ensures { IfOk result (λ x. x
+        ≡ trees.named_query q.now (inside (spec.before lateral level.now) (scope s.now))) }
 {
     let empty = Items::new(alloc);
     let levels = nested(alloc, before(lateral, level, &empty), s.levels)?;

@@ -90,7 +90,8 @@ fn of_table(alloc: Global, n: &Name, t: Option<&Listed>) -> Result<Noted<Origin>
 
 /// What a table in FROM stands for.
 pub fn table(alloc: Global, n: &Name, s: &Scope<'_>) -> Result<Noted<Origin>, NoMemory>
-    ensures { IfOk result (λ x. x ≡ notes.also (spec.written (scope s.now) n.now) (spec.of_table n.now ((scope s.now).table n.now))) }
+    ensures { IfOk result (λ x. x ≡ notes.also (spec.written (scope s.now) n.now)
+        (spec.of_table n.now ((scope s.now).table n.now))) }
 {
     let x = of_table(alloc, n, table_named(n, s.tables))?;
     Ok(Noted {
@@ -158,7 +159,8 @@ pub fn nested<'a>(
     level: &'a Items<Seen>,
     outer: &[&'a Items<Seen>],
 ) -> Result<Vec<&'a Items<Seen>>, AllocError>
-    ensures { IfOk result (λ all. map (λ l. l.now) all.items ≡ level.now ∷ map (λ l. l.now) outer.now) }
+    ensures { IfOk result (λ all. map (λ l. l.now) all.items ≡ level.now
+        ∷ map (λ l. l.now) outer.now) }
 {
     let mut all = Vec::new(alloc);
     all.push(level)?;
@@ -207,7 +209,8 @@ pub fn part_of(
     columns: &[Name],
     x: Noted<Origin>,
 ) -> Result<Noted<Part>, NoMemory>
-    ensures { IfOk result (λ r. r ≡ notes.also (spec.part_note (scope s.now) alias.now columns.now) (notes.mapped (spec.shaped alias.now) x)) }
+    ensures { IfOk result (λ r. r ≡ notes.also (spec.part_note (scope s.now) alias.now columns.now)
+        (notes.mapped (spec.shaped alias.now) x)) }
 {
     let found = part_note(s, alias, columns);
     let item_alias = alias.copy(alloc)?;

@@ -31,7 +31,8 @@ fn stands_in(n: &Name, seen: &IndexSet<String>) -> bool
 /// One more name behind those before, among which it doesn't stand.
 fn with_name(alloc: Global, seen: IndexSet<String>, n: &Name) -> Result<IndexSet<String>, NoMemory>
     requires { spec.stands_in n.now (map string_bytes seen.keys) ≡ false }
-    ensures { IfOk result (λ s. map string_bytes s.keys ≡ map string_bytes seen.keys ++ n.now ∷ []) }
+    ensures { IfOk result (λ s. map string_bytes s.keys ≡ map string_bytes seen.keys ++ n.now
+        ∷ []) }
 {
     let name = String::from_str(alloc, n.text())?;
     let mut all = seen;
@@ -43,7 +44,8 @@ fn with_name(alloc: Global, seen: IndexSet<String>, n: &Name) -> Result<IndexSet
 
 #[tactic(auto, using(crate::proofs::Doubles::none_behind))]
 fn columns_doubled(alloc: Global, columns: &[ColumnSchema]) -> Result<bool, NoMemory>
-    ensures { IfOk result (λ b. b ≡ lookups.has_double (map (λ (c : ColumnSchema). c.name) columns.now)) }
+    ensures { IfOk result (λ b. b
+        ≡ lookups.has_double (map (λ (c : ColumnSchema). c.name) columns.now)) }
 {
     let mut seen = IndexSet::new(alloc);
     let mut rest = columns;
@@ -80,7 +82,8 @@ fn table_note(alloc: Global, t: &TableSchema) -> Result<Note, NoMemory>
 
 #[tactic(auto, using(crate::proofs::Doubles::none_behind))]
 fn tables_doubled(alloc: Global, tables: &[TableSchema]) -> Result<bool, NoMemory>
-    ensures { IfOk result (λ b. b ≡ lookups.has_double (map (λ (t : TableSchema). t.name) tables.now)) }
+    ensures { IfOk result (λ b. b
+        ≡ lookups.has_double (map (λ (t : TableSchema). t.name) tables.now)) }
 {
     let mut seen = IndexSet::new(alloc);
     let mut rest = tables;

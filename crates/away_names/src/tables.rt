@@ -64,7 +64,9 @@ fn with_table(
     place: usize,
     t: &TableSchema,
 ) -> Result<IndexMap<String, Listed>, NoMemory>
-    ensures { IfOk result (λ m. (n : List ℕ) → get_by_text m n ≡ (if bytes_eq t.now.name n then Some (spec.listed place t.now) else get_by_text tables n)) }
+    ensures { IfOk result (λ m. (n : List ℕ) → get_by_text m n
+        ≡ (if bytes_eq t.now.name n then Some
+        (spec.listed place t.now) else get_by_text tables n)) }
 {
     let name = String::from_str(alloc, t.name.text())?;
     let table = listed(alloc, place, t)?;

@@ -10,8 +10,9 @@ use Rattle.away_top.specs.Lines.{line}
 use Rattle.away_top.specs.RunAnswers.{AreBytesOf, Held}
 use Rattle.away_top.specs.Refusals.{IsFunction, IsQuery, IsSchema}
 
--- The forms of the certificate that its file reads as stand between the function that its file reads as and the query that its file reads as, over the
--- schema that its file reads as. So the query, with its names resolved, is equivalent to the function.
+-- The forms of the certificate that its file reads as stand between the function that its file
+-- reads as and the query that its file reads as, over the schema that its file reads as. So the
+-- query, with its names resolved, is equivalent to the function.
 pub record IsAccepted (held : Held) (schema func query cert : List ℕ) : Type 0 where
   pub schema_bytes : List ℕ
   pub holds_schema : AreBytesOf held schema schema_bytes

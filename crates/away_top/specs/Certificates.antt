@@ -2,7 +2,18 @@
 use Rattle.std.specs.Prelude.{◌≡◌, ℕ, List, ◌++◌, codes}
 use Rattle.cert_json.specs.Forms.{Cert}
 use Rattle.cert_json.specs.declared.cert.CertField.{CertField}
-use Rattle.cert_json.specs.declared.cert.CertField.TheVariants.{GotoEntry, GotoEnd, GotoNodes, GotoBlocks, SsaNames, SsaBlocks, AnfBlocks, Labels, Columns, Places}
+use Rattle.cert_json.specs.declared.cert.CertField.TheVariants.{
+  GotoEntry,
+  GotoEnd,
+  GotoNodes,
+  GotoBlocks,
+  SsaNames,
+  SsaBlocks,
+  AnfBlocks,
+  Labels,
+  Columns,
+  Places,
+}
 use Rattle.cert_json.specs.declared.cert.CertRefusal.{CertRefusal}
 use Rattle.cert_json.specs.declared.cert.CertRefusal.TheVariants.{NotJson, Field, NoMemory}
 use Rattle.cert_json.specs.Certificates.{Reads, Refuses}

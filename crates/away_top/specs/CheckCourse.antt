@@ -1,4 +1,5 @@
--- `check SCHEMA FUNC QUERY CERT`: whether the forms of a certificate stand between a function and a query.
+-- `check SCHEMA FUNC QUERY CERT`: whether the forms of a certificate stand between a function and a
+-- query.
 use Rattle.std.specs.Prelude.{ℕ, List, ◌++◌, codes}
 use Rattle.std.specs.Fmt.{decimal}
 use Rattle.away_trees.specs.declared.schemas.Schema.{Schema}
@@ -7,7 +8,14 @@ use Rattle.away_types.specs.CheckedFunctions.{IsChecked}
 use Rattle.cert_json.specs.Forms.{Cert}
 use Rattle.equivalence.specs.Accepted.{EquivalentWith}
 use Rattle.equivalence.specs.declared.relation.Relation.{Relation}
-use Rattle.equivalence.specs.declared.relation.Relation.TheVariants.{Lowered, Named, Called, Merged, Columned, Templated}
+use Rattle.equivalence.specs.declared.relation.Relation.TheVariants.{
+  Lowered,
+  Named,
+  Called,
+  Merged,
+  Columned,
+  Templated,
+}
 use Rattle.stage_check.specs.declared.verdict.Verdict.{Verdict}
 use Rattle.stage_check.specs.declared.verdict.Verdict.TheVariants.{Accepted, Fails}
 use Rattle.stage_check.specs.Verdicts.{Judges}
@@ -39,7 +47,8 @@ verdict_line (Fails r) = line (codes "not accepted S" ++ decimal (stage_number r
 abbrev pub TellsVerdict : Verdict → Status → List ℕ → Type 0
 TellsVerdict v = Exactly (verdict_status v) (verdict_line v)
 
--- what acceptance promises: the query is equivalent to the function, where that is checked under the schema
+-- what acceptance promises: the query is equivalent to the function, where that is checked under
+-- the schema
 abbrev pub Promises : Schema → Callable → Asked → Verdict → Type 0
 Promises s f q Accepted = (written : Function) → IsChecked s written f.function f.slots → EquivalentWith s f.function f.slots q.query
 Promises s f q (Fails r) = Unit {0}

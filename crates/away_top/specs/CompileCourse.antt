@@ -1,4 +1,5 @@
--- `compile SCHEMA FUNC` and `certify SCHEMA FUNC`: the query of a function is written, alone or behind a certificate.
+-- `compile SCHEMA FUNC` and `certify SCHEMA FUNC`: the query of a function is written, alone or
+-- behind a certificate.
 use Rattle.std.specs.Prelude.{◌≡◌, ℕ, List, ◌∷◌, ◌++◌, codes}
 use Rattle.away_trees.specs.declared.queries.Query.{Query as QueryTree}
 use Rattle.away_trees.specs.declared.schemas.Schema.{Schema}
@@ -17,13 +18,15 @@ use Rattle.away_top.specs.declared.status.Status.TheVariants.{Done}
 use Rattle.away_top.specs.Course.{Course, and_then, ends, Exactly}
 use Rattle.away_top.specs.Files.{Callable, function_course, schema_course}
 
--- The output is the text alone. Or it is a line that reads as the certificate, and behind it the text.
+-- The output is the text alone. Or it is a line that reads as the certificate, and behind it the
+-- text.
 abbrev pub IsOutput : Wanted → Cert → List ℕ → List ℕ → Type 0
 IsOutput Query forms text output = output ≡ text
 IsOutput Certificate forms text output = (line : List ℕ) × Reads line forms × IsLine line × (output ≡ line ++ (10 ∷ text))
 
--- The text is compiled from the function over the tables of the schema, with these forms between the function and its query. So the query is equivalent
--- to the function, where that is checked under the schema.
+-- The text is compiled from the function over the tables of the schema, with these forms between
+-- the function and its query. So the query is equivalent to the function, where that is checked
+-- under the schema.
 pub record IsCompiledFrom (s : Schema) (f : Callable) (forms : Cert) (text : List ℕ) : Type 0 where
   pub query : QueryTree
   pub compiled : IsCompiled s f.function f.slots query text forms

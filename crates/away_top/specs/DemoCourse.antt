@@ -1,4 +1,5 @@
--- `demo N`: the case of a number is compiled, its function and its query are run, and a summary is told.
+-- `demo N`: the case of a number is compiled, its function and its query are run, and a summary is
+-- told.
 use Rattle.std.specs.Prelude.{◌≡◌, ℕ, List, [], ◌∷◌, ◌++◌, Option, Some, None, codes}
 use Rattle.std.specs.Fmt.{decimal}
 use Rattle.std.specs.Io.KnownBytes.{Appends}
@@ -26,7 +27,8 @@ iterations_line (Some least) = count_line (codes "iterations ") least
 abbrev pub summary_lines : Summary → List ℕ
 summary_lines s =
     concat (count_line (codes "demo ") s.number ∷ count_line (codes "nodes ") s.nodes ∷ count_line (codes "bytes ") s.bytes
-    ∷ (codes "function " ++ (answer_end s.runs.function).1) ∷ (codes "query " ++ (answer_end s.runs.query).1) ∷ iterations_line s.runs.iterations ∷ [])
+    ∷ (codes "function " ++ (answer_end s.runs.function).1)
+    ∷ (codes "query " ++ (answer_end s.runs.query).1) ∷ iterations_line s.runs.iterations ∷ [])
 
 -- the end of a run that tells of the case, whatever the two answers are
 abbrev pub Shows : ℕ → List ℕ → Status → List ℕ → Type 0

@@ -12,7 +12,16 @@ use Rattle.away_types.specs.CheckedQueries.{judged_query, resolved_query}
 use Rattle.away_types.specs.CheckedRows.{rows_judged}
 use Rattle.away_types.specs.FunctionChecks.{resolved_function, slots_of}
 use Rattle.away_top.specs.Course.{Course, gives, judges, reads, RefusedBy}
-use Rattle.away_top.specs.Refusals.{IsFunction, IsQuery, IsRowQuery, IsSchema, RefusesFunction, RefusesQuery, RefusesRowQuery, RefusesSchema}
+use Rattle.away_top.specs.Refusals.{
+  IsFunction,
+  IsQuery,
+  IsRowQuery,
+  IsSchema,
+  RefusesFunction,
+  RefusesQuery,
+  RefusesRowQuery,
+  RefusesSchema,
+}
 
 -- a schema's file is read and judged
 abbrev pub schema_course : List ℕ → Course Schema

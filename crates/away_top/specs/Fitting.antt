@@ -2,7 +2,16 @@
 use Rattle.std.specs.Prelude.{ℕ, List}
 use Rattle.away_trees.specs.declared.schemas.Schema.{Schema}
 use Rattle.away_top.specs.Certificates.{IsCert, RefusesCert}
-use Rattle.away_top.specs.Refusals.{IsFunction, IsQuery, IsRowQuery, IsSchema, RefusesFunction, RefusesQuery, RefusesRowQuery, RefusesSchema}
+use Rattle.away_top.specs.Refusals.{
+  IsFunction,
+  IsQuery,
+  IsRowQuery,
+  IsSchema,
+  RefusesFunction,
+  RefusesQuery,
+  RefusesRowQuery,
+  RefusesSchema,
+}
 
 abbrev pub FitSchemasAreNotRefused : Type 0
 FitSchemasAreNotRefused = (bytes rule : List ℕ) → IsSchema bytes → ¬ (RefusesSchema bytes rule)

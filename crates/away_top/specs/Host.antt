@@ -1,5 +1,22 @@
 -- What files and a sink promise.
-use Rattle.std.specs.Prelude.{◌≡◌, ℕ, ◌+◌, ◌-◌, ◌^◌, ◌<◌, ◌≤◌, min, List, length, take, Some, IfSome, IsOk, Result, ⊤}
+use Rattle.std.specs.Prelude.{
+  ◌≡◌,
+  ℕ,
+  ◌+◌,
+  ◌-◌,
+  ◌^◌,
+  ◌<◌,
+  ◌≤◌,
+  min,
+  List,
+  length,
+  take,
+  Some,
+  IfSome,
+  IsOk,
+  Result,
+  ⊤,
+}
 use Rattle.std.specs.declared.option.Option.{Option}
 use Rattle.std.specs.Io.KnownBytes.{Appends}
 use Rattle.away_top.specs.declared.host.ReadError.{ReadError}

@@ -1,5 +1,19 @@
 -- What a call answers over files and a sink in memory that are to meet no failure.
-use Rattle.std.specs.Prelude.{◌≡◌, ◌⊎◌, ℕ, ◌≤◌, List, [], ◌∷◌, ◌++◌, length, codes, Ok, Some, IsSome}
+use Rattle.std.specs.Prelude.{
+  ◌≡◌,
+  ◌⊎◌,
+  ℕ,
+  ◌≤◌,
+  List,
+  [],
+  ◌∷◌,
+  ◌++◌,
+  length,
+  codes,
+  Ok,
+  Some,
+  IsSome,
+}
 use Rattle.std.specs.List.{AllByRecursion}
 use Rattle.away_trees.specs.declared.schemas.Schema.{Schema}
 use Rattle.away_trees.specs.declared.schemas.TableSchema.{TableSchema}
@@ -35,7 +49,8 @@ pub record IsCompiledQuery (before after : RoomySink) (result status : Status) (
   pub status_is : result ≡ status
   pub bytes_are : after.bytes ≡ before.bytes ++ output
 
--- Memory was wanting, or there is one of these ends that the call tells, where the room holds its output.
+-- Memory was wanting, or there is one of these ends that the call tells, where the room holds its
+-- output.
 abbrev pub EndsIn : RoomySink → RoomySink → Status → (Status → List ℕ → Type 0) → Type 0
 EndsIn before after result Ends =
     (result ≡ NoMemory)
@@ -52,7 +67,8 @@ BeginsWith name (ends E) = ⊥
 BeginsWith name (judges E W next) = ⊥
 BeginsWith name (reads first limit next) = first ≡ name
 
--- Memory was wanting, or the call tells that this file can't be read, where the room holds the line.
+-- Memory was wanting, or the call tells that this file can't be read, where the room holds the
+-- line.
 abbrev pub Unread : RoomySink → RoomySink → Status → List ℕ → Type 0
 Unread before after result name =
     (result ≡ NoMemory) ⊎ (length (read_fault name) ≤ before.room → IsCompiledQuery before after result ReadFault (read_fault name))
@@ -64,7 +80,8 @@ pub record IsFitSchema (bytes : List ℕ) : Type 0 where
   pub short : length bytes ≤ 67108864
   pub is : IsSchema bytes
 
--- a function's file is within its limit, and reads as a function that breaks no rule over the tables of the schema
+-- a function's file is within its limit, and reads as a function that breaks no rule over the
+-- tables of the schema
 pub record IsFitFunction (schema : Schema) (bytes : List ℕ) : Type 0 where
   pub short : length bytes ≤ 1048576
   pub is : IsFunction schema bytes
@@ -85,7 +102,8 @@ pub record IsWritten (before after : RoomySink) (result : Status) (text : List �
   pub status_is : result ≡ Done
   pub bytes_are : after.bytes ≡ before.bytes ++ text
 
--- Memory was wanting, or there is a translation that the call answers with, where the room holds it.
+-- Memory was wanting, or there is a translation that the call answers with, where the room holds
+-- it.
 abbrev pub Translated : Wanted → RoomySink → RoomySink → Status → List ℕ → List ℕ → Type 0
 Translated wanted before after result tables function =
     (result ≡ NoMemory)
@@ -94,7 +112,8 @@ Translated wanted before after result tables function =
 
 -- ---- demo
 
--- Memory was wanting, or there is a summary of the case that the call writes, where the room holds it.
+-- Memory was wanting, or there is a summary of the case that the call writes, where the room holds
+-- it.
 abbrev pub Shown : RoomySink → RoomySink → Status → List ℕ → Type 0
 Shown before after result word =
     (result ≡ NoMemory)
@@ -103,7 +122,8 @@ Shown before after result word =
 
 -- ---- sql, rows and fn
 
--- a program's file is within its limit, reads as one that breaks no rule over the tables of the schema, and the words spell its arguments
+-- a program's file is within its limit, reads as one that breaks no rule over the tables of the
+-- schema, and the words spell its arguments
 pub record IsFitProgram (what : Runnable) (schema : Schema) (bytes : List ℕ) (args : List (List ℕ)) : Type 0 where
   pub short : length bytes ≤ most_bytes what
   pub is : IsProgram what schema bytes
@@ -129,14 +149,16 @@ pub record MayRun (what : Runnable) (files : HeldFiles) (bound schema file dir :
   pub fit_tables : AllByRecursion (IsFitTable (held_at files.held) dir) fit_schema.is.schema.tables
   pub no_failure : files.fails ≡ []
 
--- Memory was wanting, or there is what the program gives that the call tells, where the room holds it.
+-- Memory was wanting, or there is what the program gives that the call tells, where the room holds
+-- it.
 abbrev pub Answered : Runnable → HeldFiles → RoomySink → RoomySink → Status → List ℕ → List ℕ → List ℕ → List ℕ → List (List ℕ) → Type 0
 Answered what files before after result bound schema file dir args =
     EndsIn before after result (λ status output. IsAnswer status × IsAnswered what (held_at files.held) bound schema file dir args status output)
 
 -- ---- check
 
--- a query's file is within its limit, and reads as a query that breaks no rule over the tables of the schema
+-- a query's file is within its limit, and reads as a query that breaks no rule over the tables of
+-- the schema
 pub record IsFitAsked (schema : Schema) (bytes : List ℕ) : Type 0 where
   pub short : length bytes ≤ 67108864
   pub is : IsQuery schema bytes
@@ -179,8 +201,9 @@ AcceptedIn before after result =
     (result ≡ NoMemory)
     ⊎ (length (line (codes "accepted")) ≤ before.room → IsCompiledQuery before after result Done (line (codes "accepted")))
 
--- What `certify` wrote of these bytes is this line and, behind its end, this text. The four files behind `check` hold the bytes, the text and the line, each
--- is within its limit, and no read is to fail.
+-- What `certify` wrote of these bytes is this line and, behind its end, this text. The four files
+-- behind `check` hold the bytes, the text and the line, each is within its limit, and no read is to
+-- fail.
 pub record HoldsCertified (written : List ℕ) (files : HeldFiles) (schema func query cert tables function : List ℕ) : Type 0 where
   pub line : List ℕ
   pub text : List ℕ

@@ -1,9 +1,27 @@
 -- What the sink in memory stands for.
-use Rattle.std.specs.Prelude.{◌≡◌, ◌≤◌, ◌==◌, ℕ, min, unwrap_or, nat_lt, ◌&&◌, Bool, true, List, [], ◌∷◌, Some, None, if◌then◌else◌}
+use Rattle.std.specs.Prelude.{
+  ◌≡◌,
+  ◌≤◌,
+  ◌==◌,
+  ℕ,
+  min,
+  unwrap_or,
+  nat_lt,
+  ◌&&◌,
+  Bool,
+  true,
+  List,
+  [],
+  ◌∷◌,
+  Some,
+  None,
+  if◌then◌else◌,
+}
 use Rattle.std.specs.declared.option.Option.{Option}
 use Rattle.away_top.specs.Host.{next_count}
 
--- what was written, the room that is left, the numbers of the writes that fail with the bytes that each takes
+-- what was written, the room that is left, the numbers of the writes that fail with the bytes that
+-- each takes
 pub record RoomySink : Type 0 where
   pub bytes : List ℕ
   pub room : ℕ
@@ -21,8 +39,8 @@ pub record IsWhole (sink : RoomySink) (count : ℕ) : Type 0 where
   pub unlisted : taken_at sink.fails (next_count sink.calls) ≡ None
   pub fits : count ≤ sink.room
 
--- how many bytes of a piece a write takes that fails: those that are listed, or all, as far as there are some and the
--- room goes
+-- how many bytes of a piece a write takes that fails: those that are listed, or all, as far as
+-- there are some and the room goes
 abbrev pub front : RoomySink → ℕ → ℕ
 front sink count = min (min (unwrap_or (taken_at sink.fails (next_count sink.calls)) count) count) sink.room
 

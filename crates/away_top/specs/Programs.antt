@@ -1,4 +1,5 @@
--- What is run over tables: a query, by its answer or all of its rows, or a function. Each has its file, its arguments and its reply.
+-- What is run over tables: a query, by its answer or all of its rows, or a function. Each has its
+-- file, its arguments and its reply.
 use Rattle.std.specs.Prelude.{ℕ, List, Option, codes}
 use Rattle.away_values.specs.declared.values.Value.{Value}
 use Rattle.away_trees.specs.declared.schemas.Schema.{Schema}
@@ -15,7 +16,16 @@ use Rattle.away_top.specs.declared.over_tables.program.Runnable.{Runnable}
 use Rattle.away_top.specs.declared.over_tables.program.Runnable.TheVariants as run
 use Rattle.away_top.specs.Arguments.{values_for, values_of}
 use Rattle.away_top.specs.Course.{Course, and_then, gives}
-use Rattle.away_top.specs.Files.{Asked, Callable, as_asked, as_callable, as_row_query, asked_of, callable_of, row_query_of}
+use Rattle.away_top.specs.Files.{
+  Asked,
+  Callable,
+  as_asked,
+  as_callable,
+  as_row_query,
+  asked_of,
+  callable_of,
+  row_query_of,
+}
 use Rattle.away_top.specs.Files.{function_course, query_course, row_query_course}
 use Rattle.away_top.specs.Refusals.{IsFunction, IsQuery, IsRowQuery}
 

@@ -7,7 +7,14 @@ use Rattle.away_trees.specs.Limits.{KeepsLimits}
 use Rattle.away_grammar.specs.FunctionGrammar.{ReadsFunction}
 use Rattle.away_grammar.specs.Texts.{ReadsQuery, ReadsSchema}
 use Rattle.away_lex.specs.declared.refusals.ReadRefusal.{ReadRefusal}
-use Rattle.away_lex.specs.declared.refusals.ReadRefusal.TheVariants.{NotText, Token, NoTree, Outside, Limit, NoMemory}
+use Rattle.away_lex.specs.declared.refusals.ReadRefusal.TheVariants.{
+  NotText,
+  Token,
+  NoTree,
+  Outside,
+  Limit,
+  NoMemory,
+}
 use Rattle.sql_text.specs.Refusals as texts
 use Rattle.plsql_parse.specs.Refusals as functions
 use Rattle.away_names.specs.declared.note.Note.{Note}
@@ -22,7 +29,8 @@ use Rattle.away_types.specs.Refusals.{HasNoFinding, IsUnbroken}
 use Rattle.away_names.specs.Schemas.{schema_note}
 use Rattle.away_top.specs.Lines.{bad_token, limit_rule, numbered_rule, outside_word}
 
--- The rule that a reader's refusal is printed as, with its details. Want of memory is no refusal of the file.
+-- The rule that a reader's refusal is printed as, with its details. Want of memory is no refusal of
+-- the file.
 abbrev pub IsRule : ReadRefusal → List ℕ → Type 0
 IsRule NotText rule = rule ≡ codes "X1"
 IsRule (Token offset) rule = rule ≡ bad_token offset
@@ -112,7 +120,8 @@ RefusesQuery schema bytes rule =
 
 -- ---- the query, by all of its rows
 
--- the query that the bytes read as, which breaks no rule over the tables of the schema but perhaps the one on answers
+-- the query that the bytes read as, which breaks no rule over the tables of the schema but perhaps
+-- the one on answers
 pub record IsRowQuery (schema : Schema) (bytes : List ℕ) : Type 0 where
   pub written : Query
   pub reads_as : ReadsAsQuery bytes written

@@ -1,4 +1,5 @@
--- The status and the output that tell all rows of a query: a record for each, as `csv` writes it, with commas and LF.
+-- The status and the output that tell all rows of a query: a record for each, as `csv` writes it,
+-- with commas and LF.
 use Rattle.std.specs.Prelude.{ℕ, ◌++◌, true, false, List, [], codes, fold, map}
 use Rattle.std.specs.Fmt.{signed_decimal}
 use Rattle.std.specs.Str.{encode_utf8_all}

@@ -9,7 +9,18 @@ use Rattle.csv_tables.specs.Files.{rows_in}
 use Rattle.sql_meaning.specs.Context.{Rows}
 use Rattle.away_top.specs.declared.over_tables.program.Runnable.{Runnable}
 use Rattle.away_top.specs.declared.status.Status.{Status}
-use Rattle.away_top.specs.declared.status.Status.TheVariants.{Done, Refused, Usage, ReadFault, WriteFault, NoMemory, More, Fault, NotAccepted, Shape}
+use Rattle.away_top.specs.declared.status.Status.TheVariants.{
+  Done,
+  Refused,
+  Usage,
+  ReadFault,
+  WriteFault,
+  NoMemory,
+  More,
+  Fault,
+  NotAccepted,
+  Shape,
+}
 use Rattle.away_top.specs.Arguments.{bound_of}
 use Rattle.away_top.specs.Programs.{IsProgram, arguments_of, program_of, reply_of, word_of}
 use Rattle.away_top.specs.Refusals.{IsSchema}
@@ -43,8 +54,8 @@ pub record HoldsRows (held : Held) (dir : List ℕ) (t : TableSchema) (rows : Ro
   pub are_its : AreBytesOf held (table_file dir t.name) bytes
   pub rows_are : rows_in t bytes ≡ Ok rows
 
--- The status and the output tell what the program gives, within the bound, that its file reads as, with the arguments that the words
--- spell, over the tables that their files hold.
+-- The status and the output tell what the program gives, within the bound, that its file reads as,
+-- with the arguments that the words spell, over the tables that their files hold.
 pub record IsAnswered (what : Runnable) (held : Held) (bound schema file dir : List ℕ) (args : List (List ℕ)) (status : Status) (output : List ℕ) : Type 0 where
   pub most : ℕ
   pub bound_is : bound_of bound ≡ Some most

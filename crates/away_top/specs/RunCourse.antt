@@ -1,4 +1,5 @@
--- `sql BOUND SCHEMA QUERY DIR ARG..`, `rows BOUND SCHEMA QUERY DIR ARG..` and `fn BOUND SCHEMA FUNC DIR ARG..`: a program is run over the tables of a schema.
+-- `sql BOUND SCHEMA QUERY DIR ARG..`, `rows BOUND SCHEMA QUERY DIR ARG..` and `fn BOUND SCHEMA FUNC
+-- DIR ARG..`: a program is run over the tables of a schema.
 use Rattle.std.specs.Prelude.{ℕ, List, Option, Some, None, codes}
 use Rattle.away_values.specs.declared.values.Value.{Value}
 use Rattle.away_trees.specs.declared.schemas.Schema.{Schema}

@@ -1,4 +1,5 @@
--- How a run goes along its course, from the state of the files before it to the state that it leaves.
+-- How a run goes along its course, from the state of the files before it to the state that it
+-- leaves.
 use Rattle.std.specs.Prelude.{◌≡◌, ◌⊎◌, ℕ, ◌<◌, ◌≤◌, List, length, codes, IfSome}
 use Rattle.away_top.specs.declared.host.Files.{Ghosts as Files}
 use Rattle.away_top.specs.declared.status.Status.{Status}
@@ -7,8 +8,8 @@ use Rattle.away_top.specs.Course.{Course, gives, ends, judges, reads, Exactly}
 use Rattle.away_top.specs.Lines.{read_fault, refusal}
 use Rattle.away_top.specs.Host.{Keeps, Rose, Stays}
 
--- How a run, or a first stretch of one, came out: memory was wanting, it ended with a status and an output, or it goes
--- on with an A.
+-- How a run, or a first stretch of one, came out: memory was wanting, it ended with a status and an
+-- output, or it goes on with an A.
 pub data End (A : Type 0) : Type 0 where
   wants_memory : End A
   ended : Status → List ℕ → End A
@@ -55,13 +56,15 @@ StopsAt F before name limit after status output =
     (IsUnreadable F before name after × Exactly ReadFault (read_fault name) status output)
     ⊎ (IsLong F before name limit × Exactly Refused (refusal name (codes "LONG")) status output)
 
--- A file of at most so many bytes, which are those that it holds, where that is told; and the name isn't known to be absent.
+-- A file of at most so many bytes, which are those that it holds, where that is told; and the name
+-- isn't known to be absent.
 pub record Holds {D : Type 0} (F : Files D) (before : D) (name : List ℕ) (limit : ℕ) (bytes : List ℕ) : Type 0 where
   pub same : IfSome (F.held before name) (λ held. bytes ≡ held)
   pub fits : length bytes ≤ limit
   pub not_absent : F.is_absent before name → ⊥
 
--- The run goes along the course: each file of it is read in turn, and no other, up to where the run comes out.
+-- The run goes along the course: each file of it is read in turn, and no other, up to where the run
+-- comes out.
 abbrev pub Follows : {D A : Type 0} → Files D → D → Course A → D → End A → Type 0
 Follows F before (gives a) after end = ReadsNoMore before after (IsGiven a) end
 Follows F before (ends E) after end = ReadsNoMore before after (IsEnd E) end

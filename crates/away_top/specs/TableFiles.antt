@@ -4,7 +4,13 @@ use Rattle.std.specs.Fmt.{decimal}
 use Rattle.away_trees.specs.declared.schemas.TableSchema.{TableSchema}
 use Rattle.csv_tables.specs.Files.{Or, rows_in}
 use Rattle.csv_tables.specs.declared.refusal.TableRefusal.{TableRefusal}
-use Rattle.csv_tables.specs.declared.refusal.TableRefusal.TheVariants.{Header, Count, Cell, NullCell, NoMemory}
+use Rattle.csv_tables.specs.declared.refusal.TableRefusal.TheVariants.{
+  Header,
+  Count,
+  Cell,
+  NullCell,
+  NoMemory,
+}
 use Rattle.sql_meaning.specs.Context.{Rows}
 use Rattle.away_top.specs.Course.{Course, and_then, ends, gives, reads, RefusedBy}
 
@@ -16,7 +22,8 @@ table_file dir name = dir ++ (codes "/" ++ (name ++ codes ".csv"))
 abbrev pub counted : ℕ → List ℕ
 counted n = codes " " ++ decimal n
 
--- The rule that a refusal is printed as, with its row and its column. Want of memory is no refusal of the file.
+-- The rule that a refusal is printed as, with its row and its column. Want of memory is no refusal
+-- of the file.
 abbrev pub IsTableRule : TableRefusal → List ℕ → Type 0
 IsTableRule Header rule = rule ≡ codes "Z1"
 IsTableRule (Count row) rule = rule ≡ codes "Z2" ++ counted row

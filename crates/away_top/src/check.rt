@@ -28,7 +28,8 @@ pub fn check<F: Files>(
     cert: &str,
     files: &mut F,
 ) -> Result<Ending, Halt>
-    ensures { Follows F.Files files.old (check_course schema.now func.now query.now cert.now) files.new (run_end result) }
+    ensures { Follows F.Files files.old
+        (check_course schema.now func.now query.now cert.now) files.new (run_end result) }
 {
     let tables = schema_of(alloc, schema, files)?;
     let function = function_of(alloc, &tables, func, files)?;
@@ -45,7 +46,8 @@ fn verdict_on(
     query: &CheckedQuery,
     forms: &Cert,
 ) -> Result<Ending, Halt>
-    ensures { IsEnd (IsJudgedSo tables.now.schema (as_callable function.now) (as_asked query.now) forms.now) (run_end result) }
+    ensures { IsEnd (IsJudgedSo tables.now.schema (as_callable function.now)
+        (as_asked query.now) forms.now) (run_end result) }
 {
     let verdict = check_all(alloc, tables, function, query, forms)?;
     Ok(verdict_line(alloc, verdict)?)
@@ -77,7 +79,8 @@ fn stage(relation: Relation) -> u8
 
 /// The forms aren't accepted by a stage.
 fn not_accepted(alloc: Global, number: u8) -> Result<Ending, AllocError>
-    ensures { IfOk result (λ ending. IsEnding ending Status.NotAccepted (line (codes "not accepted S" ++ decimal number))) }
+    ensures { IfOk result (λ ending. IsEnding ending Status.NotAccepted
+        (line (codes "not accepted S" ++ decimal number))) }
 {
     let mut buffer = Buffer::new();
     let mut output = b"not accepted S".to_vec(alloc)?;
@@ -91,14 +94,16 @@ fn not_accepted(alloc: Global, number: u8) -> Result<Ending, AllocError>
 
 /// The certificate that a file reads as.
 fn cert_of<F: Files>(alloc: Global, name: &str, files: &mut F) -> Result<Cert, Halt>
-    ensures { Follows F.Files files.old (cert_course name.now) files.new (stretch_end (λ c. c) result) }
+    ensures { Follows F.Files files.old (cert_course name.now) files.new
+        (stretch_end (λ c. c) result) }
 {
     let bytes = bytes_of(alloc, name, MAX_FILE, files)?;
     cert_in(alloc, name, &bytes)
 }
 
 fn cert_in(alloc: Global, name: &str, bytes: &[u8]) -> Result<Cert, Halt>
-    ensures { IsJudged (RefusedBy name.now (RefusesCert bytes.now)) (λ c. (is : IsCert bytes.now) × (c ≡ is.cert)) result }
+    ensures { IsJudged (RefusedBy name.now (RefusesCert bytes.now))
+        (λ c. (is : IsCert bytes.now) × (c ≡ is.cert)) result }
 {
     match read_cert(alloc, bytes) {
         Ok(cert) => Ok(cert),
@@ -110,7 +115,8 @@ fn cert_in(alloc: Global, name: &str, bytes: &[u8]) -> Result<Cert, Halt>
 
 /// The file is refused for a field of the certificate.
 fn refused_field(alloc: Global, name: &str, field: CertField) -> Result<Ending, AllocError>
-    ensures { IfOk result (λ ending. IsEnding ending Status.Refused (refusal name.now (codes "C2 " ++ field_name field))) }
+    ensures { IfOk result (λ ending. IsEnding ending Status.Refused
+        (refusal name.now (codes "C2 " ++ field_name field))) }
 {
     let mut rule = b"C2 ".to_vec(alloc)?;
     rule.extend_from_slice(field_text(field))?;

@@ -133,7 +133,8 @@ fn demo<'a>(rest: &'a [String]) -> Command<'a>
 }
 
 fn over_tables<'a>(what: Runnable, rest: &'a [String]) -> Command<'a>
-    ensures { as_command result ≡ form.with_tables (form.over_tables what) (map string_bytes rest.now) }
+    ensures { as_command result ≡ form.with_tables (form.over_tables what)
+        (map string_bytes rest.now) }
 {
     match rest {
         [bound, schema, file, dir, args @ ..] => Command::OverTables {

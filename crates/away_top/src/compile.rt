@@ -35,7 +35,8 @@ pub fn compile<F: Files>(
     func: &str,
     files: &mut F,
 ) -> Result<Ending, Halt>
-    ensures { Runs F.Files files.old (compile_course wanted schema.now func.now) files.new (run_end result) }
+    ensures { Runs F.Files files.old (compile_course wanted schema.now func.now) files.new
+        (run_end result) }
 {
     let tables = schema_of(alloc, schema, files)?;
     let function = function_of(alloc, &tables, func, files)?;
@@ -50,7 +51,8 @@ fn written(
     function: &CheckedFunction,
 ) -> Result<Ending, Halt>
     requires texts { IsOfTexts tables.now.schema function.now.function function.now.slots }
-    ensures { (text : List ℕ) × IsEnd (Compiles wanted tables.now.schema (as_callable function.now) text) (run_end result) }
+    ensures { (text : List ℕ) × IsEnd
+        (Compiles wanted tables.now.schema (as_callable function.now) text) (run_end result) }
 {
     let compiled = compiling::compile(alloc, tables, function)?;
     Ok(Ending {
@@ -61,7 +63,8 @@ fn written(
 
 /// What is written of a compiled function.
 fn output_of(alloc: Global, wanted: Wanted, compiled: Compiled) -> Result<Vec<u8>, NoMemory>
-    ensures { IfOk result (λ output. HasSpelling compiled.cert → IsOutput wanted compiled.cert (string_bytes compiled.text) output.items) }
+    ensures { IfOk result (λ output. HasSpelling compiled.cert
+        → IsOutput wanted compiled.cert (string_bytes compiled.text) output.items) }
 {
     match wanted {
         Wanted::Query => Ok(compiled.text.into_bytes()),
@@ -72,7 +75,8 @@ fn output_of(alloc: Global, wanted: Wanted, compiled: Compiled) -> Result<Vec<u8
 /// The certificate of a compiled function, a line, and behind it the query.
 fn certified(alloc: Global, compiled: &Compiled) -> Result<Vec<u8>, NoMemory>
     ensures { IfOk result (λ output. HasSpelling compiled.now.cert
-        → IsOutput made.Certificate compiled.now.cert (string_bytes compiled.now.text) output.items) }
+        → IsOutput made.Certificate compiled.now.cert
+        (string_bytes compiled.now.text) output.items) }
 {
     let cert = write_cert(alloc, &compiled.cert)?;
     Ok(line_before(cert, compiled.text.as_str())?)

@@ -58,7 +58,8 @@ fn push_answer(
     word: &[u8],
     answer: &Answer,
 ) -> Result<(), AllocError>
-    ensures { OnOk result (output.new.items ≡ output.old.items ++ (word.now ++ (answer_end answer.now).1)) }
+    ensures { OnOk result (output.new.items ≡ output.old.items
+        ++ (word.now ++ (answer_end answer.now).1)) }
 {
     let ending = answer_ending(alloc, answer)?;
     push_both(output, word, &ending.output)

@@ -118,7 +118,8 @@ pub fn refused(alloc: Global, name: &str, rule: &[u8]) -> Result<Ending, AllocEr
 
 /// The file is refused for a bad token.
 pub fn refused_token(alloc: Global, name: &str, offset: u64) -> Result<Ending, AllocError>
-    ensures { IfOk result (λ ending. IsEnding ending Status.Refused (refusal name.now (bad_token offset))) }
+    ensures { IfOk result (λ ending. IsEnding ending Status.Refused
+        (refusal name.now (bad_token offset))) }
 {
     let mut buffer = Buffer::new();
     let mut rule = b"X2 ".to_vec(alloc)?;
@@ -128,7 +129,8 @@ pub fn refused_token(alloc: Global, name: &str, offset: u64) -> Result<Ending, A
 
 /// The file is refused for a word of a form that isn't read.
 pub fn refused_word(alloc: Global, name: &str, word: &Name) -> Result<Ending, AllocError>
-    ensures { IfOk result (λ ending. IsEnding ending Status.Refused (refusal name.now (outside_word word.now))) }
+    ensures { IfOk result (λ ending. IsEnding ending Status.Refused
+        (refusal name.now (outside_word word.now))) }
 {
     let mut rule = b"X4 ".to_vec(alloc)?;
     rule.extend_from_slice(word.text().as_bytes())?;
@@ -137,7 +139,8 @@ pub fn refused_word(alloc: Global, name: &str, word: &Name) -> Result<Ending, Al
 
 /// The file is refused for a rule of names, scopes or types.
 pub fn refused_rule(alloc: Global, name: &str, rule: Rule) -> Result<Ending, AllocError>
-    ensures { IfOk result (λ ending. IsEnding ending Status.Refused (refusal name.now (numbered_rule (number rule)))) }
+    ensures { IfOk result (λ ending. IsEnding ending Status.Refused
+        (refusal name.now (numbered_rule (number rule)))) }
 {
     let mut buffer = Buffer::new();
     let mut word = b"X".to_vec(alloc)?;
@@ -152,7 +155,8 @@ pub fn refused_limit(
     which: LimitKind,
     found: u64,
 ) -> Result<Ending, AllocError>
-    ensures { IfOk result (λ ending. IsEnding ending Status.Refused (refusal name.now (limit_rule which found))) }
+    ensures { IfOk result (λ ending. IsEnding ending Status.Refused
+        (refusal name.now (limit_rule which found))) }
 {
     let mut buffer = Buffer::new();
     let mut rule = b"X5 ".to_vec(alloc)?;

@@ -38,7 +38,8 @@ const MAX_FUNCTION: u64 = 1_048_576;
 
 /// The schema that a file reads as, judged.
 pub fn schema_of<F: Files>(alloc: Global, name: &str, files: &mut F) -> Result<CheckedSchema, Halt>
-    ensures { Follows F.Files files.old (schema_course name.now) files.new (stretch_end (λ c. c.schema) result) }
+    ensures { Follows F.Files files.old (schema_course name.now) files.new
+        (stretch_end (λ c. c.schema) result) }
 {
     let bytes = bytes_of(alloc, name, MAX_FILE, files)?;
     schema_in(alloc, name, &bytes)
@@ -97,7 +98,8 @@ fn schema_in(alloc: Global, name: &str, bytes: &[u8]) -> Result<CheckedSchema, H
 }
 
 fn checked_schema(alloc: Global, name: &str, schema: Schema) -> Result<CheckedSchema, Halt>
-    ensures { IsJudged (RefusedBy name.now (BreaksRule (schema_note schema))) (λ c. IsKept schema c.schema) result }
+    ensures { IsJudged (RefusedBy name.now (BreaksRule (schema_note schema)))
+        (λ c. IsKept schema c.schema) result }
 {
     match check_schema(alloc, schema) {
         Ok(checked) => Ok(checked),

@@ -45,7 +45,8 @@ pub trait Files {
         ensures safe { Stays (is_safe self.old) (is_safe self.new) }
         ensures absent { Stays (is_absent self.old) (is_absent self.new) }
         ensures later { faults self.old ≤ faults self.new }
-        ensures bytes { IfOk result (λ v. IfSome (held self.old name.now) (λ bytes. v.items ≡ bytes)) }
+        ensures bytes { IfOk result
+            (λ v. IfSome (held self.old name.now) (λ bytes. v.items ≡ bytes)) }
         ensures limit { IfOk result (λ v. length v.items ≤ limit) }
         ensures long { IfErr result (IsTooLong limit (held self.old name.now)) }
         ensures failed { IsErrOf result Failed → Rose (faults self.old) (faults self.new) }
@@ -81,7 +82,8 @@ pub trait Sink {
     /// Writes all of the piece.
     fn write(&mut self, piece: &[u8]) -> Result<(), WriteFailed>
         ensures whole { OnOk result (Appends (written self.old) (written self.new) piece.now) }
-        ensures part { OnErr result (AppendsPrefix (written self.old) (written self.new) piece.now) }
+        ensures part { OnErr result
+            (AppendsPrefix (written self.old) (written self.new) piece.now) }
         ensures counted { writes self.new ≡ next_count (writes self.old) }
         ensures later { faults self.old ≤ faults self.new }
         ensures failed { OnErr result (Rose (faults self.old) (faults self.new)) }

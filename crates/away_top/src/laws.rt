@@ -38,9 +38,12 @@ pub fn away_in_memory(
     files: &mut MemoryFiles,
     out: &mut MemorySink,
 ) -> Status
-    ensures every { files.old.fails ≡ [] → out.old.fails ≡ [] → Ended files.old out.old out.new result (map string_bytes words.now) }
-    ensures missing { (name : List ℕ) → ((text : List ℕ) → BeginsWith name (course (map string_bytes words.now) text))
-        → held_at files.old.held name ≡ None → out.old.fails ≡ [] → Unread out.old out.new result name }
+    ensures every { files.old.fails ≡ [] → out.old.fails ≡ []
+        → Ended files.old out.old out.new result (map string_bytes words.now) }
+    ensures missing { (name : List ℕ)
+        → ((text : List ℕ) → BeginsWith name (course (map string_bytes words.now) text))
+        → held_at files.old.held name ≡ None → out.old.fails ≡ []
+        → Unread out.old out.new result name }
     ensures compile { (wanted : Wanted) (tables function : List ℕ)
         → MayCompile files.old wanted (map string_bytes words.now) tables function
         → out.old.fails ≡ [] → Translated wanted out.old out.new result tables function }
@@ -48,7 +51,8 @@ pub fn away_in_memory(
         → map string_bytes words.now ≡ codes "check" ∷ schema ∷ func ∷ query ∷ cert ∷ []
         → MayCheck files.old schema func query cert tables function asked forms → out.old.fails ≡ []
         → Judged out.old out.new result tables function asked forms }
-    ensures demo { (word : List ℕ) → map string_bytes words.now ≡ codes "demo" ∷ word ∷ [] → IsSome (bound_of word)
+    ensures demo { (word : List ℕ) → map string_bytes words.now ≡ codes "demo" ∷ word ∷ []
+        → IsSome (bound_of word)
         → out.old.fails ≡ [] → Shown out.old out.new result word }
     ensures run { (what : Runnable) (bound schema file dir : List ℕ) (args : List (List ℕ))
         → map string_bytes words.now ≡ word_of what ∷ bound ∷ schema ∷ file ∷ dir ∷ args
@@ -74,7 +78,8 @@ pub fn certified_is_accepted(
         → held_at files.old.held first ≡ Some tables → held_at files.old.held second ≡ Some function
         → result.0 ≡ Status.Done → output.new.bytes ≡ output.old.bytes ++ written
         → map string_bytes check.now ≡ codes "check" ∷ schema ∷ func ∷ query ∷ cert ∷ []
-        → HoldsCertified written others.old schema func query cert tables function → verdict.old.fails ≡ []
+        → HoldsCertified written others.old schema func query cert tables function
+        → verdict.old.fails ≡ []
         → AcceptedIn verdict.old verdict.new result.1 }
 {
     let certified = away(alloc, certify, files, output);

@@ -71,7 +71,8 @@ impl Files for MemoryFiles {
         ensures safe { Stays (IsSafeName self.old) (IsSafeName self.new) }
         ensures absent { Stays (IsAbsentName self.old) (IsAbsentName self.new) }
         ensures later { self.old.faults ≤ self.new.faults }
-        ensures bytes { IfOk result (λ v. IfSome (held_at self.old.held name.now) (λ bytes. v.items ≡ bytes)) }
+        ensures bytes { IfOk result
+            (λ v. IfSome (held_at self.old.held name.now) (λ bytes. v.items ≡ bytes)) }
         ensures limit { IfOk result (λ v. length v.items ≤ limit) }
         ensures long { IfErr result (IsTooLong limit (held_at self.old.held name.now)) }
         ensures failed { IsErrOf result ReadError.Failed → Rose self.old.faults self.new.faults }
@@ -81,9 +82,11 @@ impl Files for MemoryFiles {
         // And exactly:
         ensures listed { Contains self.old.fails (next_count self.old.calls)
             → IsCountedFailure self.old.faults result self.new.faults }
-        ensures missing { ¬ (Contains self.old.fails (next_count self.old.calls)) → held_at self.old.held name.now ≡ None
+        ensures missing { ¬ (Contains self.old.fails (next_count self.old.calls))
+            → held_at self.old.held name.now ≡ None
             → IsCountedFailure self.old.faults result self.new.faults }
-        ensures too_long { (bytes : List ℕ) → ¬ (Contains self.old.fails (next_count self.old.calls))
+        ensures too_long { (bytes : List ℕ)
+            → ¬ (Contains self.old.fails (next_count self.old.calls))
             → held_at self.old.held name.now ≡ Some bytes → limit < length bytes
             → (result ≡ Err (ReadError.Long (limit + 1))) × (self.new.faults ≡ self.old.faults) }
         ensures whole { (bytes : List ℕ) → ¬ (Contains self.old.fails (next_count self.old.calls))
@@ -119,8 +122,10 @@ fn is_listed(fails: &[u64], call: u64) -> bool
 
 // What a name holds.
 fn find<'a>(held: &'a [(String, Vec<u8>)], name: &str) -> Option<&'a [u8]>
-    ensures { MatchOption result (held_at (map (λ pair. (string_bytes pair.0, pair.1.items)) held.now) name.now ≡ None)
-        (λ bytes. held_at (map (λ pair. (string_bytes pair.0, pair.1.items)) held.now) name.now ≡ Some bytes.now) }
+    ensures { MatchOption result
+        (held_at (map (λ pair. (string_bytes pair.0, pair.1.items)) held.now) name.now ≡ None)
+        (λ bytes. held_at (map (λ pair. (string_bytes pair.0, pair.1.items)) held.now) name.now
+        ≡ Some bytes.now) }
 {
     let mut rest = held;
     while let [(key, bytes), others @ ..] = rest {

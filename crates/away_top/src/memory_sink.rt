@@ -76,8 +76,10 @@ impl Sink for MemorySink {
 
     fn write(&mut self, piece: &[u8]) -> Result<(), WriteFailed>
         // As of every implementation:
-        ensures whole { OnOk result (Appends (Some self.old.bytes) (Some self.new.bytes) piece.now) }
-        ensures part { OnErr result (AppendsPrefix (Some self.old.bytes) (Some self.new.bytes) piece.now) }
+        ensures whole { OnOk result
+            (Appends (Some self.old.bytes) (Some self.new.bytes) piece.now) }
+        ensures part { OnErr result
+            (AppendsPrefix (Some self.old.bytes) (Some self.new.bytes) piece.now) }
         ensures counted { self.new.calls ≡ next_count self.old.calls }
         ensures later { self.old.faults ≤ self.new.faults }
         ensures failed { OnErr result (Rose self.old.faults self.new.faults) }
@@ -87,9 +89,11 @@ impl Sink for MemorySink {
         // And exactly:
         ensures taken { IsWhole self.old (length piece.now)
             → IsOk result × (self.new.bytes ≡ self.old.bytes ++ piece.now)
-            × (self.new.room + length piece.now ≡ self.old.room) × (self.new.faults ≡ self.old.faults) }
+            × (self.new.room + length piece.now ≡ self.old.room)
+            × (self.new.faults ≡ self.old.faults) }
         ensures cut { ¬ (IsWhole self.old (length piece.now))
-            → IsErr result × (self.new.bytes ≡ self.old.bytes ++ take (front self.old (length piece.now)) piece.now)
+            → IsErr result × (self.new.bytes ≡ self.old.bytes
+            ++ take (front self.old (length piece.now)) piece.now)
             × (self.new.room + front self.old (length piece.now) ≡ self.old.room)
             × (self.new.faults ≡ next_count self.old.faults) }
         ensures stays { self.new.fails ≡ self.old.fails }

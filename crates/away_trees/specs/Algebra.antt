@@ -1,4 +1,5 @@
--- One recursion over the trees of queries, for every definition that goes by the parts of a node: an algebra has one step for each kind of node.
+-- One recursion over the trees of queries, for every definition that goes by the parts of a node:
+-- an algebra has one step for each kind of node.
 use Rattle.std.specs.Prelude.{List, [], ◌∷◌, Option, Some, None}
 use Rattle.away_values.specs.declared.operators.ChainOp.{ChainOp}
 use Rattle.away_trees.specs.declared.queries.Expr.{Expr}
@@ -9,12 +10,22 @@ use Rattle.away_trees.specs.declared.queries.Key.{Key}
 use Rattle.away_trees.specs.declared.queries.Select.{Select}
 use Rattle.away_trees.specs.declared.queries.Recursive.{Recursive}
 use Rattle.away_trees.specs.declared.queries.Query.{Query}
-use Rattle.away_trees.specs.declared.queries.Expr.TheOpen.{Expr-F, Source-F, FromItem-F, Item-F, Key-F, Select-F, Recursive-F, Query-F}
+use Rattle.away_trees.specs.declared.queries.Expr.TheOpen.{
+  Expr-F,
+  Source-F,
+  FromItem-F,
+  Item-F,
+  Key-F,
+  Select-F,
+  Recursive-F,
+  Query-F,
+}
 use Rattle.away_trees.specs.declared.queries.Expr.TheOpen as ex
 use Rattle.away_trees.specs.declared.queries.Expr.TheBlock as b
 use Rattle.away_trees.specs.declared.queries.Expr.TheViews.{out-Item, out-FromItem, out-Key}
 
--- what stands for each kind of node, and the steps. `no_expr` and `no_query` stand where no tree leads.
+-- what stands for each kind of node, and the steps. `no_expr` and `no_query` stand where no tree
+-- leads.
 pub record Algebra : Type 1 where
   pub AnExpr : Type 0
   pub ASource : Type 0
@@ -105,7 +116,13 @@ abbrev mutual
 
   pub select_of : (a : Algebra) → Select → a.ASelect
   select_of a (b.struct-Select s list t from filter u order limit) =
-      a.select (record { list = items_of a list; from = froms_of a from; filter = filter_of a filter; order = keys_of a order; limit = filter_of a limit })
+      a.select (record {
+        list = items_of a list;
+        from = froms_of a from;
+        filter = filter_of a filter;
+        order = keys_of a order;
+        limit = filter_of a limit;
+      })
 
   pub selects_of : {m : _} → (a : Algebra) → b.Row_of-Select m → List a.ASelect
   selects_of a b.end_of-Select = []

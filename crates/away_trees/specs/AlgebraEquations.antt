@@ -1,4 +1,5 @@
--- What the recursion over queries gives at each kind of node: the step of that kind, over what it gives at the parts.
+-- What the recursion over queries gives at each kind of node: the step of that kind, over what it
+-- gives at the parts.
 use Rattle.std.specs.Prelude.{◌≡◌, ℕ, ℤ, Bool, List, Option, map, option_map}
 use Rattle.away_values.specs.declared.types.Ty.{Ty}
 use Rattle.away_trees.specs.declared.queries.Col.{Col}
@@ -15,10 +16,36 @@ use Rattle.away_trees.specs.declared.queries.Key.{Key}
 use Rattle.away_trees.specs.declared.queries.Select.{Select}
 use Rattle.away_trees.specs.declared.queries.Recursive.{Recursive}
 use Rattle.away_trees.specs.declared.queries.Query.{Query}
-use Rattle.away_trees.specs.declared.queries.Expr.TheOpen.{Expr-F, Source-F, FromItem-F, Item-F, Key-F, Select-F, Recursive-F, Query-F}
+use Rattle.away_trees.specs.declared.queries.Expr.TheOpen.{
+  Expr-F,
+  Source-F,
+  FromItem-F,
+  Item-F,
+  Key-F,
+  Select-F,
+  Recursive-F,
+  Query-F,
+}
 use Rattle.away_trees.specs.declared.queries.Expr.TheOpen as ex
-use Rattle.away_trees.specs.declared.queries.Expr.TheViews.{roll-Item, roll-FromItem, roll-Key, roll-Select, roll-Recursive, roll-Query}
-use Rattle.away_trees.specs.Algebra.{Algebra, expr_of, select_of, item_of, from_of, key_of, source_of, recursive_of, query_of}
+use Rattle.away_trees.specs.declared.queries.Expr.TheViews.{
+  roll-Item,
+  roll-FromItem,
+  roll-Key,
+  roll-Select,
+  roll-Recursive,
+  roll-Query,
+}
+use Rattle.away_trees.specs.Algebra.{
+  Algebra,
+  expr_of,
+  select_of,
+  item_of,
+  from_of,
+  key_of,
+  source_of,
+  recursive_of,
+  query_of,
+}
 
 -- the steps of an algebra, over carriers that are given one by one
 pub record Steps (AnExpr ASource AFrom AnItem AKey AQuery ARecursive ASelect : Type 0) : Type 0 where

@@ -1,5 +1,6 @@
--- How many nodes a function has. A node is a statement (a block is one), an arm, a declaration, a parameter or a target of INTO. An arm is each
--- condition of IF, ELSIF or CASE with its statements, and each ELSE.
+-- How many nodes a function has. A node is a statement (a block is one), an arm, a declaration, a
+-- parameter or a target of INTO. An arm is each condition of IF, ELSIF or CASE with its statements,
+-- and each ELSE.
 use Rattle.std.specs.Prelude.{ℕ, ◌+◌, ◌*◌, List, length, sum, sum_by, Option, Some, None}
 use Rattle.away_trees.specs.declared.statements.Arm.{Arm}
 use Rattle.away_trees.specs.declared.statements.Function.{Function}

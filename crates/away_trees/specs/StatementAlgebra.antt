@@ -1,5 +1,6 @@
--- One recursion over statements, for every definition that goes by the parts of a statement: an algebra has one step for a statement and one
--- for an arm. Expressions and queries in statements stay as they are.
+-- One recursion over statements, for every definition that goes by the parts of a statement: an
+-- algebra has one step for a statement and one for an arm. Expressions and queries in statements
+-- stay as they are.
 use Rattle.std.specs.Prelude.{List, [], ◌∷◌, Option, Some, None, map}
 use Rattle.away_trees.specs.declared.statements.Arm.{Arm}
 use Rattle.away_trees.specs.declared.statements.Stmt.{Stmt}

@@ -1,4 +1,5 @@
--- What the recursion over statements gives at each kind of node: the step of that kind, over what it gives at the parts.
+-- What the recursion over statements gives at each kind of node: the step of that kind, over what
+-- it gives at the parts.
 use Rattle.std.specs.Prelude.{◌≡◌, ℕ, Bool, List, Option, map, option_map}
 use Rattle.away_trees.specs.declared.queries.Expr.{Expr}
 use Rattle.away_trees.specs.declared.queries.Select.{Select}

@@ -9,7 +9,12 @@ use Rattle.away_trees.specs.declared.queries.Expr.{Expr}
 use Rattle.away_trees.specs.declared.queries.Expr.TheVariants as expr
 use Rattle.away_trees.specs.declared.queries.Source.TheVariants as source
 use Rattle.away_trees.specs.declared.queries.Query.{Query}
-use Rattle.away_trees.specs.declared.queries.Expr.TheViews.{roll-Item, roll-FromItem, roll-Select, roll-Query}
+use Rattle.away_trees.specs.declared.queries.Expr.TheViews.{
+  roll-Item,
+  roll-FromItem,
+  roll-Select,
+  roll-Query,
+}
 use Rattle.away_trees.specs.declared.statements.LoopKind.TheVariants as kind
 use Rattle.away_trees.specs.declared.statements.Stmt.{Stmt}
 use Rattle.away_trees.specs.declared.statements.Stmt.TheVariants as stmt

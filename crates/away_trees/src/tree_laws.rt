@@ -17,7 +17,8 @@ pub fn queries_go_by_their_parts<
     ARecursive,
     ASelect,
 >()
-    ensures { (s : Steps AnExpr ASource AFrom AnItem AKey AQuery ARecursive ASelect) → Equations (algebra s) }
+    ensures { (s : Steps AnExpr ASource AFrom AnItem AKey AQuery ARecursive ASelect)
+        → Equations (algebra s) }
 {}
 
 /// At each kind of statement the recursion is the step of that kind over what it gives at the parts.

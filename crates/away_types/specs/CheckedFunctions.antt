@@ -7,7 +7,8 @@ use Rattle.away_types.specs.FunctionChecks.{function_note, resolved_function, sl
 use Rattle.away_trees.specs.Limits.{KeepsLimits}
 use Rattle.away_types.specs.Refusals.{HasNoFinding}
 
--- The function and its slots are the checked ones of a written function that breaks no rule under the schema.
+-- The function and its slots are the checked ones of a written function that breaks no rule under
+-- the schema.
 pub record IsChecked (s : Schema) (written checked : Function) (slots : List Slot) : Type 0 where
   pub unbroken : HasNoFinding (function_note s written)
   pub function : checked ≡ resolved_function s written

@@ -1,4 +1,5 @@
--- What a checked query is. A rule above the least that is broken may be judged wrongly, which shows nowhere.
+-- What a checked query is. A rule above the least that is broken may be judged wrongly, which shows
+-- nowhere.
 use Rattle.std.specs.Prelude.{◌≡◌, ℕ, List}
 use Rattle.away_values.specs.declared.types.Ty.{Ty}
 use Rattle.away_trees.specs.declared.queries.Query.{Query}
@@ -19,7 +20,8 @@ judged_query s q = judged s (file s q)
 abbrev pub query_note : Schema → Query → Note
 query_note s q = (judged_query s q).note
 
--- The tree, its parameters and the type are the checked ones of a written query that breaks no rule under the schema.
+-- The tree, its parameters and the type are the checked ones of a written query that breaks no rule
+-- under the schema.
 pub record IsCheckedQuery (s : Schema) (written checked : Query) (params : List (ℕ × Ty)) (first : Ty) : Type 0 where
   pub unbroken : IsUnbroken (query_note s written)
   pub query : checked ≡ resolved_query s written

@@ -1,5 +1,5 @@
--- What a query is that was checked for all of its rows: it breaks no rule but perhaps the one on answers. A rule above the least that is broken may be
--- judged wrongly, which shows nowhere.
+-- What a query is that was checked for all of its rows: it breaks no rule but perhaps the one on
+-- answers. A rule above the least that is broken may be judged wrongly, which shows nowhere.
 use Rattle.std.specs.Prelude.{◌≡◌, ℕ, List}
 use Rattle.away_values.specs.declared.types.Ty.{Ty}
 use Rattle.away_trees.specs.declared.queries.Query.{Query}
@@ -11,14 +11,16 @@ use Rattle.away_typing.specs.RowQueries.{judged_rows}
 use Rattle.away_types.specs.CheckedQueries.{resolved_query}
 use Rattle.away_types.specs.Refusals.{IsUnbroken}
 
--- its parameters, the types of its columns, and the least rule but the one on answers that it breaks
+-- its parameters, the types of its columns, and the least rule but the one on answers that it
+-- breaks
 abbrev pub rows_judged : Schema → Query → RowsVerdict
 rows_judged s q = judged_rows s (file s q)
 
 abbrev pub rows_note : Schema → Query → Note
 rows_note s q = (rows_judged s q).note
 
--- The tree, its parameters and the types are the checked ones of a written query that breaks no rule but perhaps the one on answers under the schema.
+-- The tree, its parameters and the types are the checked ones of a written query that breaks no
+-- rule but perhaps the one on answers under the schema.
 pub record IsCheckedRows (s : Schema) (written checked : Query) (params : List (ℕ × Ty)) (columns : List Ty) : Type 0 where
   pub unbroken : IsUnbroken (rows_note s written)
   pub query : checked ≡ resolved_query s written

@@ -1,7 +1,21 @@
--- What statements break, by their numbers. A statement makes the least rule that it breaks itself a finding at its own number. Of several findings the one
--- of the lesser rule comes first, and of one rule the one of the lesser number. Numbers are counted from the first node of what is looked at, in the order of
--- the text, as the nodes of a function are.
-use Rattle.std.specs.Prelude.{ℕ, ◌+◌, Bool, ◌&&◌, ◌||◌, ◌==◌, if◌then◌else◌, nat_lt, nat_le, Option, Some, None}
+-- What statements break, by their numbers. A statement makes the least rule that it breaks itself a
+-- finding at its own number. Of several findings the one of the lesser rule comes first, and of one
+-- rule the one of the lesser number. Numbers are counted from the first node of what is looked at,
+-- in the order of the text, as the nodes of a function are.
+use Rattle.std.specs.Prelude.{
+  ℕ,
+  ◌+◌,
+  Bool,
+  ◌&&◌,
+  ◌||◌,
+  ◌==◌,
+  if◌then◌else◌,
+  nat_lt,
+  nat_le,
+  Option,
+  Some,
+  None,
+}
 use Rattle.away_names.specs.declared.note.Note.{Note}
 use Rattle.away_names.specs.declared.rule.Rule.{Rule}
 use Rattle.away_names.specs.Notes.{clean}

@@ -1,5 +1,5 @@
--- A function with what its names stand for, its slots, and the least rule that it breaks. A rule above the least may be judged wrongly, which shows
--- nowhere.
+-- A function with what its names stand for, its slots, and the least rule that it breaks. A rule
+-- above the least may be judged wrongly, which shows nowhere.
 use Rattle.std.specs.Prelude.{true, false, List, [], ◌++◌, map, fold, length}
 use Rattle.away_values.specs.declared.types.Ty.{Ty}
 use Rattle.away_trees.specs.declared.schemas.Schema.{Schema}
@@ -73,6 +73,7 @@ body_note s slots result body = asked_stmt (asked_in s slots result) body
 abbrev pub types_note : Schema → Function → Report
 types_note s f = body_note s (slots_of s f) f.result (body_of s f).it
 
--- the head is told by the number of the first node, and the nodes of the body come behind the parameters
+-- the head is told by the number of the first node, and the nodes of the body come behind the
+-- parameters
 abbrev pub function_note : Schema → Function → Report
 function_note s f = followed (own (length f.params) (head_note f)) (both (body_of s f).note (types_note s f))

@@ -1,6 +1,27 @@
--- The rules on statements, apart from those on types and aggregates: one test each, by what the rule speaks of. Names, labels and variables are as
--- they are visible at the statement; of several with one name the last, which is the innermost, counts.
-use Rattle.std.specs.Prelude.{ℕ, Bool, true, false, not, ◌&&◌, ◌||◌, if◌then◌else◌, ◌==◌, nat_le, List, map, fold, length, Option, Some, None, is_some, bytes_eq}
+-- The rules on statements, apart from those on types and aggregates: one test each, by what the
+-- rule speaks of. Names, labels and variables are as they are visible at the statement; of several
+-- with one name the last, which is the innermost, counts.
+use Rattle.std.specs.Prelude.{
+  ℕ,
+  Bool,
+  true,
+  false,
+  not,
+  ◌&&◌,
+  ◌||◌,
+  if◌then◌else◌,
+  ◌==◌,
+  nat_le,
+  List,
+  map,
+  fold,
+  length,
+  Option,
+  Some,
+  None,
+  is_some,
+  bytes_eq,
+}
 use Rattle.std.specs.List.{list_any, list_all}
 use Rattle.away_values.specs.declared.types.Ty.{Ty}
 use Rattle.away_trees.specs.declared.statements.Decl.{Decl}

@@ -1,4 +1,5 @@
--- The types that a function's statements ask of their expressions, and that no aggregate stands in these.
+-- The types that a function's statements ask of their expressions, and that no aggregate stands in
+-- these.
 use Rattle.std.specs.Prelude.{ℕ, true, not, ◌||◌, List, fold, length, Option, Some, None, slice_get}
 use Rattle.away_values.specs.declared.types.Ty.{Ty}
 use Rattle.away_values.specs.declared.types.Ty.TheVariants.{Bigint, Boolean}
@@ -28,7 +29,8 @@ pub record Asked : Type 0 where
   pub result : Ty
 
 unfoldable pub asked : Asked → Ty → Expr → Note
-asked a ty e = joined (breaks rule.Types (not (fits ty (kind_of e a.places)) || (uses_of e).limited)) (breaks rule.Aggregates (outside (uses_of e)).misused)
+asked a ty e = joined (breaks rule.Types (not (fits ty (kind_of e a.places)) ||
+    (uses_of e).limited)) (breaks rule.Aggregates (outside (uses_of e)).misused)
 
 abbrev pub maybe_asked : Asked → Ty → Option Expr → Note
 maybe_asked a ty None = clean

@@ -1,5 +1,21 @@
--- A function's statements with what their names stand for, the rules that these break, and the function's variables in the order of their text.
-use Rattle.std.specs.Prelude.{ℕ, Bool, true, false, not, List, [], ◌∷◌, ◌++◌, fold, length, Option, Some, None}
+-- A function's statements with what their names stand for, the rules that these break, and the
+-- function's variables in the order of their text.
+use Rattle.std.specs.Prelude.{
+  ℕ,
+  Bool,
+  true,
+  false,
+  not,
+  List,
+  [],
+  ◌∷◌,
+  ◌++◌,
+  fold,
+  length,
+  Option,
+  Some,
+  None,
+}
 use Rattle.away_values.specs.declared.types.Ty.{Ty}
 use Rattle.away_values.specs.declared.types.Ty.TheVariants.{Bigint}
 use Rattle.away_trees.specs.declared.queries.Expr.{Expr}
@@ -30,7 +46,14 @@ use Rattle.away_names.specs.Lookups.{Name, Scope, variable_named}
 use Rattle.away_names.specs.Naming.{written, maybe_written}
 use Rattle.away_names.specs.Trees.{named_expr}
 use Rattle.away_types.specs.Findings.{own, own_with, nothing, followed, branched as branch_reports}
-use Rattle.away_types.specs.StatementRules.{declares_twice, may_exit, may_continue, closes, lacks_default, may_raise}
+use Rattle.away_types.specs.StatementRules.{
+  declares_twice,
+  may_exit,
+  may_continue,
+  closes,
+  lacks_default,
+  may_raise,
+}
 
 -- what names see at a statement, and the blocks and loops around it, the innermost last
 pub record Spot : Type 0 where
@@ -103,10 +126,14 @@ assigned name (Some v) e = record { it = stmt.Assign name (Some v.slot) e.it; no
 -- ---- labels
 
 abbrev pub labelled : Scope → Option Name → Option Name → Note
-labelled scope label closing = joined (maybe_written scope label) (joined (maybe_written scope closing) (breaks rule.Labels (not (closes label closing))))
+labelled scope label closing = joined (maybe_written scope label)
+    (joined (maybe_written scope closing) (breaks rule.Labels (not (closes label closing))))
 
 abbrev pub within : Option Name → Bool → List Variable → Spot → Spot
-within label is_loop variables spot = record { scope = seeing variables spot.scope; around = spot.around ++ record { label = label; is_loop = is_loop } ∷ [] }
+within label is_loop variables spot = record {
+  scope = seeing variables spot.scope;
+  around = spot.around ++ record { label = label; is_loop = is_loop } ∷ [];
+}
 
 -- ---- statements
 
@@ -122,7 +149,8 @@ jump form may label when spot slots =
 -- the loop's head
 abbrev pub headed : LoopKind → Scope → Slots → Headed
 headed kind.Plain scope slots = record { it = kind.Plain; variables = scope.variables; note = clean; slots = slots }
-headed (kind.While e) scope slots = let x = named_expr e scope in record { it = kind.While x.it; variables = scope.variables; note = x.note; slots = slots }
+headed (kind.While e) scope slots = let x = named_expr e scope in
+    record { it = kind.While x.it; variables = scope.variables; note = x.note; slots = slots }
 headed (kind.Count var reverse first last step) scope slots =
     let a = named_expr first scope in
     let b = named_expr last scope in
@@ -158,7 +186,12 @@ block_with spot label decls closing declarations found xs =
 -- a loop, by its head and its statements
 abbrev pub loop_with : Spot → Option Name → Option Name → LoopKind → Note → Resolved (List Stmt) → Resolved Stmt
 loop_with spot label closing head found xs =
-    record { it = stmt.Loop label head xs.it closing; note = followed (own 1 (joined (labelled spot.scope label closing) found)) xs.note; slots = xs.slots }
+    record {
+      it = stmt.Loop label head xs.it closing;
+      note = followed
+          (own 1 (joined (labelled spot.scope label closing) found)) xs.note;
+      slots = xs.slots;
+    }
 
 abbrev pub assign_with : Spot → Name → Expr → Slots → Resolved Stmt
 assign_with spot name e slots =
@@ -170,7 +203,11 @@ raise_with r slots = record { it = stmt.Raise r; note = own 1 (breaks rule.Raise
 
 -- no reader gives INTO yet, and it has no type
 abbrev pub into_with : Bool → List (Name × Option ℕ) → Select → Slots → Resolved Stmt
-into_with strict targets query slots = record { it = stmt.Into strict targets query; note = own_with (length targets) (breaks rule.Types true); slots = slots }
+into_with strict targets query slots = record {
+  it = stmt.Into strict targets query;
+  note = own_with (length targets) (breaks rule.Types true);
+  slots = slots;
+}
 
 abbrev pub statement : Stmt-F (By Stmt) (By Arm) → By Stmt
 statement (st.Block label decls body closing) spot slots =

@@ -130,7 +130,11 @@ fn head_note(f: &Function) -> Note
 }
 
 fn verdict_of(alloc: Global, s: &Schema, f: &Function) -> Result<Verdict, NoMemory>
-    ensures { IfOk result (λ x. x ≡ record { body = (spec.body_of s.now f.now).it; slots = spec.slots_of s.now f.now; note = spec.function_note s.now f.now }) }
+    ensures { IfOk result (λ x. x ≡ record {
+      body = (spec.body_of s.now f.now).it;
+      slots = spec.slots_of s.now f.now;
+      note = spec.function_note s.now f.now;
+    }) }
 {
     let Resolved { it, note, slots } = body_of(alloc, s, f)?;
     let body = Boxed::new(alloc, it)?;

@@ -114,7 +114,8 @@ pub fn around_with(
     label: &Option<Name>,
     is_loop: bool,
 ) -> Result<Items<Around>, NoMemory>
-    ensures { IfOk result (λ all. all ≡ outer.now ++ record { label = label.now; is_loop = is_loop } ∷ []) }
+    ensures { IfOk result (λ all. all ≡ outer.now ++ record { label = label.now; is_loop = is_loop }
+        ∷ []) }
 {
     let mut all = Items::new(alloc);
     for i in 0..outer.len() {

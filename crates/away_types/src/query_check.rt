@@ -23,7 +23,10 @@ struct Verdict {
 }
 
 fn judged_tree(alloc: Global, s: &Schema, q: &Query) -> Result<Verdict, NoMemory>
-    ensures { IfOk result (λ v. v ≡ record { query = spec.resolved_query s.now q.now; judged = spec.judged_query s.now q.now }) }
+    ensures { IfOk result (λ v. v ≡ record {
+      query = spec.resolved_query s.now q.now;
+      judged = spec.judged_query s.now q.now;
+    }) }
 {
     let file = named_file(alloc, s, q)?;
     let judged = judged_file(alloc, s, &file)?;

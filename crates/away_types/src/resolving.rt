@@ -149,7 +149,8 @@ fn resolved_inside(
     spot: &Spot<'_>,
     slots: Slots,
 ) -> Result<Resolved<Items<Stmt>>, NoMemory>
-    ensures { IfOk result (λ x. x ≡ bodies.resolved_body (spec.within label.now is_loop variables.now (spot_of spot.now)) slots body.now) }
+    ensures { IfOk result (λ x. x ≡ bodies.resolved_body
+        (spec.within label.now is_loop variables.now (spot_of spot.now)) slots body.now) }
 {
     let around = around_with(alloc, spot.around, label, is_loop)?;
     let inner = Spot {

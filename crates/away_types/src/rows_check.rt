@@ -24,7 +24,8 @@ struct Verdict {
 }
 
 fn judged_tree(alloc: Global, s: &Schema, q: &Query) -> Result<Verdict, NoMemory>
-    ensures { IfOk result (λ v. v ≡ record { query = resolved_query s.now q.now; judged = spec.rows_judged s.now q.now }) }
+    ensures { IfOk result (λ v. v ≡
+        record { query = resolved_query s.now q.now; judged = spec.rows_judged s.now q.now }) }
 {
     let file = named_file(alloc, s, q)?;
     let judged = judged_rows(alloc, s, &file)?;

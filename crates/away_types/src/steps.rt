@@ -65,7 +65,8 @@ fn block_report(
 ) -> Result<Report, NoMemory>
     ensures { IfOk result (λ r. r ≡ findings.followed
         (findings.own_with (length decls.now)
-        (notes.joined (notes.joined (spec.labelled (scope spot.now.scope) label.now closing.now) (notes.breaks rule.Duplicates (rules.declares_twice decls.now)))
+        (notes.joined (notes.joined (spec.labelled (scope spot.now.scope) label.now closing.now)
+        (notes.breaks rule.Duplicates (rules.declares_twice decls.now)))
         found))
         body) }
 {
@@ -87,7 +88,11 @@ fn block_by(
     report: Report,
     body: Resolved<Items<Stmt>>,
 ) -> Result<Resolved<Stmt>, NoMemory>
-    ensures { IfOk result (λ x. x ≡ record { it = stmt.Block label.now head body.it closing.now; note = report; slots = body.slots }) }
+    ensures { IfOk result (λ x. x ≡ record {
+      it = stmt.Block label.now head body.it closing.now;
+      note = report;
+      slots = body.slots;
+    }) }
 {
     let Resolved {
         it: statements,
@@ -116,7 +121,8 @@ pub fn block_of(
     note: Note,
     body: Resolved<Items<Stmt>>,
 ) -> Result<Resolved<Stmt>, NoMemory>
-    ensures { IfOk result (λ x. x ≡ spec.block_with (spot_of spot.now) label.now decls.now closing.now head note body) }
+    ensures { IfOk result (λ x. x
+        ≡ spec.block_with (spot_of spot.now) label.now decls.now closing.now head note body) }
 {
     let report = block_report(spot, label, decls, closing, note, body.note)?;
     block_by(alloc, label, closing, head, report, body)
@@ -130,7 +136,11 @@ fn loop_by(
     report: Report,
     body: Resolved<Items<Stmt>>,
 ) -> Result<Resolved<Stmt>, NoMemory>
-    ensures { IfOk result (λ x. x ≡ record { it = stmt.Loop label.now head body.it closing.now; note = report; slots = body.slots }) }
+    ensures { IfOk result (λ x. x ≡ record {
+      it = stmt.Loop label.now head body.it closing.now;
+      note = report;
+      slots = body.slots;
+    }) }
 {
     let label = copy_alias(alloc, label)?;
     let closing = copy_alias(alloc, closing)?;
@@ -156,7 +166,8 @@ pub fn loop_of(
     found: Note,
     body: Resolved<Items<Stmt>>,
 ) -> Result<Resolved<Stmt>, NoMemory>
-    ensures { IfOk result (λ x. x ≡ spec.loop_with (spot_of spot.now) label.now closing.now head found body) }
+    ensures { IfOk result (λ x. x
+        ≡ spec.loop_with (spot_of spot.now) label.now closing.now head found body) }
 {
     let own = own(1, joined(labelled(&spot.scope, label, closing), found));
     let report = followed(own, body.note)?;
@@ -193,7 +204,8 @@ pub fn exit_of(
     when: &Option<Expr>,
     slots: Slots,
 ) -> Result<Resolved<Stmt>, NoMemory>
-    ensures { IfOk result (λ x. x ≡ spec.jump (λ label when. stmt.Exit label when) rules.may_exit label.now when.now (spot_of spot.now) slots) }
+    ensures { IfOk result (λ x. x ≡ spec.jump (λ label when.
+        stmt.Exit label when) rules.may_exit label.now when.now (spot_of spot.now) slots) }
 {
     let test = named_maybe(alloc, when, &spot.scope)?;
     Ok(Resolved {
@@ -219,7 +231,10 @@ pub fn continue_of(
     when: &Option<Expr>,
     slots: Slots,
 ) -> Result<Resolved<Stmt>, NoMemory>
-    ensures { IfOk result (λ x. x ≡ spec.jump (λ label when. stmt.Continue label when) rules.may_continue label.now when.now (spot_of spot.now) slots) }
+    ensures { IfOk result (λ x. x
+        ≡ spec.jump (λ label when.
+        stmt.Continue label when) rules.may_continue label.now when.now
+        (spot_of spot.now) slots) }
 {
     let test = named_maybe(alloc, when, &spot.scope)?;
     Ok(Resolved {

@@ -1,7 +1,37 @@
 -- Where aggregates stand in a tree whose names are resolved, and which columns stand outside them.
-use Rattle.std.specs.Prelude.{ℕ, suc, Bool, true, false, not, ◌&&◌, ◌||◌, if◌then◌else◌, ◌==◌, nat_lt, List, [], ◌∷◌, map, fold, Option, Some, None, option_and_then}
+use Rattle.std.specs.Prelude.{
+  ℕ,
+  suc,
+  Bool,
+  true,
+  false,
+  not,
+  ◌&&◌,
+  ◌||◌,
+  if◌then◌else◌,
+  ◌==◌,
+  nat_lt,
+  List,
+  [],
+  ◌∷◌,
+  map,
+  fold,
+  Option,
+  Some,
+  None,
+  option_and_then,
+}
 use Rattle.std.specs.List.{list_any}
-use Rattle.away_trees.specs.declared.queries.Expr.TheOpen.{Expr-F, Source-F, FromItem-F, Item-F, Key-F, Select-F, Recursive-F, Query-F}
+use Rattle.away_trees.specs.declared.queries.Expr.TheOpen.{
+  Expr-F,
+  Source-F,
+  FromItem-F,
+  Item-F,
+  Key-F,
+  Select-F,
+  Recursive-F,
+  Query-F,
+}
 use Rattle.away_trees.specs.declared.queries.Expr.TheOpen as ex
 use Rattle.away_trees.specs.Algebra.{Algebra}
 use Rattle.away_trees.specs.AlgebraEquations.{algebra}
@@ -32,7 +62,8 @@ of_slot = record unused { foreign = true }
 unfoldable pub of_column : ℕ → Uses
 of_column level = record unused { own = level == 0; foreign = nat_lt 0 level; free = level == 0 }
 
--- An aggregate may have no aggregate and no subquery in its argument, and no variable or outer column there without one of its own.
+-- An aggregate may have no aggregate and no subquery in its argument, and no variable or outer
+-- column there without one of its own.
 unfoldable pub aggregated : Uses → Uses
 aggregated u = record u { aggregate = true; free = false; misused = u.misused || (u.aggregate || (u.query || (u.foreign && not u.own))) }
 
@@ -55,7 +86,8 @@ apart u = record unused { misused = u.misused; limited = u.limited }
 unfoldable pub outside : Uses → Uses
 outside u = record unused { misused = u.misused || u.aggregate; limited = u.limited }
 
--- a select by its list, its keys and all else; with aggregates it has no ORDER BY, and no column of its own outside them
+-- a select by its list, its keys and all else; with aggregates it has no ORDER BY, and no column of
+-- its own outside them
 unfoldable pub of_select : Uses → Bool → Uses → Bool → Uses
 of_select list ordered rest own_limit =
     record unused {
@@ -71,7 +103,8 @@ abbrev pub is_some_of : {A : Type 0} → List A → Bool
 is_some_of [] = false
 is_some_of (x ∷ xs) = true
 
--- by what its list, its FROM, its condition, its keys and its LIMIT use, and whether LIMIT has a column of its own select
+-- by what its list, its FROM, its condition, its keys and its LIMIT use, and whether LIMIT has a
+-- column of its own select
 abbrev pub select_uses : Uses → Uses → Uses → Uses → Uses → Bool → Bool → Uses
 select_uses list from filter order limit ordered own_limit =
     of_select list ordered (either from (either (outside filter) (either (outside order) (outside limit)))) own_limit

@@ -1,5 +1,6 @@
--- The types that an expression may have. The literal NULL stands above the types, and what has no type below them; `meet` is the common type of two
--- operands. A sum stands apart: it is no operand, and only a cast to bigint takes it.
+-- The types that an expression may have. The literal NULL stands above the types, and what has no
+-- type below them; `meet` is the common type of two operands. A sum stands apart: it is no operand,
+-- and only a cast to bigint takes it.
 use Rattle.std.specs.Prelude.{Bool, true, false, not, ◌&&◌, ◌||◌, if◌then◌else◌, List, fold}
 use Rattle.away_values.specs.declared.types.Ty.{Ty}
 use Rattle.away_values.specs.declared.types.Ty.TheVariants.{Bigint, Boolean, Text, Integer}

@@ -9,7 +9,12 @@ use Rattle.away_trees.specs.declared.queries.Select.{Select}
 use Rattle.away_trees.specs.declared.queries.Source.{Source}
 use Rattle.away_trees.specs.declared.queries.Query.{Query}
 use Rattle.away_trees.specs.declared.queries.Recursive.{Recursive}
-use Rattle.away_trees.specs.declared.queries.Expr.TheViews.{out-Item, out-Key, out-FromItem, out-Recursive}
+use Rattle.away_trees.specs.declared.queries.Expr.TheViews.{
+  out-Item,
+  out-Key,
+  out-FromItem,
+  out-Recursive,
+}
 use Rattle.away_trees.specs.Algebra.{expr_of, source_of, select_of, query_of}
 use Rattle.away_typing.specs.declared.params.Params.{Params}
 use Rattle.away_typing.specs.Parameters.{finding, no_params}

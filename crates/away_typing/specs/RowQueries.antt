@@ -1,4 +1,5 @@
--- A whole query whose names are resolved by all of its columns, whatever rows it gives: what it breaks of every rule but the one on answers.
+-- A whole query whose names are resolved by all of its columns, whatever rows it gives: what it
+-- breaks of every rule but the one on answers.
 use Rattle.std.specs.Prelude.{not, List, is_some}
 use Rattle.away_trees.specs.declared.schemas.Schema.{Schema}
 use Rattle.away_trees.specs.declared.queries.Expr.TheViews.{out-Query}
@@ -26,6 +27,7 @@ rows_by f r =
       columns = types_or_none shape;
     }
 
--- the least rule but the one on answers that a query breaks, its parameters, and the types of its columns
+-- the least rule but the one on answers that a query breaks, its parameters, and the types of its
+-- columns
 unfoldable pub judged_rows : Schema → File → RowsVerdict
 judged_rows s f = rows_by f (recursion s f.first.refers f.second.refers (out-Query f.query).recursive)

@@ -8,7 +8,15 @@ use Rattle.away_trees.specs.declared.queries.Item.{Item}
 use Rattle.away_trees.specs.declared.queries.Key.{Key}
 use Rattle.away_trees.specs.declared.queries.Select.{Select}
 use Rattle.away_trees.specs.declared.queries.Query.{Query}
-use Rattle.away_trees.specs.Algebra.{expr_of, source_of, from_of, item_of, key_of, query_of, select_of}
+use Rattle.away_trees.specs.Algebra.{
+  expr_of,
+  source_of,
+  from_of,
+  item_of,
+  key_of,
+  query_of,
+  select_of,
+}
 use Rattle.away_typing.specs.declared.kind.Kind.{Kind}
 use Rattle.away_typing.specs.declared.uses.Uses.{Uses}
 use Rattle.away_typing.specs.Aggregates.{using_}

@@ -1,5 +1,34 @@
--- The types of a tree whose names are resolved, by its slots, the columns of the selects around it and the tables.
-use Rattle.std.specs.Prelude.{ℕ, zero, suc, ◌+◌, Bool, true, false, not, ◌&&◌, ◌||◌, if◌then◌else◌, ◌==◌, List, [], ◌∷◌, ◌++◌, map, fold, length, slice_get, slice_index_or, Option, Some, None, option_map, option_and_then, is_some}
+-- The types of a tree whose names are resolved, by its slots, the columns of the selects around it
+-- and the tables.
+use Rattle.std.specs.Prelude.{
+  ℕ,
+  zero,
+  suc,
+  ◌+◌,
+  Bool,
+  true,
+  false,
+  not,
+  ◌&&◌,
+  ◌||◌,
+  if◌then◌else◌,
+  ◌==◌,
+  List,
+  [],
+  ◌∷◌,
+  ◌++◌,
+  map,
+  fold,
+  length,
+  slice_get,
+  slice_index_or,
+  Option,
+  Some,
+  None,
+  option_map,
+  option_and_then,
+  is_some,
+}
 use Rattle.std.specs.List.{list_all, list_any}
 use Rattle.std.specs.Str.Parse.{digits_value}
 use Rattle.away_values.specs.declared.types.Ty.{Ty}
@@ -9,7 +38,16 @@ use Rattle.away_values.specs.declared.operators.ChainOp.{ChainOp}
 use Rattle.away_values.specs.declared.operators.ChainOp.TheVariants as chain
 use Rattle.away_values.specs.declared.operators.IsTest.{IsTest}
 use Rattle.away_values.specs.declared.operators.IsTest.TheVariants as test
-use Rattle.away_trees.specs.declared.queries.Expr.TheOpen.{Expr-F, Source-F, FromItem-F, Item-F, Key-F, Select-F, Recursive-F, Query-F}
+use Rattle.away_trees.specs.declared.queries.Expr.TheOpen.{
+  Expr-F,
+  Source-F,
+  FromItem-F,
+  Item-F,
+  Key-F,
+  Select-F,
+  Recursive-F,
+  Query-F,
+}
 use Rattle.away_trees.specs.declared.queries.Expr.TheOpen as ex
 use Rattle.away_trees.specs.Algebra.{Algebra}
 use Rattle.away_trees.specs.AlgebraEquations.{algebra}
@@ -17,7 +55,17 @@ use Rattle.away_typing.specs.declared.kind.Kind.{Kind}
 use Rattle.away_typing.specs.declared.kind.Kind.TheVariants.{Null, Of, Sum, Wrong}
 use Rattle.away_names.specs.declared.function.Known.{Known}
 use Rattle.away_names.specs.declared.function.Known.TheVariants as known
-use Rattle.away_typing.specs.Kinds.{same, only_if, meet, common, fits, is_right, of_type, settled, type_of}
+use Rattle.away_typing.specs.Kinds.{
+  same,
+  only_if,
+  meet,
+  common,
+  fits,
+  is_right,
+  of_type,
+  settled,
+  type_of,
+}
 use Rattle.away_names.specs.Functions.{function}
 
 -- ---- where things stand
@@ -69,7 +117,8 @@ kind_at None = Wrong
 kind_at (Some t) = of_type t
 
 unfoldable pub column : List Frame → Col → Kind
-column frames c = kind_at (option_and_then (λ item. slice_get item c.column) (option_and_then (λ frame. slice_get frame c.item) (slice_get frames c.level)))
+column frames c = kind_at (option_and_then (λ item. slice_get item c.column)
+    (option_and_then (λ frame. slice_get frame c.item) (slice_get frames c.level)))
 
 unfoldable pub pair : ChainOp → Kind → Kind → Kind
 pair chain.Or a b = only_if (fits Boolean a && fits Boolean b) (Of Boolean)
@@ -210,7 +259,8 @@ select_kinds list filter order limit =
 abbrev pub listing : Select-F Term Origin Part Term Term Whole Terms Listing → Listing
 listing s p =
     option_and_then
-    (λ frame. let q = inside frame p in select_kinds (kinds q s.list) (option_map (λ t. t q) s.filter) (kinds q s.order) (option_map (λ t. t q) s.limit))
+    (λ frame. let q = inside frame p in select_kinds (kinds q s.list)
+    (option_map (λ t. t q) s.filter) (kinds q s.order) (option_map (λ t. t q) s.limit))
     (framed p s.from [])
 
 -- ---- UNION ALL, place by place

@@ -11,10 +11,22 @@ use Rattle.away_trees.specs.declared.queries.Source.{Source}
 use Rattle.away_trees.specs.declared.queries.Query.{Query}
 use Rattle.away_trees.specs.declared.queries.Recursive.{Recursive}
 use Rattle.away_trees.specs.declared.queries.Expr.TheOpen.{Select-F}
-use Rattle.away_trees.specs.declared.queries.Expr.TheViews.{out-Item, out-Key, out-FromItem, out-Recursive}
+use Rattle.away_trees.specs.declared.queries.Expr.TheViews.{
+  out-Item,
+  out-Key,
+  out-FromItem,
+  out-Recursive,
+}
 use Rattle.away_typing.specs.declared.uses.Uses.{Uses}
 use Rattle.away_typing.specs.Aggregates.{unused, either, or_, apart, select_uses, is_some_of}
-use Rattle.away_typing.specs.Trees.{uses_of, uses_of_source, uses_of_select, names_at, source_names_at, select_names_at}
+use Rattle.away_typing.specs.Trees.{
+  uses_of,
+  uses_of_source,
+  uses_of_select,
+  names_at,
+  source_names_at,
+  select_names_at,
+}
 
 -- ---- names
 

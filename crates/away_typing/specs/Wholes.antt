@@ -1,5 +1,25 @@
 -- The types, aggregates and parameters of a whole query whose names are resolved.
-use Rattle.std.specs.Prelude.{Bool, true, false, not, ◌&&◌, ◌||◌, if◌then◌else◌, ◌==◌, List, [], ◌∷◌, ◌++◌, map, length, Option, Some, None, is_some, bytes_eq}
+use Rattle.std.specs.Prelude.{
+  Bool,
+  true,
+  false,
+  not,
+  ◌&&◌,
+  ◌||◌,
+  if◌then◌else◌,
+  ◌==◌,
+  List,
+  [],
+  ◌∷◌,
+  ◌++◌,
+  map,
+  length,
+  Option,
+  Some,
+  None,
+  is_some,
+  bytes_eq,
+}
 use Rattle.std.specs.List.{list_any}
 use Rattle.away_values.specs.declared.types.Ty.{Ty}
 use Rattle.away_values.specs.declared.types.Ty.TheVariants.{Bigint, Text}
@@ -11,7 +31,12 @@ use Rattle.away_trees.specs.declared.queries.Expr.TheBlock as b
 use Rattle.away_trees.specs.declared.queries.Select.{Select}
 use Rattle.away_trees.specs.declared.queries.Recursive.{Recursive}
 use Rattle.away_trees.specs.declared.queries.Query.{Query}
-use Rattle.away_trees.specs.declared.queries.Expr.TheViews.{out-Query, out-Recursive, out-Select, out-FromItem}
+use Rattle.away_trees.specs.declared.queries.Expr.TheViews.{
+  out-Query,
+  out-Recursive,
+  out-Select,
+  out-FromItem,
+}
 use Rattle.away_names.specs.declared.rule.Rule.TheVariants as rule
 use Rattle.away_names.specs.declared.note.File.{File}
 use Rattle.away_names.specs.declared.note.Note.{Note}
@@ -66,8 +91,8 @@ unfoldable pub is_once : Times → Bool
 is_once Once = true
 is_once _ = false
 
--- A column of the recursive table has the type of the first term's column at its place. Where the first term names the table
--- or has no such column, it is bigint.
+-- A column of the recursive table has the type of the first term's column at its place. Where the
+-- first term names the table or has no such column, it is bigint.
 unfoldable pub recursive_types : Times → List Name → Shape → List Ty
 recursive_types first columns shape = padded columns (if is_never first then types_or_none shape else [])
 
@@ -94,7 +119,8 @@ unfoldable pub fits_shape : List Ty → Option (List Kind) → Bool
 fits_shape ts None = false
 fits_shape ts (Some ks) = all_fit ts ks
 
--- the first term doesn't name the recursive table; the second names it once, as an item of its own FROM, and is plain; both have the columns of the list
+-- the first term doesn't name the recursive table; the second names it once, as an item of its own
+-- FROM, and is plain; both have the columns of the list
 abbrev pub is_recursion : Times → Times → Recursive → Shape → Option (List Kind) → Bool
 is_recursion first second r shape kinds =
     is_never first
@@ -110,7 +136,8 @@ recursion_by s first second r shape =
     let kinds = kinds_of_select (out-Recursive r).second (over_tables tables) in
     record {
       tables = tables;
-      note = joined (breaks rule.Types (not (is_some shape && is_some kinds))) (breaks rule.Recursion (not (is_recursion first second r shape kinds)));
+      note = joined (breaks rule.Types (not (is_some shape && is_some kinds)))
+          (breaks rule.Recursion (not (is_recursion first second r shape kinds)));
     }
 
 abbrev pub recursion : Schema → Times → Times → Option Recursive → Recursion

@@ -21,7 +21,8 @@ pub fn nested<'a>(
     frame: &'a Items<Items<Ty>>,
     outer: &[&'a Items<Items<Ty>>],
 ) -> Result<Vec<&'a Items<Items<Ty>>>, AllocError>
-    ensures { IfOk result (λ all. map (λ l. l.now) all.items ≡ frame.now ∷ map (λ l. l.now) outer.now) }
+    ensures { IfOk result (λ all. map (λ l. l.now) all.items ≡ frame.now
+        ∷ map (λ l. l.now) outer.now) }
 {
     let mut all = Vec::new(alloc);
     all.push(frame)?;
@@ -82,7 +83,8 @@ fn digit_value(b: u8) -> u128
 /// The place that the digits spell, where it is below the length.
 #[tactic(auto, using(crate::proofs::TypingRules::digits_grow))]
 fn place_below(digits: &[u8], length: usize) -> Option<usize>
-    ensures { MatchOption result (length ≤ digits_value 10 digits.now) (λ i. i ≡ digits_value 10 digits.now) }
+    ensures { MatchOption result (length ≤ digits_value 10 digits.now)
+        (λ i. i ≡ digits_value 10 digits.now) }
 {
     let mut v: u128 = 0;
     let mut rest = digits;

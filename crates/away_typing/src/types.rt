@@ -242,7 +242,8 @@ fn kinds_over(
     frame: &Items<Items<Ty>>,
     p: &Places<'_>,
 ) -> Result<Option<Items<Kind>>, NoMemory>
-    ensures { IfOk result (λ ks. ks ≡ lists.kinds_over (out-Select select.now) (inside frame.now (places p.now))) }
+    ensures { IfOk result (λ ks. ks ≡ lists.kinds_over (out-Select select.now)
+        (inside frame.now (places p.now))) }
 {
     let frames = nested(alloc, frame, p.frames)?;
     let inner = Places {
@@ -332,7 +333,8 @@ fn source_shape(
     p: &Places<'_>,
     frame: &Items<Items<Ty>>,
 ) -> Result<Option<Items<Ty>>, NoMemory>
-    ensures { IfOk result (λ s. s ≡ trees.shape_of_source source.now columns.now (places p.now) frame.now) }
+    ensures { IfOk result (λ s. s ≡ trees.shape_of_source source.now columns.now
+        (places p.now) frame.now) }
 {
     match source {
         Source::Table(_) => table_shape(alloc, p.tables, columns),
@@ -352,7 +354,8 @@ fn shape_beside(
     p: &Places<'_>,
     frame: &Items<Items<Ty>>,
 ) -> Result<Option<Items<Ty>>, NoMemory>
-    ensures { IfOk result (λ s. s ≡ trees.shape_of_query q.now (inside (spec.before lateral frame.now) (places p.now))) }
+    ensures { IfOk result (λ s. s
+        ≡ trees.shape_of_query q.now (inside (spec.before lateral frame.now) (places p.now))) }
 {
     let empty = Items::new(alloc);
     let frames = nested(alloc, before(lateral, frame, &empty), p.frames)?;

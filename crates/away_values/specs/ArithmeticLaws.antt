@@ -1,5 +1,19 @@
 -- What arithmetic on bigints gives, by whole numbers.
-use Rattle.std.specs.Prelude.{◌≡◌, ◌<◌, ℤ, pos, negsuc, ◌+ℤ◌, ◌-ℤ◌, ◌*ℤ◌, ◌≤ℤ◌, unsigned_abs, Ok, Err, codes}
+use Rattle.std.specs.Prelude.{
+  ◌≡◌,
+  ◌<◌,
+  ℤ,
+  pos,
+  negsuc,
+  ◌+ℤ◌,
+  ◌-ℤ◌,
+  ◌*ℤ◌,
+  ◌≤ℤ◌,
+  unsigned_abs,
+  Ok,
+  Err,
+  codes,
+}
 use Rattle.away_values.specs.declared.values.Value.{Value}
 use Rattle.away_values.specs.declared.values.Value.TheVariants as val
 use Rattle.away_values.specs.declared.operators.IntOp.TheVariants as int
@@ -21,8 +35,8 @@ pub record IsExact : Type 0 where
   pub difference : (a b : ℤ) → IsExactly (a -ℤ b) (int_op int.Sub (val.Int a) (val.Int b))
   pub product : (a b : ℤ) → IsExactly (a *ℤ b) (int_op int.Mul (val.Int a) (val.Int b))
 
--- q and r are the quotient and the remainder of a by b: the quotient is rounded toward zero, so that the remainder has the
--- sign of a and is nearer to zero than b
+-- q and r are the quotient and the remainder of a by b: the quotient is rounded toward zero, so
+-- that the remainder has the sign of a and is nearer to zero than b
 pub record IsDivision (a b q r : ℤ) : Type 0 where
   pub whole : (q *ℤ b) +ℤ r ≡ a
   pub nearer : unsigned_abs r < unsigned_abs b

@@ -1,5 +1,21 @@
 -- What a class of faults is (PostgreSQL manual, appendix PostgreSQL Error Codes).
-use Rattle.std.specs.Prelude.{◌≡◌, ℕ, Bool, true, not, ◌&&◌, ◌||◌, ◌==◌, nat_le, List, length, Ok, Err, codes, bytes_eq}
+use Rattle.std.specs.Prelude.{
+  ◌≡◌,
+  ℕ,
+  Bool,
+  true,
+  not,
+  ◌&&◌,
+  ◌||◌,
+  ◌==◌,
+  nat_le,
+  List,
+  length,
+  Ok,
+  Err,
+  codes,
+  bytes_eq,
+}
 use Rattle.std.specs.List.{list_all}
 use Rattle.away_values.specs.Results.{Or}
 

@@ -1,8 +1,40 @@
 -- What each operator gives, as the PostgreSQL manual says it. A text is its list of code points.
 --
--- Operands of types that an operator doesn't take never stand in a checked tree. For these the definitions give NULL, or
--- what is shortest to say.
-use Rattle.std.specs.Prelude.{ℕ, ◌^◌, Bool, true, false, not, ◌&&◌, ◌||◌, if◌then◌else◌, ◌==◌, nat_lt, nat_le, ℤ, pos, negsuc, ◌+ℤ◌, ◌-ℤ◌, ◌*ℤ◌, neg_ℤ, int_lt, int_div, int_rem, List, [], ◌∷◌, ◌++◌, length, sum_by, Ok, Err, codes}
+-- Operands of types that an operator doesn't take never stand in a checked tree. For these the
+-- definitions give NULL, or what is shortest to say.
+use Rattle.std.specs.Prelude.{
+  ℕ,
+  ◌^◌,
+  Bool,
+  true,
+  false,
+  not,
+  ◌&&◌,
+  ◌||◌,
+  if◌then◌else◌,
+  ◌==◌,
+  nat_lt,
+  nat_le,
+  ℤ,
+  pos,
+  negsuc,
+  ◌+ℤ◌,
+  ◌-ℤ◌,
+  ◌*ℤ◌,
+  neg_ℤ,
+  int_lt,
+  int_div,
+  int_rem,
+  List,
+  [],
+  ◌∷◌,
+  ◌++◌,
+  length,
+  sum_by,
+  Ok,
+  Err,
+  codes,
+}
 use Rattle.std.specs.Fmt.{signed_decimal}
 use Rattle.std.specs.Ordering.{int_eq}
 use Rattle.away_values.specs.declared.values.Value.{Value}
@@ -20,7 +52,8 @@ use Rattle.away_values.specs.declared.operators.IsTest.TheVariants as test
 use Rattle.away_values.specs.Results.{Or, class}
 use Rattle.away_values.specs.Words.{longest_text}
 
--- ---- arithmetic (Mathematical Functions and Operators; the classes are those of the appendix PostgreSQL Error Codes)
+-- ---- arithmetic (Mathematical Functions and Operators; the classes are those of the appendix
+-- PostgreSQL Error Codes)
 
 -- from -2^63 to 2^63 - 1, the range of bigint (Numeric Types, Integer Types)
 abbrev pub fits : ℤ → Bool
@@ -35,8 +68,9 @@ ranged n = if fits n then Ok (val.Int n) else Err (class (codes "22003"))
 abbrev pub unless_zero : ℤ → Or Value → Or Value
 unless_zero b other = if int_eq b (pos 0) then Err (class (codes "22012")) else other
 
--- The operation on whole numbers, and then the test of range. Division rounds toward zero, and the remainder has the sign
--- of the dividend: so the least bigint divided by -1 is out of range, and its remainder by -1 is 0.
+-- The operation on whole numbers, and then the test of range. Division rounds toward zero, and the
+-- remainder has the sign of the dividend: so the least bigint divided by -1 is out of range, and
+-- its remainder by -1 is 0.
 abbrev pub int_result : IntOp → ℤ → ℤ → Or Value
 int_result int.Add a b = ranged (a +ℤ b)
 int_result int.Sub a b = ranged (a -ℤ b)
@@ -56,15 +90,15 @@ negated _ = Ok val.Null
 
 -- ---- comparison (Comparison Functions and Operators)
 
--- Texts compare by code point, and a text comes before its own continuations. That is our own choice: PostgreSQL goes by
--- the collation, and this is what its collation C does with UTF-8.
+-- Texts compare by code point, and a text comes before its own continuations. That is our own
+-- choice: PostgreSQL goes by the collation, and this is what its collation C does with UTF-8.
 abbrev pub text_less : List ℕ → List ℕ → Bool
 text_less _ [] = false
 text_less [] (b ∷ bs) = true
 text_less (a ∷ as_) (b ∷ bs) = nat_lt a b || (a == b && text_less as_ bs)
 
--- The order of the values of one type that are there: numbers as they are, false before true (Data Types, Boolean Type),
--- texts by code point.
+-- The order of the values of one type that are there: numbers as they are, false before true (Data
+-- Types, Boolean Type), texts by code point.
 abbrev pub less : Value → Value → Bool
 less (val.Int a) (val.Int b) = int_lt a b
 less (val.Bool a) (val.Bool b) = not a && b
@@ -128,8 +162,8 @@ passes test.False = is_false
 abbrev pub bytes_of : ℕ → ℕ
 bytes_of c = if nat_lt c 128 then 1 else (if nat_lt c 2048 then 2 else (if nat_lt c 65536 then 3 else 4))
 
--- What a cast to text and `||` write of a value that is there: decimal digits, after `-` where negative; `true` or `false`
--- (Data Types, Boolean Type); the text itself.
+-- What a cast to text and `||` write of a value that is there: decimal digits, after `-` where
+-- negative; `true` or `false` (Data Types, Boolean Type); the text itself.
 abbrev pub text_of_value : Value → List ℕ
 text_of_value val.Null = []
 text_of_value (val.Int n) = signed_decimal n
@@ -174,13 +208,15 @@ abbrev pub part : ℤ → ℤ → ℤ → List ℕ → List ℕ
 part p end at [] = []
 part p end at (c ∷ cs) = if not (int_lt at p) && int_lt at end then c ∷ part p end (at +ℤ pos 1) cs else part p end (at +ℤ pos 1) cs
 
--- `substr(t, p, n)`: the characters at the places p ≤ k < p + n, of which the first of the text is 1. The sum p + n is a
--- whole number and has no bound. A negative n raises 22011, substring_error. Arguments of 64 bits are our own choice.
+-- `substr(t, p, n)`: the characters at the places p ≤ k < p + n, of which the first of the text is
+-- 1. The sum p + n is a whole number and has no bound. A negative n raises 22011, substring_error.
+-- Arguments of 64 bits are our own choice.
 abbrev pub substr : Value → Value → Value → Or Value
 substr (val.Text t) (val.Int p) (val.Int n) = if int_lt n (pos 0) then Err (class (codes "22011")) else Ok (val.Text (part p (p +ℤ n) (pos 1) t))
 substr _ _ _ = Ok val.Null
 
--- the operators on texts, by their operands; another number of operands never stands in a checked tree
+-- the operators on texts, by their operands; another number of operands never stands in a checked
+-- tree
 abbrev pub text_op : TextOp → List Value → Or Value
 text_op text.Concat (a ∷ b ∷ []) = concat a b
 text_op text.Length (t ∷ []) = Ok (length_of t)

@@ -12,8 +12,8 @@ use Rattle.away_values.specs.Values.{IsThere}
 abbrev pub Holds : CmpOp → Value → Value → Type 0
 Holds op a b = compare op a b ≡ val.Bool true
 
--- `<=` is a total order on the values of the type that are there, and the other five comparisons are that order's. Each is
--- true or false, and never NULL.
+-- `<=` is a total order on the values of the type that are there, and the other five comparisons
+-- are that order's. Each is true or false, and never NULL.
 pub record IsOrdered (t : Ty) : Type 0 where
   pub decided : (op : CmpOp) (a b : Value) → IsThere t a → IsThere t b → (compare op a b ≡ val.Bool true) ⊎ (compare op a b ≡ val.Bool false)
   pub total : (a b : Value) → IsThere t a → IsThere t b → Holds cmp.Le a b ⊎ Holds cmp.Le b a
@@ -31,9 +31,12 @@ Continues a b = (y : ℕ) × ((ys : List ℕ) × (b ≡ a ++ (y ∷ ys)))
 
 -- at the first place where the texts differ, a has the lesser code point
 abbrev pub FirstDiffersBelow : List ℕ → List ℕ → Type 0
-FirstDiffersBelow a b = (p : List ℕ) × ((x : ℕ) × ((xs : List ℕ) × ((y : ℕ) × ((ys : List ℕ) × ((a ≡ p ++ (x ∷ xs)) × (b ≡ p ++ (y ∷ ys)) × (x < y))))))
+FirstDiffersBelow a b = (p : List ℕ)
+    × ((x : ℕ) × ((xs : List ℕ)
+    × ((y : ℕ) × ((ys : List ℕ) × ((a ≡ p ++ (x ∷ xs)) × (b ≡ p ++ (y ∷ ys)) × (x < y))))))
 
--- Which order it is: numbers by their values, false before true, texts by the first code point in which they differ.
+-- Which order it is: numbers by their values, false before true, texts by the first code point in
+-- which they differ.
 pub record IsTheOrder : Type 0 where
   pub numbers : (a b : ℤ) → (Holds cmp.Lt (val.Int a) (val.Int b)) ↔ (a <ℤ b)
   pub truth : Holds cmp.Lt (val.Bool false) (val.Bool true)

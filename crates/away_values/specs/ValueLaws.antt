@@ -4,7 +4,16 @@ use Rattle.away_values.specs.declared.values.Value.{Value}
 use Rattle.away_values.specs.declared.operators.IntOp.{IntOp}
 use Rattle.away_values.specs.declared.operators.CmpOp.{CmpOp}
 use Rattle.away_values.specs.declared.types.Ty.TheVariants as ty
-use Rattle.away_values.specs.Operators.{int_op, negated, compare, concat, cast, length_of, small, substr}
+use Rattle.away_values.specs.Operators.{
+  int_op,
+  negated,
+  compare,
+  concat,
+  cast,
+  length_of,
+  small,
+  substr,
+}
 use Rattle.away_values.specs.Values.{HasType, IsValue}
 
 -- The result of each operator, where it isn't a class, is NULL or a value of the operator's type.

@@ -9,7 +9,8 @@ use Rattle.away_values.specs.declared.types.Ty.TheVariants as ty
 use Rattle.away_values.specs.Operators.{fits, fits_small, bytes_of, is_null}
 use Rattle.away_values.specs.Words.{longest_text}
 
--- A text is a list of code points without 0 that UTF-8 writes in no more bytes than the longest has.
+-- A text is a list of code points without 0 that UTF-8 writes in no more bytes than the longest
+-- has.
 pub record IsTextValue (t : List ℕ) : Type 0 where
   pub characters : all_scalars t ≡ true
   pub no_zero : list_all (λ c. not (eqb c 0)) t ≡ true

@@ -1,5 +1,19 @@
 -- What a name and a text are, of their bytes.
-use Rattle.std.specs.Prelude.{◌≡◌, ℕ, Bool, true, ◌&&◌, ◌||◌, not, nat_le, eqb, List, length, ◌≤◌, ◌<◌}
+use Rattle.std.specs.Prelude.{
+  ◌≡◌,
+  ℕ,
+  Bool,
+  true,
+  ◌&&◌,
+  ◌||◌,
+  not,
+  nat_le,
+  eqb,
+  List,
+  length,
+  ◌≤◌,
+  ◌<◌,
+}
 use Rattle.std.specs.List.{list_all}
 
 -- the characters of the longest name

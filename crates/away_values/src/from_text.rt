@@ -11,7 +11,8 @@ use std::alloc::Global;
 /// The text as a word, or None where it is longer than a text may be or contains U+0000. PostgreSQL has no U+0000 in a text
 /// either (PostgreSQL manual, 8.3, Character Types).
 pub fn word(alloc: Global, text: &str) -> Result<Option<Word>, NoMemory>
-    ensures { IfOk result (λ found. MatchOption found (¬ (IsWord text.now)) (λ w. IsWord text.now × (w ≡ chars text.now))) }
+    ensures { IfOk result (λ found. MatchOption found (¬ (IsWord text.now))
+        (λ w. IsWord text.now × (w ≡ chars text.now))) }
 {
     if !is_word(text) {
         return Ok(None);
@@ -22,7 +23,8 @@ pub fn word(alloc: Global, text: &str) -> Result<Option<Word>, NoMemory>
 /// The text as a name, or None where it isn't one to 63 characters, each a lower-case ASCII letter, a digit or `_`.
 /// The manual: 4.1.1, Identifiers and Key Words; that no other letters stand in a name is our own choice.
 pub fn name(alloc: Global, text: &str) -> Result<Option<Name>, NoMemory>
-    ensures { IfOk result (λ found. MatchOption found (¬ (IsName text.now)) (λ n. IsName text.now × (n ≡ text.now))) }
+    ensures { IfOk result (λ found. MatchOption found (¬ (IsName text.now))
+        (λ n. IsName text.now × (n ≡ text.now))) }
 {
     if !is_name(text) {
         return Ok(None);

@@ -75,6 +75,7 @@ pub fn the_text_of_a_bigint_reads_back()
 pub fn parts_of_a_text_join()
     ensures { (t : List ℕ) (n m : ℕ) → IsTextValue t →
         and_then (substr (val.Text t) (val.Int (pos 1)) (val.Int (pos n))) (λ first.
-        and_then (substr (val.Text t) (val.Int (pos (n + 1))) (val.Int (pos m))) (λ next. concat first next))
+        and_then (substr (val.Text t) (val.Int (pos (n + 1))) (val.Int (pos m)))
+        (λ next. concat first next))
         ≡ substr (val.Text t) (val.Int (pos 1)) (val.Int (pos (n + m))) }
 {}

@@ -65,7 +65,8 @@ fn joined(alloc: Global, a: &Value, b: &Value) -> Result<Value, OpError>
 /// Adds what a cast to text writes of the value.
 fn push_spelling(text: &mut String, v: &Value) -> Result<(), NoMemory>
     requires { HasNoZero (string_bytes text.old) }
-    ensures written { OnOk result (chars (string_bytes text.new) ≡ chars (string_bytes text.old) ++ text_of_value v.now) }
+    ensures written { OnOk result
+        (chars (string_bytes text.new) ≡ chars (string_bytes text.old) ++ text_of_value v.now) }
     ensures no_zero { OnOk result (HasNoZero (string_bytes text.new)) }
     ensures short { OnOk result (string_len text.new ≤ string_len text.old + 1048576) }
 {
@@ -80,7 +81,8 @@ fn push_spelling(text: &mut String, v: &Value) -> Result<(), NoMemory>
 
 fn push_decimal(text: &mut String, n: i64) -> Result<(), NoMemory>
     requires { HasNoZero (string_bytes text.old) }
-    ensures written { OnOk result (chars (string_bytes text.new) ≡ chars (string_bytes text.old) ++ text_of_value (val.Int n)) }
+    ensures written { OnOk result (chars (string_bytes text.new) ≡ chars (string_bytes text.old)
+        ++ text_of_value (val.Int n)) }
     ensures no_zero { OnOk result (HasNoZero (string_bytes text.new)) }
     ensures short { OnOk result (string_len text.new ≤ string_len text.old + 21) }
 {

@@ -1,4 +1,5 @@
--- The expression table: a function's source expressions in the order of its text, whole expressions alone, and behind them a fixed list.
+-- The expression table: a function's source expressions in the order of its text, whole expressions
+-- alone, and behind them a fixed list.
 use Rattle.std.specs.Prelude.{ℕ, zero, suc, List, [], ◌∷◌, ◌++◌, slice_get, Option, Some, None, Ok}
 use Rattle.away_values.specs.declared.values.Value.{Value}
 use Rattle.away_values.specs.declared.values.Value.TheVariants as val
@@ -91,7 +92,8 @@ holding [] vs = []
 holding (s ∷ ss) [] = []
 holding (s ∷ ss) (v ∷ vs) = put_at s v (holding ss vs)
 
--- the entry's value where its slots, in the order of their first occurrence, hold these values; what is no entry is NULL
+-- the entry's value where its slots, in the order of their first occurrence, hold these values;
+-- what is no entry is NULL
 abbrev pub entry_value : List Rows → Option Expr → List Value → Or Value
 entry_value tables None vs = Ok val.Null
 entry_value tables (Some e) vs = value e (body tables (holding (slots_of e) vs))

@@ -1,5 +1,6 @@
 -- The fixed list: expressions that patterns need and no function writes, over the slots a and b.
--- One more entry is a word of Fixed with its expression, its slots and its place here, and a line of `entries`.
+-- One more entry is a word of Fixed with its expression, its slots and its place here, and a line
+-- of `entries`.
 use Rattle.std.specs.Prelude.{ℕ, pos, negsuc, ◌-◌, ◌^◌, Bool, true, false, List, [], ◌∷◌, map}
 use Rattle.away_values.specs.declared.types.Ty.{Ty}
 use Rattle.away_values.specs.declared.types.Ty.TheVariants as ty
@@ -108,8 +109,8 @@ many = 17
 abbrev pub fixed_list : List Expr
 fixed_list = map expression entries
 
--- the entries of a FOR that counts down, or up: whether its counter is in range, whether a further step would leave the
--- numbers, and the counter of the next turn
+-- the entries of a FOR that counts down, or up: whether its counter is in range, whether a further
+-- step would leave the numbers, and the counter of the next turn
 abbrev pub in_range_entry : Bool → Fixed
 in_range_entry true = fix.AtLeast
 in_range_entry false = fix.AtMost

@@ -6,7 +6,8 @@ use Rattle.block_forms.specs.Expressions.{expressions, applied}
 use Rattle.block_forms.specs.Forms.{Goto}
 use Rattle.block_forms.specs.Runs.{Frame}
 
--- what the frames of a stage have in common: how many slots and parameters the function has, and the goto form
+-- what the frames of a stage have in common: how many slots and parameters the function has, and
+-- the goto form
 pub record Setting : Type 0 where
   pub slots : ℕ
   pub params : ℕ

@@ -1,5 +1,23 @@
 -- What each statement asks of a goto form, by one recursion over statements.
-use Rattle.std.specs.Prelude.{ℕ, zero, suc, ◌+◌, true, false, List, [], ◌∷◌, ◌++◌, length, slice_get, Option, Some, None, map, option_map}
+use Rattle.std.specs.Prelude.{
+  ℕ,
+  zero,
+  suc,
+  ◌+◌,
+  true,
+  false,
+  List,
+  [],
+  ◌∷◌,
+  ◌++◌,
+  length,
+  slice_get,
+  Option,
+  Some,
+  None,
+  map,
+  option_map,
+}
 use Rattle.away_values.specs.declared.types.Ty.{Ty}
 use Rattle.away_trees.specs.declared.queries.Expr.{Expr}
 use Rattle.away_trees.specs.declared.statements.Arm.{Arm}
@@ -17,7 +35,26 @@ use Rattle.block_forms.specs.declared.places.Position.{Position}
 use Rattle.block_forms.specs.declared.places.Numbers.{Numbers}
 use Rattle.block_forms.specs.Around.{Around, exit_to, again_to}
 use Rattle.block_forms.specs.Forms.{Class, Term, Goto}
-use Rattle.block_forms.specs.Patterns.{Part, own, shared, same, never, source_term, null_of, branches, jumps, returns, fails, node, no_of, slot_parts, leave_parts, exit_parts, for_parts, for_test}
+use Rattle.block_forms.specs.Patterns.{
+  Part,
+  own,
+  shared,
+  same,
+  never,
+  source_term,
+  null_of,
+  branches,
+  jumps,
+  returns,
+  fails,
+  node,
+  no_of,
+  slot_parts,
+  leave_parts,
+  exit_parts,
+  for_parts,
+  for_test,
+}
 
 -- ---- how much a statement has
 
@@ -64,7 +101,8 @@ pub record Setting : Type 0 where
   pub slots : List Slot
   pub numbers : Numbers
 
--- how much a statement has, and its parts by its place, what stands around it and the block that follows
+-- how much a statement has, and its parts by its place, what stands around it and the block that
+-- follows
 pub record Laid : Type 0 where
   pub size : Position
   pub parts : Setting → Position → Around → ℕ → List Part
@@ -98,7 +136,9 @@ module _ (s : Setting) where
 
   abbrev pub row_parts : List Laid → Position → Around → ℕ → List Part
   row_parts [] p around next = []
-  row_parts (x ∷ xs) p around next = x.parts s p around (first_block (length xs) (p.node + x.size.node) next) ++ row_parts xs (after p x.size) around next
+  row_parts (x ∷ xs) p around next = x.parts s p around
+      (first_block (length xs) (p.node + x.size.node) next)
+      ++ row_parts xs (after p x.size) around next
 
   abbrev pub default_term : Option Expr → Ty → ℕ → Term
   default_term None t k = null_of s.numbers.fixed t

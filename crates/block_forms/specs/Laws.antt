@@ -21,7 +21,8 @@ GotoHeads = (frame : Frame) (g : Goto) (args : List Value) → HeadsFew (goto_ru
 abbrev pub SsaHeads : Type 0
 SsaHeads = (frame : Frame) (z : Ssa) (args : List Value) → HeadsFew (ssa_runs frame z args)
 
--- each entry of the fixed list stands at its position, with its expression, which reads its slots; the list holds no more
+-- each entry of the fixed list stands at its position, with its expression, which reads its slots;
+-- the list holds no more
 pub record FixedListStands : Type 0 where
   pub entry : (e : Fixed) → slice_get entries (position e) ≡ Some e
   pub expression : (e : Fixed) → slice_get fixed_list (position e) ≡ Some (fixed.expression e)

@@ -1,5 +1,24 @@
 -- The relation between a function and its goto form: each node's blocks have the node's pattern.
-use Rattle.std.specs.Prelude.{◌≡◌, ℕ, ◌+◌, ◌<◌, ◌≤◌, Bool, true, false, ◌||◌, List, [], ◌∷◌, ◌++◌, length, slice_get, Some, None, nat_eq}
+use Rattle.std.specs.Prelude.{
+  ◌≡◌,
+  ℕ,
+  ◌+◌,
+  ◌<◌,
+  ◌≤◌,
+  Bool,
+  true,
+  false,
+  ◌||◌,
+  List,
+  [],
+  ◌∷◌,
+  ◌++◌,
+  length,
+  slice_get,
+  Some,
+  None,
+  nat_eq,
+}
 use Rattle.away_values.specs.declared.types.Ty.{Ty}
 use Rattle.away_trees.specs.declared.statements.Function.{Function}
 use Rattle.away_types.specs.declared.slots.Slot.{Slot}
@@ -8,7 +27,21 @@ use Rattle.block_forms.specs.declared.places.Position.{Position}
 use Rattle.block_forms.specs.declared.places.Numbers.{Numbers}
 use Rattle.block_forms.specs.Forms.{Term, End, Jump, Branch, Return, Fail, Assignment, Block, Goto}
 use Rattle.block_forms.specs.Places.{Each}
-use Rattle.block_forms.specs.Patterns.{Part, own, shared, same, never, null_of, is_null, branches, jumps, returns, fails, node, yes_of}
+use Rattle.block_forms.specs.Patterns.{
+  Part,
+  own,
+  shared,
+  same,
+  never,
+  null_of,
+  is_null,
+  branches,
+  jumps,
+  returns,
+  fails,
+  node,
+  yes_of,
+}
 use Rattle.block_forms.specs.Laid.{Setting, place, laid}
 
 -- ---- parts
@@ -109,8 +142,8 @@ pub record BlockBelow (slots : ℕ) (x : Block) : Type 0 where
   pub set : SetBelow slots x.set
   pub end : EndBelow slots x.end
 
--- Each node's blocks have the node's pattern, each block belongs to one, no block leads to the entry, and every slot that is read or set is one
--- of the function's.
+-- Each node's blocks have the node's pattern, each block belongs to one, no block leads to the
+-- entry, and every slot that is read or set is one of the function's.
 pub record Lowered (f : Function) (slots : List Slot) (g : Goto) : Type 0 where
   pub as_many : length g.nodes ≡ length f.params + (laid f.body).size.node
   pub stand : AllStand g.blocks (all_parts f slots g)

@@ -1,6 +1,18 @@
 -- The laws of every run: it stays as it is once it is over, and has at most one head a visit.
 use Rattle.std.proofs.Common.{◌≡◌, ℕ, zero, suc, ◌+◌, ◌≤◌, Bool, true, false, refl, arith}
-use Rattle.block_forms.specs.Machines.{Move, ends, moves, stuck, Machine, counted, then_goes, go, IsOver, Stays, HeadsFew}
+use Rattle.block_forms.specs.Machines.{
+  Move,
+  ends,
+  moves,
+  stuck,
+  Machine,
+  counted,
+  then_goes,
+  go,
+  IsOver,
+  Stays,
+  HeadsFew,
+}
 
 module _ {S : Type 0} (m : Machine S) where
   then_stays : (j k : ℕ) → ((s : S) (h : ℕ) → IsOver (go m j s h).answer → go m k s h ≡ go m j s h) → (x : Move S)
@@ -22,7 +34,8 @@ module _ {S : Type 0} (m : Machine S) where
   counted_more true h = omega arith
   counted_more false h = omega arith
 
-  then_few : (k : ℕ) → ((s : S) (h : ℕ) → (go m k s h).heads ≤ h + k) → (x : Move S) (h h' : ℕ) → h' ≤ suc h → (then_goes x (go m k) h').heads ≤ h + suc k
+  then_few : (k : ℕ) → ((s : S) (h : ℕ) → (go m k s h).heads ≤ h + k) → (x : Move S) (h h' : ℕ)
+      → h' ≤ suc h → (then_goes x (go m k) h').heads ≤ h + suc k
   then_few k further (ends r) h h' p = omega (arith, p)
   then_few k further (moves s) h h' p = within (go m k s h').heads h h' k p (further s h')
     where

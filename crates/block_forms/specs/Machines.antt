@@ -1,4 +1,5 @@
--- Runs in general: a state, and one visit after another, with a count of the heads that were visited.
+-- Runs in general: a state, and one visit after another, with a count of the heads that were
+-- visited.
 use Rattle.std.specs.Prelude.{◌≡◌, ℕ, zero, suc, ◌≤◌, Bool, true, false}
 use Rattle.away_values.specs.declared.values.Value.{Value}
 use Rattle.away_values.specs.declared.values.Answer.{Answer}
@@ -6,7 +7,8 @@ use Rattle.away_values.specs.declared.values.Answer.TheVariants as answer
 use Rattle.away_values.specs.Results.{Or}
 use Rattle.sql_meaning.specs.OneReturn.{returned}
 
--- what a visit comes to: a value or a class that ends the run, a next state, or nothing, where there is no block
+-- what a visit comes to: a value or a class that ends the run, a next state, or nothing, where
+-- there is no block
 pub data Move (S : Type 0) : Type 0 where
   ends : Or Value → Move S
   moves : S → Move S
@@ -54,7 +56,8 @@ Stays run = (j k : ℕ) → j ≤ k → IsOver (run j).answer → run k ≡ run 
 abbrev pub HeadsFew : (ℕ → Ran) → Type 0
 HeadsFew run = (k : ℕ) → (run k).heads ≤ k
 
--- where the first run of k visits has an answer, the second has it; and the second has at least as many heads
+-- where the first run of k visits has an answer, the second has it; and the second has at least as
+-- many heads
 pub record Bounds (xs ys : ℕ → Ran) : Type 0 where
   pub answer : (k : ℕ) (a : Answer) → IsOver a → (xs k).answer ≡ a → (ys k).answer ≡ a
   pub heads : (k : ℕ) → (xs k).heads ≤ (ys k).heads

@@ -1,8 +1,43 @@
--- The relation between a goto form and its SSA form. It is local to blocks and edges: it speaks of no order of visits
--- and of no dominators.
-use Rattle.std.specs.Prelude.{◌≡◌, ℕ, ◌+◌, ◌<◌, ◌≤◌, Bool, true, false, List, [], ◌∷◌, length, slice_get, Option, Some, None, nat_eq}
+-- The relation between a goto form and its SSA form. It is local to blocks and edges: it speaks of
+-- no order of visits and of no dominators.
+use Rattle.std.specs.Prelude.{
+  ◌≡◌,
+  ℕ,
+  ◌+◌,
+  ◌<◌,
+  ◌≤◌,
+  Bool,
+  true,
+  false,
+  List,
+  [],
+  ◌∷◌,
+  length,
+  slice_get,
+  Option,
+  Some,
+  None,
+  nat_eq,
+}
 use Rattle.std.specs.List.{count_by}
-use Rattle.block_forms.specs.Forms.{Term, End, Jump, Branch, Return, Fail, Assignment, Block, Goto, Pairs, Phi, SsaBlock, Ssa, at_key, source, AtTargets}
+use Rattle.block_forms.specs.Forms.{
+  Term,
+  End,
+  Jump,
+  Branch,
+  Return,
+  Fail,
+  Assignment,
+  Block,
+  Goto,
+  Pairs,
+  Phi,
+  SsaBlock,
+  Ssa,
+  at_key,
+  source,
+  AtTargets,
+}
 use Rattle.block_forms.specs.Lowered.{one_of, end_leads}
 use Rattle.block_forms.specs.Places.{Each, EachAt, EachPair, Distinct, first_of, IsThere}
 
@@ -20,8 +55,8 @@ abbrev pub places_that_set : List SsaBlock → ℕ → ℕ
 places_that_set [] n = 0
 places_that_set (y ∷ ys) n = (phis_with_name y.phis n + assigns_to y.set n) + places_that_set ys n
 
--- Each name belongs to a slot. The first names are the parameters in order, and are set nowhere. Every other name is
--- set at one place at most.
+-- Each name belongs to a slot. The first names are the parameters in order, and are set nowhere.
+-- Every other name is set at one place at most.
 pub record NamesOfSlots (slots params : ℕ) (z : Ssa) : Type 0 where
   pub of_slots : Each (λ s. s < slots) z.names
   pub parameters : (k : ℕ) → k < params → slice_get z.names k ≡ Some k
@@ -35,8 +70,8 @@ abbrev pub Maps : Pairs → Option ℕ → ℕ → Type 0
 Maps m None n = ⊥
 Maps m (Some s) n = at_key m s ≡ Some n
 
--- The slots of the map are distinct, and each of its names belongs to its slot. The φs belong to distinct slots, and
--- the map has each of these slots with its φ's name.
+-- The slots of the map are distinct, and each of its names belongs to its slot. The φs belong to
+-- distinct slots, and the map has each of these slots with its φ's name.
 pub record MapOfSlots (names : List ℕ) (y : SsaBlock) : Type 0 where
   pub slots_differ : Distinct first_of y.map
   pub own_slots : Each (λ p. slice_get names p.1 ≡ Some p.0) y.map
@@ -113,8 +148,8 @@ abbrev pub Gives : Option ℕ → Option ℕ → Type 0
 Gives None o = ⊥
 Gives (Some m) o = o ≡ Some m
 
--- From block b, with this exit map, each slot of the next block's map has the exit name that its own name takes: a φ by
--- its operand, another name as it is.
+-- From block b, with this exit map, each slot of the next block's map has the exit name that its
+-- own name takes: a φ by its operand, another name as it is.
 abbrev pub Feeds : ℕ → Pairs → Option SsaBlock → Type 0
 Feeds b exits None = ⊥
 Feeds b exits (Some y) = Each (λ p. Gives (at_key exits p.0) (source y.phis b p.1)) y.map

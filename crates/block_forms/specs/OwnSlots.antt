@@ -14,12 +14,14 @@ use Rattle.block_forms.specs.Targets.{targets}
 abbrev pub named_slots : Function → ℕ
 named_slots f = (numbers_of f).counters
 
--- An expression reads slots below a number alone, and tables. It reads no parameter of a query and no column of a select around it.
+-- An expression reads slots below a number alone, and tables. It reads no parameter of a query and
+-- no column of a select around it.
 pub record ReadsBelow (slots : ℕ) (e : Expr) : Type 0 where
   pub tables : ℕ
   pub alone : fits (λ i. nat_lt i slots) 0 tables e ≡ true
 
--- The slots are those of its text, with three hidden ones for each FOR, which no expression reads and no assignment sets. INTO doesn't stand in it.
+-- The slots are those of its text, with three hidden ones for each FOR, which no expression reads
+-- and no assignment sets. INTO doesn't stand in it.
 pub record OwnSlots (f : Function) (slots : List Slot) : Type 0 where
   pub slots_are : slots ≡ own_slots f
   pub reads : Each (ReadsBelow (named_slots f)) (sources f.body)

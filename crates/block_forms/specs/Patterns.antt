@@ -1,5 +1,24 @@
--- What the patterns of statements ask of the blocks of a goto form. Numbers that `nodes` does not tell are read from the form.
-use Rattle.std.specs.Prelude.{ℕ, ◌+◌, ◌*◌, Bool, true, false, ◌&&◌, if◌then◌else◌, List, [], ◌∷◌, ◌++◌, slice_get, Option, Some, None, nat_eq}
+-- What the patterns of statements ask of the blocks of a goto form. Numbers that `nodes` does not
+-- tell are read from the form.
+use Rattle.std.specs.Prelude.{
+  ℕ,
+  ◌+◌,
+  ◌*◌,
+  Bool,
+  true,
+  false,
+  ◌&&◌,
+  if◌then◌else◌,
+  List,
+  [],
+  ◌∷◌,
+  ◌++◌,
+  slice_get,
+  Option,
+  Some,
+  None,
+  nat_eq,
+}
 use Rattle.away_values.specs.declared.types.Ty.{Ty}
 use Rattle.away_values.specs.declared.types.Ty.TheVariants as ty
 use Rattle.away_trees.specs.declared.queries.Expr.{Expr}
@@ -11,9 +30,21 @@ use Rattle.block_forms.specs.declared.places.Numbers.{Numbers}
 use Rattle.block_forms.specs.declared.fixed_list.Fixed.{Fixed}
 use Rattle.block_forms.specs.declared.fixed_list.Fixed.TheVariants as fix
 use Rattle.block_forms.specs.FixedList.{position, in_range_entry, past_end_entry, next_entry}
-use Rattle.block_forms.specs.Forms.{Class, Term, End, Jump, Branch, Return, Fail, Assignment, Block, Goto}
+use Rattle.block_forms.specs.Forms.{
+  Class,
+  Term,
+  End,
+  Jump,
+  Branch,
+  Return,
+  Fail,
+  Assignment,
+  Block,
+  Goto,
+}
 
--- ---- terms: a source expression by its number, and the entries of the fixed list, which begins at S
+-- ---- terms: a source expression by its number, and the entries of the fixed list, which begins at
+-- S
 
 abbrev pub term : ℕ → List ℕ → Term
 term k names = record { expr = k; names = names }
@@ -70,7 +101,8 @@ returns t = block false None (Return t)
 abbrev pub fails : Class → Block
 fails c = block false None (Fail c)
 
--- a block of a pattern's own, a block that patterns may share, one block for two, and what no form has
+-- a block of a pattern's own, a block that patterns may share, one block for two, and what no form
+-- has
 pub data Part : Type 0 where
   own : ℕ → Block → Part
   shared : ℕ → Block → Part
@@ -212,6 +244,8 @@ module _ (g : Goto) (n : Numbers) where
   abbrev pub for_parts : Bool → Expr → Expr → Option Expr → Position → ℕ → ℕ → List Part
   for_parts reverse first last by p body next =
       bound_parts (node g p.node) (cur_of p.fors) (source_term p.expr first) (after_bound g (node g p.node))
-      ++ (bound_parts (after_bound g (node g p.node)) (cur_of p.fors + 1) (source_term (p.expr + 1) last) (after_bound g (after_bound g (node g p.node)))
+      ++ (bound_parts (after_bound g (node g p.node)) (cur_of p.fors + 1)
+      (source_term (p.expr + 1) last) (after_bound g (after_bound g (node g p.node)))
       ++ (step_parts by (p.expr + 2) (after_bound g (after_bound g (node g p.node))) (cur_of p.fors + 2) (for_head g by (node g p.node))
-      ++ turn_parts reverse p.slot (cur_of p.fors) (cur_of p.fors + 1) (cur_of p.fors + 2) (for_head g by (node g p.node)) (for_test reverse p.fors) body next))
+      ++ turn_parts reverse p.slot (cur_of p.fors) (cur_of p.fors + 1) (cur_of p.fors + 2)
+      (for_head g by (node g p.node)) (for_test reverse p.fors) body next))

@@ -3,7 +3,15 @@ use Rattle.std.proofs.Common.{List}
 use Rattle.away_values.specs.declared.values.Value.{Value}
 use Rattle.block_forms.specs.Forms.{Goto, Ssa}
 use Rattle.block_forms.specs.Machines.{Stays, HeadsFew}
-use Rattle.block_forms.specs.Runs.{Frame, goto_machine, first_slots, goto_runs, ssa_machine, first_values, ssa_runs}
+use Rattle.block_forms.specs.Runs.{
+  Frame,
+  goto_machine,
+  first_slots,
+  goto_runs,
+  ssa_machine,
+  first_values,
+  ssa_runs,
+}
 use Rattle.block_forms.specs.MachineLaws.{run_stays, run_heads_few}
 
 module _ (frame : Frame) where

@@ -1,15 +1,48 @@
--- The runs of the goto form and of the SSA form. They are total: what is no block has no answer at any number of visits, and where there is no
--- value, it is NULL.
-use Rattle.std.specs.Prelude.{ℕ, ◌-◌, Bool, true, false, List, ◌++◌, map, get_or, replicate, slice_get, slice_set, Option, Some, None, Ok, Err, if◌then◌else◌, nat_eq}
+-- The runs of the goto form and of the SSA form. They are total: what is no block has no answer at
+-- any number of visits, and where there is no value, it is NULL.
+use Rattle.std.specs.Prelude.{
+  ℕ,
+  ◌-◌,
+  Bool,
+  true,
+  false,
+  List,
+  ◌++◌,
+  map,
+  get_or,
+  replicate,
+  slice_get,
+  slice_set,
+  Option,
+  Some,
+  None,
+  Ok,
+  Err,
+  if◌then◌else◌,
+  nat_eq,
+}
 use Rattle.away_values.specs.declared.values.Value.{Value}
 use Rattle.away_values.specs.declared.values.Value.TheVariants as val
 use Rattle.away_values.specs.Operators.{is_true}
 use Rattle.away_values.specs.Results.{Or}
-use Rattle.block_forms.specs.Forms.{Term, End, Jump, Branch, Return, Fail, Assignment, Block, Goto, SsaBlock, Ssa, source}
+use Rattle.block_forms.specs.Forms.{
+  Term,
+  End,
+  Jump,
+  Branch,
+  Return,
+  Fail,
+  Assignment,
+  Block,
+  Goto,
+  SsaBlock,
+  Ssa,
+  source,
+}
 use Rattle.block_forms.specs.Machines.{Move, ends, moves, stuck, Machine, Ran, go}
 
--- What a form is read in: the expressions by number at the values that they read, how many slots and parameters the function has, and the goto
--- form, which tells the entry and the heads.
+-- What a form is read in: the expressions by number at the values that they read, how many slots
+-- and parameters the function has, and the goto form, which tells the entry and the heads.
 pub record Frame : Type 0 where
   pub apply : ℕ → List Value → Or Value
   pub slots : ℕ

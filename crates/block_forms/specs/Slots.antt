@@ -1,6 +1,23 @@
--- The slots of a function, by its text: its parameters, then declarations and FOR variables in the order of the text, and behind them the counter,
--- the last value and the step of each FOR. And whether INTO stands in it.
-use Rattle.std.specs.Prelude.{ℕ, ◌*◌, Bool, true, false, ◌||◌, List, [], ◌∷◌, ◌++◌, map, replicate, Option, Some, None}
+-- The slots of a function, by its text: its parameters, then declarations and FOR variables in the
+-- order of the text, and behind them the counter, the last value and the step of each FOR. And
+-- whether INTO stands in it.
+use Rattle.std.specs.Prelude.{
+  ℕ,
+  ◌*◌,
+  Bool,
+  true,
+  false,
+  ◌||◌,
+  List,
+  [],
+  ◌∷◌,
+  ◌++◌,
+  map,
+  replicate,
+  Option,
+  Some,
+  None,
+}
 use Rattle.away_values.specs.declared.types.Ty.{Ty}
 use Rattle.away_values.specs.declared.types.Ty.TheVariants as ty
 use Rattle.away_trees.specs.declared.statements.Decl.{Decl}

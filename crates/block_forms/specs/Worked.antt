@@ -1,5 +1,19 @@
 -- Worked examples: three functions with their goto forms, the expressions of one, and its runs.
-use Rattle.std.specs.Prelude.{ℕ, ◌≡◌, List, [], ◌∷◌, length, slice_get, Some, None, codes, pos, true, false}
+use Rattle.std.specs.Prelude.{
+  ℕ,
+  ◌≡◌,
+  List,
+  [],
+  ◌∷◌,
+  length,
+  slice_get,
+  Some,
+  None,
+  codes,
+  pos,
+  true,
+  false,
+}
 use Rattle.away_values.specs.declared.operators.ChainOp.TheVariants as chain
 use Rattle.away_values.specs.declared.operators.IntOp.{IntOp}
 use Rattle.away_values.specs.declared.operators.IntOp.TheVariants as int
@@ -57,8 +71,8 @@ sign_of_form = record {
       ∷ [];
 }
 
--- collatz(n bigint) RETURNS bigint: DECLARE steps bigint := 0; BEGIN WHILE n <> 1 LOOP IF n % 2 = 0 THEN n := n / 2;
--- ELSE n := 3 * n + 1; END IF; steps := steps + 1; END LOOP; RETURN steps; END;
+-- collatz(n bigint) RETURNS bigint: DECLARE steps bigint := 0; BEGIN WHILE n <> 1 LOOP IF n % 2 = 0
+-- THEN n := n / 2; ELSE n := 3 * n + 1; END IF; steps := steps + 1; END LOOP; RETURN steps; END;
 abbrev assign : List ℕ → ℕ → Expr → Stmt
 assign name slot e = stmt.Assign name (Some slot) e
 
@@ -100,8 +114,8 @@ collatz_form = record {
       ∷ [];
 }
 
--- count_up(a bigint) RETURNS bigint, STRICT: DECLARE t bigint NOT NULL := 0; BEGIN FOR i IN 1 .. a LOOP EXIT WHEN t > 9;
--- t := t + i; END LOOP; RETURN t; END;
+-- count_up(a bigint) RETURNS bigint, STRICT: DECLARE t bigint NOT NULL := 0; BEGIN FOR i IN 1 .. a
+-- LOOP EXIT WHEN t > 9; t := t + i; END LOOP; RETURN t; END;
 abbrev pub count_up : Function
 count_up = record {
   name = codes "count_up";
@@ -192,14 +206,16 @@ pub record WorkedForms : Type 0 where
   pub continue_at_entry_stands : AllStand shared_entry.blocks (all_parts with_continue [] shared_entry)
   pub exit_at_entry : Lowered with_exit [] shared_entry → ⊥
 
--- the expressions of collatz are those of its text, in order: 0, n <> 1, n % 2 = 0, n / 2, 3 * n + 1, steps + 1, steps; then seventeen fixed ones
+-- the expressions of collatz are those of its text, in order: 0, n <> 1, n % 2 = 0, n / 2, 3 * n +
+-- 1, steps + 1, steps; then seventeen fixed ones
 pub record WorkedTable : Type 0 where
   pub first : slice_get (expressions collatz) 0 ≡ Some (literal 0)
   pub second : slice_get (expressions collatz) 1 ≡ Some (expr.Compare cmp.Ne (expr.Slot 0) (literal 1))
   pub last : slice_get (expressions collatz) 6 ≡ Some (expr.Slot 1)
   pub many : length (expressions collatz) ≡ 24
 
--- From 2 collatz takes one step, with two visits of the head: eight visits tell so, and seven don't.
+-- From 2 collatz takes one step, with two visits of the head: eight visits tell so, and seven
+-- don't.
 pub record WorkedRuns : Type 0 where
   pub ends : goto_runs (frame_of collatz 2 collatz_form []) collatz_form (val.Int (pos 2) ∷ []) 8 ≡ ran (answer.Value (val.Int (pos 1))) 2
   pub goes_on : goto_runs (frame_of collatz 2 collatz_form []) collatz_form (val.Int (pos 2) ∷ []) 7 ≡ ran answer.More 2

@@ -8,7 +8,8 @@ use Rattle.block_graph.specs.Liveness.{OnlyLive, lives, marked, unmarked}
 pub record HasAll (n : ℕ) (numbers : List ℕ) : Type 0 where
   pub each : (b : ℕ) → b < n → In numbers b
 
--- Those of some blocks are marked at which the slot is live by the old marks, and perhaps more of them; each new mark is left to be spread.
+-- Those of some blocks are marked at which the slot is live by the old marks, and perhaps more of
+-- them; each new mark is left to be spread.
 pub record Spread (g : List Block) (s : ℕ) (old : List Bool) (old_left among : List ℕ) (new : List Bool) (left : List ℕ) : Type 0 where
   pub sized : length new ≡ length g
   pub only : OnlyLive g s new

@@ -133,7 +133,8 @@ fn mark_live(
 
 /// No block is marked.
 fn unmarked_table(alloc: Global, count: usize) -> Result<Vec<bool>, AllocError>
-    ensures { IfOk result (λ v. (length v.items ≡ count) × ((b : ℕ) → marked v.items b ≡ true → ⊥)) }
+    ensures { IfOk result (λ v. (length v.items ≡ count)
+        × ((b : ℕ) → marked v.items b ≡ true → ⊥)) }
 {
     let mut table = Vec::new(alloc);
     for _block in 0..count {

@@ -30,8 +30,8 @@ fn tables_from(
     Ok(tables)
 }
 
-/// For each slot below `slots` the blocks at which it is live: it is read before it is set on some way from there. The time for a slot is in the number of
-/// blocks and ways between them.
+/// For each slot below `slots` the blocks at which it is live: it is read before it is set on some way from there. The time for a slot is in the
+/// number of blocks and ways between them.
 pub fn live_tables(
     alloc: Global,
     blocks: &[Block],

@@ -1,4 +1,5 @@
--- The relations of the stages, and that they give the bounds in each frame of a setting: the proofs, which the laws of the stages cite.
+-- The relations of the stages, and that they give the bounds in each frame of a setting: the
+-- proofs, which the laws of the stages cite.
 use Rattle.std.proofs.Common.{◌≡◌, List, length, subst, sym}
 use Rattle.away_trees.specs.declared.statements.Function.{Function}
 use Rattle.away_types.specs.declared.slots.Slot.{Slot}

@@ -110,7 +110,8 @@ fn has_names(y: &SsaBlock, params: &[u32]) -> bool
 
 /// The entry's parameters stand in the entry's map.
 pub(crate) fn entry_parameters(ssa: &Ssa, anf: &Anf, entry: u32) -> bool
-    ensures { IsTrue result ↔ EntryParameters (slice_get ssa.now.blocks entry) (slice_get anf.now.blocks entry) }
+    ensures { IsTrue result ↔ EntryParameters (slice_get ssa.now.blocks entry)
+        (slice_get anf.now.blocks entry) }
 {
     match ssa.blocks.as_slice().get(entry as usize) {
         None => false,

@@ -46,14 +46,16 @@ fn has_type(ty: Option<Ty>, column: Option<Ty>) -> bool
 }
 
 fn is_typed(slots: &[Slot], names: &[u32], columns: &[Ty], p: u32, c: u32) -> bool
-    ensures { IsTrue result ↔ HasType (type_of_name slots.now names.now p) (slice_get columns.now c) }
+    ensures { IsTrue result ↔ HasType (type_of_name slots.now names.now p)
+        (slice_get columns.now c) }
 {
     has_type(type_of_name(slots, names, p), column_at(columns, c))
 }
 
 fn all_typed(slots: &[Slot], names: &[u32], columns: &[Ty], params: &[u32], places: &[u32]) -> bool
     requires { length params.now ≡ length places.now }
-    ensures { IsTrue result ↔ EachPair (λ i p c. HasType (type_of_name slots.now names.now p) (slice_get columns.now c)) params.now places.now }
+    ensures { IsTrue result ↔ EachPair (λ i p c. HasType (type_of_name slots.now names.now p)
+        (slice_get columns.now c)) params.now places.now }
 {
     for i in 0..params.len() {
         if !is_typed(slots, names, columns, params[i], places[i]) {
@@ -83,7 +85,8 @@ fn places_at(
     label: u32,
     places: &[u32],
 ) -> bool
-    ensures { IsTrue result ↔ PlacesAt slots.now names.now columns.now (slice_get blocks.now label) places.now }
+    ensures { IsTrue result ↔ PlacesAt slots.now names.now columns.now
+        (slice_get blocks.now label) places.now }
 {
     match blocks.get(label as usize) {
         None => false,
@@ -101,7 +104,8 @@ pub(crate) fn all_places(
     places: &[Items<u32>],
 ) -> bool
     requires { length labels.now ≡ length places.now }
-    ensures { IsTrue result ↔ EachPair (λ i b ps. PlacesAt slots.now names.now columns.now (slice_get blocks.now b) ps) labels.now places.now }
+    ensures { IsTrue result ↔ EachPair (λ i b ps. PlacesAt slots.now names.now columns.now
+        (slice_get blocks.now b) ps) labels.now places.now }
 {
     for i in 0..labels.len() {
         if !places_at(

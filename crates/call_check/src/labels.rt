@@ -57,7 +57,8 @@ pub(crate) fn label_counts(
 /// Counts the calls of an end.
 fn count_calls(table: &mut [u8], end: &CallEnd)
     ensures sized { length table.new ≡ length table.old }
-    ensures each { (b : ℕ) → b < length table.old → min 2 (get_or table.new b 0) ≡ min 2 (get_or table.old b 0 + end_calls b end.now) }
+    ensures each { (b : ℕ) → b < length table.old
+        → min 2 (get_or table.new b 0) ≡ min 2 (get_or table.old b 0 + end_calls b end.now) }
 {
     match end {
         CallEnd::Go(call) => count(table, call.target),
@@ -72,7 +73,8 @@ fn count_calls(table: &mut [u8], end: &CallEnd)
 
 /// How many calls go to each block.
 pub(crate) fn call_counts(alloc: Global, blocks: &[AnfBlock]) -> Result<Vec<u8>, AllocError>
-    ensures { IfOk result (λ table. CountsOf (length blocks.now) (λ b. calls_to b blocks.now) table.items) }
+    ensures { IfOk result (λ table. CountsOf (length blocks.now)
+        (λ b. calls_to b blocks.now) table.items) }
 {
     let mut table = no_counts(alloc, blocks.len())?;
     for block in blocks {
@@ -139,7 +141,8 @@ fn label_or_merged(
 pub(crate) fn others_merge(goto: &Goto, anf: &Anf, tail: &Tail, labels: &[u8], calls: &[u8]) -> bool
     requires labels { CountsOf (length anf.now.blocks) (times tail.now.labels) labels.now }
     requires calls { CountsOf (length anf.now.blocks) (λ b. calls_to b anf.now.blocks) calls.now }
-    ensures { IsTrue result ↔ ((b : ℕ) → b < length anf.now.blocks → label_of tail.now b ≡ None → MayMerge goto.now anf.now b) }
+    ensures { IsTrue result ↔ ((b : ℕ) → b < length anf.now.blocks → label_of tail.now b ≡ None
+        → MayMerge goto.now anf.now b) }
 {
     for b in 0..anf.blocks.len() {
         if !label_or_merged(goto, anf, tail, labels, calls, b) {

@@ -3,11 +3,24 @@ use Rattle.std.specs.Prelude.{ℕ, zero, suc, List, [], length, get_or, slice_ge
 use Rattle.away_values.specs.declared.values.Class.{Class}
 use Rattle.block_forms.specs.declared.forms.Term.{Term}
 use Rattle.block_forms.specs.Forms.{Assignment}
-use Rattle.call_forms.specs.Forms.{Call, CallEnd, Go, Pick, Return, Fail, AnfBlock, Anf, Tail, params_of, label_of}
+use Rattle.call_forms.specs.Forms.{
+  Call,
+  CallEnd,
+  Go,
+  Pick,
+  Return,
+  Fail,
+  AnfBlock,
+  Anf,
+  Tail,
+  params_of,
+  label_of,
+}
 
--- What a label does from its first block on. `enters` goes on with a block that is no label: its parameters, what is passed, and the block.
--- `calls` has a label, counted from 0, its places and what is passed. `endless` stands where more blocks would follow than there are, or
--- where no block has the number.
+-- What a label does from its first block on. `enters` goes on with a block that is no label: its
+-- parameters, what is passed, and the block. `calls` has a label, counted from 0, its places and
+-- what is passed. `endless` stands where more blocks would follow than there are, or where no block
+-- has the number.
 pub data Body : Type 0 where
   sets : ℕ → Term → Body → Body
   enters : List ℕ → List ℕ → Body → Body

@@ -24,7 +24,8 @@ abbrev pub HasType : Option Ty → Option Ty → Type 0
 HasType None column = ⊥
 HasType (Some t) column = column ≡ Some t
 
--- One place for each parameter. The places are distinct, and each is a column of the type of the parameter's slot.
+-- One place for each parameter. The places are distinct, and each is a column of the type of the
+-- parameter's slot.
 pub record PlacesOf (slots : List Slot) (names : List ℕ) (columns : List Ty) (params places : List ℕ) : Type 0 where
   pub as_many : length places ≡ length params
   pub distinct : Distinct itself places

@@ -1,5 +1,19 @@
 -- The relation between a normal form and the labels of its tail form.
-use Rattle.std.specs.Prelude.{◌≡◌, ℕ, ◌+◌, ◌<◌, ◌≤◌, false, List, [], ◌∷◌, length, slice_get, None, nat_eq}
+use Rattle.std.specs.Prelude.{
+  ◌≡◌,
+  ℕ,
+  ◌+◌,
+  ◌<◌,
+  ◌≤◌,
+  false,
+  List,
+  [],
+  ◌∷◌,
+  length,
+  slice_get,
+  None,
+  nat_eq,
+}
 use Rattle.block_forms.specs.declared.forms.Goto.{Goto}
 use Rattle.block_forms.specs.Lowered.{one_of}
 use Rattle.block_forms.specs.Places.{Each, Distinct}
@@ -30,7 +44,8 @@ pub record MayMerge (goto : Goto) (anf : Anf) (b : ℕ) : Type 0 where
   pub no_head : is_head (slice_get goto.blocks b) ≡ false
   pub one_call : calls_to b anf.blocks ≤ 1
 
--- The labels are distinct blocks, and the entry is one. Every other block may be merged. Each call is of a block.
+-- The labels are distinct blocks, and the entry is one. Every other block may be merged. Each call
+-- is of a block.
 pub record Merged (goto : Goto) (anf : Anf) (tail : Tail) : Type 0 where
   pub labels_differ : Distinct itself tail.labels
   pub labels_are_blocks : Each (λ b. b < length anf.blocks) tail.labels

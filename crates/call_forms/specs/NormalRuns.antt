@@ -1,4 +1,5 @@
--- The run of the normal form. It is total: a call of what is no block has no answer at any number of visits.
+-- The run of the normal form. It is total: a call of what is no block has no answer at any number
+-- of visits.
 use Rattle.std.specs.Prelude.{ℕ, Bool, true, false, List, slice_get, Option, Some, None, Ok, Err}
 use Rattle.away_values.specs.declared.values.Value.{Value}
 use Rattle.away_values.specs.declared.values.Value.TheVariants as val
@@ -19,7 +20,8 @@ chosen true x y = x
 chosen false x y = y
 
 module _ (frame : Frame) (anf : Anf) where
-  -- A call passes values: each parameter takes its argument, and NULL where there is none. Every other name is NULL.
+  -- A call passes values: each parameter takes its argument, and NULL where there is none. Every
+  -- other name is NULL.
   abbrev pub called : Call → Scope Value → AtBlock
   called c s = (c.target, paired s val.Null (params_of (slice_get anf.blocks c.target)) c.args)
 

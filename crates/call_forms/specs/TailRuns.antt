@@ -1,5 +1,22 @@
 -- The run of the tail form: a visit of a label is its block and all blocks that are merged into it.
-use Rattle.std.specs.Prelude.{ℕ, suc, Bool, true, false, List, [], ◌∷◌, length, get_or, slice_get, Option, Some, None, Ok, Err}
+use Rattle.std.specs.Prelude.{
+  ℕ,
+  suc,
+  Bool,
+  true,
+  false,
+  List,
+  [],
+  ◌∷◌,
+  length,
+  get_or,
+  slice_get,
+  Option,
+  Some,
+  None,
+  Ok,
+  Err,
+}
 use Rattle.away_values.specs.declared.types.Ty.{Ty}
 use Rattle.away_values.specs.declared.values.Value.{Value}
 use Rattle.away_values.specs.declared.values.Value.TheVariants as val
@@ -7,7 +24,17 @@ use Rattle.away_values.specs.Operators.{is_true}
 use Rattle.away_values.specs.Results.{Or}
 use Rattle.block_forms.specs.Machines.{Move, ends, moves, stuck, Machine, Ran, go}
 use Rattle.block_forms.specs.Runs.{Frame, term_value, in_names, is_head, first_values}
-use Rattle.call_forms.specs.Bodies.{Body, sets, enters, picks, returns, fails, calls, endless, body_of}
+use Rattle.call_forms.specs.Bodies.{
+  Body,
+  sets,
+  enters,
+  picks,
+  returns,
+  fails,
+  calls,
+  endless,
+  body_of,
+}
 use Rattle.call_forms.specs.Forms.{Anf, Tail, params_of, label_of}
 use Rattle.call_forms.specs.Scopes.{Scope, paired}
 
@@ -15,7 +42,8 @@ use Rattle.call_forms.specs.Scopes.{Scope, paired}
 abbrev pub AtLabel : Type 0
 AtLabel = ℕ × List Value
 
--- from column i on: the value of the argument whose place the column is, and NULL where it is no place
+-- from column i on: the value of the argument whose place the column is, and NULL where it is no
+-- place
 abbrev pub row_from : ℕ → Scope Value → List ℕ → List ℕ → List Ty → List Value
 row_from i s places args [] = []
 row_from i s places args (t ∷ ts) = paired s val.Null places args i ∷ row_from (suc i) s places args ts

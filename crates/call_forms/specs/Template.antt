@@ -1,11 +1,31 @@
--- The query of a tail form: one branch for each label, where a test is two bodies in a LATERAL item, each behind a gate.
+-- The query of a tail form: one branch for each label, where a test is two bodies in a LATERAL
+-- item, each behind a gate.
 --
 -- WITH RECURSIVE r(go, fn, c0, .., res, err) AS (
 --   SELECT TRUE, entry, arguments, NULL, NULL
 --   UNION ALL
 --   SELECT s.go, .., s.err FROM r, LATERAL (BRANCH 1 UNION ALL .. BRANCH m) AS s WHERE r.go)
 -- SELECT r.res, r.err FROM r WHERE NOT r.go
-use Rattle.std.specs.Prelude.{ℕ, suc, true, false, pos, List, [], ◌∷◌, ◌++◌, map, length, get_or, slice_get, Some, None, cond, nat_eq, decimal}
+use Rattle.std.specs.Prelude.{
+  ℕ,
+  suc,
+  true,
+  false,
+  pos,
+  List,
+  [],
+  ◌∷◌,
+  ◌++◌,
+  map,
+  length,
+  get_or,
+  slice_get,
+  Some,
+  None,
+  cond,
+  nat_eq,
+  decimal,
+}
 use Rattle.away_trees.specs.declared.queries.Col.{Col}
 use Rattle.away_trees.specs.declared.queries.Expr.{Expr}
 use Rattle.away_trees.specs.declared.queries.Expr.TheVariants as expr
@@ -23,7 +43,17 @@ use Rattle.sql_meaning.specs.Reads.{slots_of}
 use Rattle.sql_meaning.specs.Template.{below, gate, let_item, last}
 use Rattle.sql_meaning.specs.Trees.{col, cast_to, number, truth, null_of, lateral, table_by, select}
 use Rattle.block_forms.specs.declared.forms.Term.{Term}
-use Rattle.call_forms.specs.Bodies.{Body, sets, enters, picks, returns, fails, calls, endless, body_of}
+use Rattle.call_forms.specs.Bodies.{
+  Body,
+  sets,
+  enters,
+  picks,
+  returns,
+  fails,
+  calls,
+  endless,
+  body_of,
+}
 use Rattle.call_forms.specs.Forms.{Anf, Tail, params_of, label_of}
 use Rattle.call_forms.specs.Scopes.{Scope, paired}
 use Rattle.call_forms.specs.TailRuns.{label_or}
@@ -45,7 +75,8 @@ deeper c = record c { level = suc c.level }
 abbrev pub outside : Scope Col → Scope Col
 outside refs n = deeper (refs n)
 
--- A column that no row has. The row of r is `out` selects outside the one that encloses the list, and r is the only item to the left there.
+-- A column that no row has. The row of r is `out` selects outside the one that encloses the list,
+-- and r is the only item to the left there.
 abbrev pub no_column : ℕ → Col
 no_column out = record { level = suc out; item = 1; column = 0 }
 
@@ -79,8 +110,9 @@ cells i refs places args (t ∷ ts) = paired (λ n. expr.Column (refs n)) (null_
 abbrev pub of_row : ℕ → Col
 of_row place = record { level = 1; item = 0; column = suc (suc place) }
 
--- The expressions by number, the type of each name, the types of the columns, and the type of the result. The type of a term's place is that of
--- the assigned name, boolean for a test, and the result's for a return.
+-- The expressions by number, the type of each name, the types of the columns, and the type of the
+-- result. The type of a term's place is that of the assigned name, boolean for a test, and the
+-- result's for a return.
 module _ (table : List Expr) (types : ℕ → Ty) (columns : List Ty) (result : Ty) where
   -- `SELECT e` for a term, where its slots are the columns of its names
   abbrev pub let_of : ℕ → Scope Col → Ty → Term → FromItem
@@ -141,7 +173,8 @@ module _ (table : List Expr) (types : ℕ → Ty) (result : Ty) (anf : Anf) (tai
   abbrev pub branches : ℕ → List ℕ → List Select
   branches n [] = []
   branches n (b ∷ bs) =
-      branch table types tail.columns result (suc n) (params_of (slice_get anf.blocks b)) (get_or tail.places n []) (body_of anf tail b) ∷ branches (suc n) bs
+      branch table types tail.columns result (suc n) (params_of (slice_get anf.blocks b))
+      (get_or tail.places n []) (body_of anf tail b) ∷ branches (suc n) bs
 
   -- the label of the entry, counted from 0
   abbrev pub entry_place : ℕ

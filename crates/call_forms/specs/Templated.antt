@@ -14,7 +14,17 @@ use Rattle.block_forms.specs.declared.forms.Ssa.{Ssa}
 use Rattle.block_forms.specs.declared.forms.Term.{Term}
 use Rattle.block_forms.specs.Expressions.{expressions}
 use Rattle.block_forms.specs.Places.{Each}
-use Rattle.call_forms.specs.Bodies.{Body, sets, enters, picks, returns, fails, calls, endless, body_of}
+use Rattle.call_forms.specs.Bodies.{
+  Body,
+  sets,
+  enters,
+  picks,
+  returns,
+  fails,
+  calls,
+  endless,
+  body_of,
+}
 use Rattle.call_forms.specs.Called.{Among}
 use Rattle.call_forms.specs.Columned.{type_of_name}
 use Rattle.call_forms.specs.Forms.{Anf, Tail, params_of}
@@ -32,7 +42,8 @@ pub record PassesKnown (names params args : List ℕ) : Type 0 where
   pub known : Each (Among names) args
   pub as_many : length args ≡ length params
 
--- The body is finite, and each name that it reads or passes has a reference, where these names have one as it begins.
+-- The body is finite, and each name that it reads or passes has a reference, where these names have
+-- one as it begins.
 abbrev pub HasTree : List Expr → List ℕ → Body → Type 0
 HasTree table names (sets n t x) = HasReferences table names t × HasTree table (n ∷ names) x
 HasTree table names (enters params args x) = PassesKnown names params args × HasTree table params x
@@ -52,7 +63,8 @@ type_or_bigint (Some t) = t
 abbrev pub types_of : List Slot → Ssa → ℕ → Ty
 types_of slots ssa n = type_or_bigint (type_of_name slots ssa.names n)
 
--- The query is that of the tail form, over so many tables, with names of aliases and columns aside. The entry is a label, and each label has a tree.
+-- The query is that of the tail form, over so many tables, with names of aliases and columns aside.
+-- The entry is a label, and each label has a tree.
 pub record Templated (f : Function) (slots : List Slot) (tables : ℕ) (goto : Goto) (ssa : Ssa) (anf : Anf) (tail : Tail) (q : Query) : Type 0 where
   pub entry : Among tail.labels goto.entry
   pub trees : Each (λ b. HasTree (expressions f) (params_of (slice_get anf.blocks b)) (body_of anf tail b)) tail.labels

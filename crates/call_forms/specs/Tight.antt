@@ -1,5 +1,24 @@
--- Tight tail forms: no more columns than one label needs, few tests in a label's body, and no label without a reason.
-use Rattle.std.specs.Prelude.{◌≡◌, ◌⊎◌, ℕ, zero, suc, ◌<◌, ◌≤◌, Bool, true, false, not, List, slice_get, Option, Some, None, nat_eq}
+-- Tight tail forms: no more columns than one label needs, few tests in a label's body, and no label
+-- without a reason.
+use Rattle.std.specs.Prelude.{
+  ◌≡◌,
+  ◌⊎◌,
+  ℕ,
+  zero,
+  suc,
+  ◌<◌,
+  ◌≤◌,
+  Bool,
+  true,
+  false,
+  not,
+  List,
+  slice_get,
+  Option,
+  Some,
+  None,
+  nat_eq,
+}
 use Rattle.std.specs.List.{count_by, filter}
 use Rattle.away_types.specs.declared.slots.Slot.{Slot}
 use Rattle.away_typing.specs.Kinds.{same}
@@ -36,7 +55,8 @@ pub record ColumnsOfType (slots : List Slot) (ssa : Ssa) (anf : Anf) (tail : Tai
 
 -- ---- depths
 
--- the depth of b where its caller has a depth and this end: one more where the call is an arm of a test
+-- the depth of b where its caller has a depth and this end: one more where the call is an arm of a
+-- test
 abbrev pub DepthAfter : CallEnd → ℕ → ℕ → ℕ → Type 0
 DepthAfter (Go c) b above d = (c.target ≡ b) × (d ≡ above)
 DepthAfter (Pick t x y) b above d = ((x.target ≡ b) ⊎ (y.target ≡ b)) × (d ≡ suc above)

@@ -36,7 +36,8 @@ EndPasses Holds anf (Pick t x y) p = PassesOn Holds anf p x ⊎ PassesOn Holds a
 EndPasses Holds anf (Return t) p = ⊥
 EndPasses Holds anf (Fail c) p = ⊥
 
--- The assignment of the block reads p. Or p isn't the assigned name, and the end reads it or passes it on.
+-- The assignment of the block reads p. Or p isn't the assigned name, and the end reads it or passes
+-- it on.
 abbrev pub UsedHere : (ℕ → ℕ → Type 0) → Anf → Option AnfBlock → ℕ → Type 0
 UsedHere Holds anf None p = ⊥
 UsedHere Holds anf (Some x) p = ReadBySet x.set p ⊎ SetsAnother x.set p × (ReadByEnd x.end p ⊎ EndPasses Holds anf x.end p)

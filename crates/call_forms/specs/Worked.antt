@@ -1,5 +1,5 @@
--- Worked examples: the forms of a function with one test, with every block a label and with all blocks merged, and of a function with a loop.
--- And their runs and queries.
+-- Worked examples: the forms of a function with one test, with every block a label and with all
+-- blocks merged, and of a function with a loop. And their runs and queries.
 use Rattle.std.specs.Prelude.{ℕ, ◌≡◌, List, [], ◌∷◌, Some, None, codes, pos}
 use Rattle.away_trees.specs.declared.queries.Expr.{Expr}
 use Rattle.away_trees.specs.declared.queries.Expr.TheVariants as expr
@@ -135,8 +135,9 @@ five = val.Int (pos 5) ∷ []
 abbrev one : Answer
 one = answer.Value (val.Int (pos 1))
 
--- At 5 sign_of's SSA form, its normal form and its tail form with all labels need three visits, and the merged tail form needs one. At 2 collatz
--- visits its head twice: in eight visits of the normal form, and in four of the tail form.
+-- At 5 sign_of's SSA form, its normal form and its tail form with all labels need three visits, and
+-- the merged tail form needs one. At 2 collatz visits its head twice: in eight visits of the normal
+-- form, and in four of the tail form.
 pub record WorkedCallRuns : Type 0 where
   pub ssa : ssa_runs sign_frame sign_of_ssa five 3 ≡ ran one 0
   pub anf : anf_runs sign_frame sign_of_anf five 3 ≡ ran one 0
@@ -164,8 +165,8 @@ next_anf = record { blocks = anf_block (0 ∷ []) (Go (call 1 (0 ∷ []))) ∷ a
 abbrev pub sign_of_query : Query
 sign_of_query = query_of (expressions sign_of) (types_of (bigint ∷ []) sign_of_ssa) ty.Bigint sign_of_anf sign_of_merged 0 0
 
--- The query of a function that is one RETURN is the one that its own template gives, and sign_of's has its value in one iteration more than the
--- run has visits.
+-- The query of a function that is one RETURN is the one that its own template gives, and sign_of's
+-- has its value in one iteration more than the run has visits.
 pub record WorkedQueries : Type 0 where
   pub one_return : query_with (next_of ∷ []) (λ n. ty.Bigint) ty.Bigint next_anf sign_of_merged 0 zero_digits
       ≡ returns.query_with zero_digits (ty.Bigint ∷ []) ty.Bigint (placed_at ty.Bigint returns.slot_at next_of)

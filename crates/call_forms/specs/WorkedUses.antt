@@ -10,7 +10,8 @@ term e names = record { expr = e; names = names }
 abbrev pub call : ℕ → List ℕ → Call
 call target args = record { target = target; args = args }
 
--- A loop that reads its second parameter and hands on its first to itself alone, and the block behind it, which sets its parameter before it reads it.
+-- A loop that reads its second parameter and hands on its first to itself alone, and the block
+-- behind it, which sets its parameter before it reads it.
 abbrev pub idle_anf : Anf
 idle_anf = record {
   blocks =
@@ -19,7 +20,8 @@ idle_anf = record {
       ∷ [];
 }
 
--- The parameter that is read is useful. The one that goes round alone isn't, nor the one that is set before it is read, and so not all are.
+-- The parameter that is read is useful. The one that goes round alone isn't, nor the one that is
+-- set before it is read, and so not all are.
 pub record WorkedUses : Type 0 where
   pub read : IsUseful idle_anf 0 1
   pub handed_on_alone : IsUseful idle_anf 0 0 → ⊥

@@ -1,4 +1,5 @@
--- Forms that a certificate can spell: their classes are five digits or upper-case letters, and their columns have types with a name in certificates.
+-- Forms that a certificate can spell: their classes are five digits or upper-case letters, and
+-- their columns have types with a name in certificates.
 use Rattle.std.specs.Prelude.{◌≡◌, ℕ, Bool, true, ◌&&◌, ◌==◌, List, length}
 use Rattle.std.specs.List.{AllByRecursion, list_all}
 use Rattle.away_values.specs.Classes.{is_class_char}

@@ -1,4 +1,5 @@
--- What Merged and Columned promise of runs: a tail form keeps the answers of its normal form, and visits as many heads.
+-- What Merged and Columned promise of runs: a tail form keeps the answers of its normal form, and
+-- visits as many heads.
 use Rattle.std.specs.Prelude.{List}
 use Rattle.away_types.specs.declared.slots.Slot.{Slot}
 use Rattle.away_values.specs.declared.values.Value.{Value}
@@ -14,5 +15,6 @@ use Rattle.call_forms.specs.TailRuns.{tail_runs}
 
 abbrev pub TailRunsBound : Type 0
 TailRunsBound =
-    (frame : Frame) (slots : List Slot) (ssa : Ssa) (anf : Anf) (tail : Tail) → Merged frame.goto anf tail → Columned slots ssa anf tail → (args : List Value)
+    (frame : Frame) (slots : List Slot) (ssa : Ssa) (anf : Anf) (tail : Tail)
+    → Merged frame.goto anf tail → Columned slots ssa anf tail → (args : List Value)
     → Bounds (anf_runs frame anf args) (tail_runs frame anf tail args)

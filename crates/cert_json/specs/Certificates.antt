@@ -1,6 +1,19 @@
--- Which certificate a JSON value is, and which field is the first that hasn't its shape. A field that is missing has no shape, and so
--- have those of an object that is missing. Other fields are ignored.
-use Rattle.std.specs.Prelude.{◌≡◌, ℕ, List, codes, Option, Some, option_and_then, Result, Ok, Err, IsUtf8}
+-- Which certificate a JSON value is, and which field is the first that hasn't its shape. A field
+-- that is missing has no shape, and so have those of an object that is missing. Other fields are
+-- ignored.
+use Rattle.std.specs.Prelude.{
+  ◌≡◌,
+  ℕ,
+  List,
+  codes,
+  Option,
+  Some,
+  option_and_then,
+  Result,
+  Ok,
+  Err,
+  IsUtf8,
+}
 use Rattle.std.specs.Option.{ok_or}
 use Rattle.serde_json.specs.Data.{Data}
 use Rattle.serde_json.specs.Find.{get}

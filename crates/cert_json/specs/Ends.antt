@@ -1,5 +1,17 @@
 -- How JSON spells assignments and the ends of blocks.
-use Rattle.std.specs.Prelude.{ℕ, if◌then◌else◌, List, [], ◌∷◌, bytes_eq, codes, is_some, Option, Some, None}
+use Rattle.std.specs.Prelude.{
+  ℕ,
+  if◌then◌else◌,
+  List,
+  [],
+  ◌∷◌,
+  bytes_eq,
+  codes,
+  is_some,
+  Option,
+  Some,
+  None,
+}
 use Rattle.serde_json.specs.Data.{Data}
 use Rattle.serde_json.specs.Find.{as_null, as_str}
 use Rattle.block_forms.specs.declared.forms.End.TheVariants.{Jump, Branch, Return, Fail}

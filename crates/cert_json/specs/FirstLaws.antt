@@ -1,5 +1,24 @@
--- Which fields of a certificate have their shape, each by itself, and that the first without its shape is told.
-use Rattle.std.specs.Prelude.{◌≡◌, ℕ, Bool, true, false, List, [], ◌∷◌, take, slice_get, codes, is_some, Option, Some, option_and_then, Ok, Err}
+-- Which fields of a certificate have their shape, each by itself, and that the first without its
+-- shape is told.
+use Rattle.std.specs.Prelude.{
+  ◌≡◌,
+  ℕ,
+  Bool,
+  true,
+  false,
+  List,
+  [],
+  ◌∷◌,
+  take,
+  slice_get,
+  codes,
+  is_some,
+  Option,
+  Some,
+  option_and_then,
+  Ok,
+  Err,
+}
 use Rattle.std.specs.List.{AllByRecursion}
 use Rattle.serde_json.specs.Data.{Data}
 use Rattle.serde_json.specs.Find.{get}
@@ -26,7 +45,8 @@ shapes d =
     (within_goto (codes "nodes") d) ∷ has (many block_in) (within_goto (codes "blocks") d)
     ∷ has (many number_in) (within_ssa (codes "names") d) ∷ has (many ssa_block_in) (within_ssa (codes "blocks") d)
     ∷ has (many anf_block_in) (within (codes "blocks") (get (codes "anf") d))
-    ∷ has (many number_in) (get (codes "labels") d) ∷ has (many type_in) (get (codes "columns") d) ∷ has (many (many number_in)) (get (codes "places") d) ∷ []
+    ∷ has (many number_in) (get (codes "labels") d) ∷ has (many type_in) (get (codes "columns") d)
+    ∷ has (many (many number_in)) (get (codes "places") d) ∷ []
 
 -- the place of a field in the order
 abbrev pub place : CertField → ℕ

@@ -1,5 +1,19 @@
 -- How JSON spells numbers, lists and classes. What has another shape is None.
-use Rattle.std.specs.Prelude.{ℕ, ◌^◌, nat_lt, if◌then◌else◌, List, [], ◌∷◌, bytes_eq, codes, Option, Some, None, option_and_then}
+use Rattle.std.specs.Prelude.{
+  ℕ,
+  ◌^◌,
+  nat_lt,
+  if◌then◌else◌,
+  List,
+  [],
+  ◌∷◌,
+  bytes_eq,
+  codes,
+  Option,
+  Some,
+  None,
+  option_and_then,
+}
 use Rattle.serde_json.specs.Data.{Data, Items, no_items, item}
 use Rattle.serde_json.specs.Find.{as_array, as_number, as_str, as_u64}
 use Rattle.away_values.specs.Results.{class}

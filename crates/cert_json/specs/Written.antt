@@ -1,12 +1,37 @@
 -- The JSON value of a certificate.
 use Rattle.std.specs.Prelude.{ℕ, List, [], ◌∷◌, map, codes, Option, Some, None, if◌then◌else◌}
-use Rattle.serde_json.specs.Data.{Data, null, boolean, number, string, array, object, unsigned, member, no_members}
+use Rattle.serde_json.specs.Data.{
+  Data,
+  null,
+  boolean,
+  number,
+  string,
+  array,
+  object,
+  unsigned,
+  member,
+  no_members,
+}
 use Rattle.serde_json.specs.View.{items_of}
 use Rattle.away_values.specs.declared.types.Ty.TheVariants as ty
 use Rattle.block_forms.specs.declared.forms.End.TheVariants.{Jump, Branch, Return, Fail}
 use Rattle.call_forms.specs.declared.forms.CallEnd.TheVariants as calls
 use Rattle.call_forms.specs.Writable.{is_code}
-use Rattle.cert_json.specs.Forms.{Class, Ty, Term, End, Block, Goto, Phi, SsaBlock, Ssa, CallEnd, AnfBlock, Anf, Cert}
+use Rattle.cert_json.specs.Forms.{
+  Class,
+  Ty,
+  Term,
+  End,
+  Block,
+  Goto,
+  Phi,
+  SsaBlock,
+  Ssa,
+  CallEnd,
+  AnfBlock,
+  Anf,
+  Cert,
+}
 
 -- ---- numbers, lists and words
 
@@ -88,7 +113,8 @@ goto_data goto =
     (member (codes "entry") (number_data goto.entry) (member (codes "nodes") (many_data number_data goto.nodes) no_members))))
 
 unfoldable pub ssa_data : Ssa → Data
-ssa_data ssa = object (member (codes "blocks") (many_data ssa_block_data ssa.blocks) (member (codes "names") (many_data number_data ssa.names) no_members))
+ssa_data ssa = object (member (codes "blocks") (many_data ssa_block_data ssa.blocks)
+    (member (codes "names") (many_data number_data ssa.names) no_members))
 
 unfoldable pub anf_data : Anf → Data
 anf_data anf = object (member (codes "blocks") (many_data anf_block_data anf.blocks) no_members)

@@ -28,7 +28,8 @@ impl Encode for Block {
 #[tactic(auto, using(crate::proofs::Again::block_again))]
 fn block_value(alloc: Global, block: &Block) -> Result<Value, AllocError>
     ensures value { IfOk result (λ v. view v ≡ block_data block.now) }
-    ensures reads { IfOk result (λ _. EndHasCode block.now.end → block_in (block_data block.now) ≡ Some block.now) }
+    ensures reads { IfOk result (λ _. EndHasCode block.now.end
+        → block_in (block_data block.now) ≡ Some block.now) }
 {
     let set = set(alloc, &block.set)?;
     let end = end(alloc, &block.end)?;
@@ -74,7 +75,8 @@ impl Encode for SsaBlock {
 #[tactic(auto, using(crate::proofs::Again::ssa_block_again))]
 fn ssa_block_value(alloc: Global, block: &SsaBlock) -> Result<Value, AllocError>
     ensures value { IfOk result (λ v. view v ≡ ssa_block_data block.now) }
-    ensures reads { IfOk result (λ _. EndHasCode block.now.end → ssa_block_in (ssa_block_data block.now) ≡ Some block.now) }
+    ensures reads { IfOk result (λ _. EndHasCode block.now.end
+        → ssa_block_in (ssa_block_data block.now) ≡ Some block.now) }
 {
     let map = pairs(alloc, &block.map)?;
     let phis = phis(alloc, &block.phis)?;
@@ -96,7 +98,8 @@ impl Encode for AnfBlock {
 #[tactic(auto, using(crate::proofs::Again::anf_block_again))]
 fn anf_block_value(alloc: Global, block: &AnfBlock) -> Result<Value, AllocError>
     ensures value { IfOk result (λ v. view v ≡ anf_block_data block.now) }
-    ensures reads { IfOk result (λ _. CallEndHasCode block.now.end → anf_block_in (anf_block_data block.now) ≡ Some block.now) }
+    ensures reads { IfOk result (λ _. CallEndHasCode block.now.end
+        → anf_block_in (anf_block_data block.now) ≡ Some block.now) }
 {
     let params = numbers(alloc, &block.params)?;
     let set = set(alloc, &block.set)?;

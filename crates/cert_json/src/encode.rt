@@ -23,7 +23,8 @@ pub(crate) trait Encode: Decode {
 
     fn encode(&self, alloc: Global) -> Result<Value, AllocError>
         ensures value { IfOk result (λ v. view v ≡ json self.now) }
-        ensures reads { IfOk result (λ _. has_spelling self.now → Self.spelled (json self.now) ≡ Some self.now) };
+        ensures reads { IfOk result
+            (λ _. has_spelling self.now → Self.spelled (json self.now) ≡ Some self.now) };
 }
 
 /// A list of some values.
@@ -136,7 +137,8 @@ fn many<T: Encode + Drop>(alloc: Global, items: &Items<T>) -> Result<Value, Allo
 
 pub(crate) fn numbers(alloc: Global, list: &Items<u32>) -> Result<Value, AllocError>
     ensures value { IfOk result (λ v. view v ≡ many_data number_data list.now) }
-    ensures reads { IfOk result (λ _. many number_in (many_data number_data list.now) ≡ Some list.now) }
+    ensures reads { IfOk result
+        (λ _. many number_in (many_data number_data list.now) ≡ Some list.now) }
 {
     list.encode(alloc)
 }
@@ -150,7 +152,8 @@ pub(crate) fn pairs(alloc: Global, list: &Items<(u32, u32)>) -> Result<Value, Al
 
 pub(crate) fn lists(alloc: Global, list: &Items<Items<u32>>) -> Result<Value, AllocError>
     ensures value { IfOk result (λ v. view v ≡ many_data (many_data number_data) list.now) }
-    ensures reads { IfOk result (λ _. many (many number_in) (many_data (many_data number_data) list.now) ≡ Some list.now) }
+    ensures reads { IfOk result (λ _. many (many number_in)
+        (many_data (many_data number_data) list.now) ≡ Some list.now) }
 {
     list.encode(alloc)
 }

@@ -47,7 +47,8 @@ fn jump(alloc: Global, block: u32) -> Result<Value, AllocError>
 #[tactic(auto, using(crate::proofs::Again::branch_again))]
 fn branch(alloc: Global, term: &Term, yes: u32, no: u32) -> Result<Value, AllocError>
     ensures value { IfOk result (λ v. view v ≡ end_data (Branch term.now yes no)) }
-    ensures reads { IfOk result (λ _. end_in (end_data (Branch term.now yes no)) ≡ Some (Branch term.now yes no)) }
+    ensures reads { IfOk result
+        (λ _. end_in (end_data (Branch term.now yes no)) ≡ Some (Branch term.now yes no)) }
 {
     let names = numbers(alloc, &term.names)?;
     list(
@@ -66,7 +67,8 @@ fn branch(alloc: Global, term: &Term, yes: u32, no: u32) -> Result<Value, AllocE
 fn return_value(alloc: Global, term: &Term) -> Result<Value, AllocError>
     ensures value { IfOk result (λ v. view v ≡ return_data term.now) }
     ensures reads { IfOk result (λ _. end_in (return_data term.now) ≡ Some (Return term.now)) }
-    ensures reads_call { IfOk result (λ _. call_end_in (return_data term.now) ≡ Some (calls.Return term.now)) }
+    ensures reads_call { IfOk result
+        (λ _. call_end_in (return_data term.now) ≡ Some (calls.Return term.now)) }
 {
     let names = numbers(alloc, &term.names)?;
     list(alloc, [word(alloc, "return")?, number(term.expr), names])
@@ -76,14 +78,16 @@ fn return_value(alloc: Global, term: &Term) -> Result<Value, AllocError>
 fn fail_value(alloc: Global, code: Class) -> Result<Value, AllocError>
     ensures value { IfOk result (λ v. view v ≡ fail_data code) }
     ensures reads { IfOk result (λ _. HasCode code → end_in (fail_data code) ≡ Some (Fail code)) }
-    ensures reads_call { IfOk result (λ _. HasCode code → call_end_in (fail_data code) ≡ Some (calls.Fail code)) }
+    ensures reads_call { IfOk result
+        (λ _. HasCode code → call_end_in (fail_data code) ≡ Some (calls.Fail code)) }
 {
     list(alloc, [word(alloc, "fail")?, class(alloc, code)?])
 }
 
 pub(crate) fn end(alloc: Global, end: &End) -> Result<Value, AllocError>
     ensures value { IfOk result (λ v. view v ≡ end_data end.now) }
-    ensures reads { IfOk result (λ _. EndHasCode end.now → end_in (end_data end.now) ≡ Some end.now) }
+    ensures reads { IfOk result
+        (λ _. EndHasCode end.now → end_in (end_data end.now) ≡ Some end.now) }
 {
     match end {
         End::Jump(block) => jump(alloc, *block),
@@ -96,7 +100,8 @@ pub(crate) fn end(alloc: Global, end: &End) -> Result<Value, AllocError>
 #[tactic(auto, using(crate::proofs::Again::go_again))]
 fn go(alloc: Global, call: &Call) -> Result<Value, AllocError>
     ensures value { IfOk result (λ v. view v ≡ call_end_data (calls.Go call.now)) }
-    ensures reads { IfOk result (λ _. call_end_in (call_end_data (calls.Go call.now)) ≡ Some (calls.Go call.now)) }
+    ensures reads { IfOk result
+        (λ _. call_end_in (call_end_data (calls.Go call.now)) ≡ Some (calls.Go call.now)) }
 {
     let args = numbers(alloc, &call.args)?;
     list(alloc, [word(alloc, "call")?, number(call.target), args])
@@ -105,7 +110,9 @@ fn go(alloc: Global, call: &Call) -> Result<Value, AllocError>
 #[tactic(auto, using(crate::proofs::Again::pick_again))]
 fn pick(alloc: Global, term: &Term, yes: &Call, no: &Call) -> Result<Value, AllocError>
     ensures value { IfOk result (λ v. view v ≡ call_end_data (calls.Pick term.now yes.now no.now)) }
-    ensures reads { IfOk result (λ _. call_end_in (call_end_data (calls.Pick term.now yes.now no.now)) ≡ Some (calls.Pick term.now yes.now no.now)) }
+    ensures reads { IfOk result
+        (λ _. call_end_in (call_end_data (calls.Pick term.now yes.now no.now))
+        ≡ Some (calls.Pick term.now yes.now no.now)) }
 {
     let names = numbers(alloc, &term.names)?;
     let yes_args = numbers(alloc, &yes.args)?;
@@ -126,7 +133,8 @@ fn pick(alloc: Global, term: &Term, yes: &Call, no: &Call) -> Result<Value, Allo
 
 pub(crate) fn call_end(alloc: Global, end: &CallEnd) -> Result<Value, AllocError>
     ensures value { IfOk result (λ v. view v ≡ call_end_data end.now) }
-    ensures reads { IfOk result (λ _. CallEndHasCode end.now → call_end_in (call_end_data end.now) ≡ Some end.now) }
+    ensures reads { IfOk result
+        (λ _. CallEndHasCode end.now → call_end_in (call_end_data end.now) ≡ Some end.now) }
 {
     match end {
         CallEnd::Go(call) => go(alloc, call),

@@ -38,7 +38,8 @@ pub(crate) fn two(value: &Value) -> Result<(&Value, &Value), Misfit>
 
 #[tactic(auto, unfolding(crate::specs::Spellings::three_in))]
 pub(crate) fn three(value: &Value) -> Result<(&Value, &Value, &Value), Misfit>
-    ensures { Gives (λ p. (view p.0.now, view p.1.now, view p.2.now)) result (three_in (view value.now)) }
+    ensures { Gives (λ p. (view p.0.now, view p.1.now, view p.2.now)) result
+        (three_in (view value.now)) }
 {
     match array(value)? {
         [a, b, c] => Ok((a, b, c)),
@@ -48,7 +49,8 @@ pub(crate) fn three(value: &Value) -> Result<(&Value, &Value, &Value), Misfit>
 
 #[tactic(auto, unfolding(crate::specs::Spellings::four_in))]
 pub(crate) fn four(value: &Value) -> Result<(&Value, &Value, &Value, &Value), Misfit>
-    ensures { Gives (λ p. (view p.0.now, view p.1.now, view p.2.now, view p.3.now)) result (four_in (view value.now)) }
+    ensures { Gives (λ p. (view p.0.now, view p.1.now, view p.2.now, view p.3.now)) result
+        (four_in (view value.now)) }
 {
     match array(value)? {
         [a, b, c, d] => Ok((a, b, c, d)),

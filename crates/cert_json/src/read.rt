@@ -18,7 +18,8 @@ use std::alloc::Global;
 
 /// What stands under a name in an object, where there is one.
 fn member<'v>(parent: Option<&'v Value>, name: &str) -> Option<&'v Value>
-    ensures { option_map (λ v. view v.now) result ≡ option_and_then (get name.now) (option_map (λ v. view v.now) parent.entry) }
+    ensures { option_map (λ v. view v.now) result
+        ≡ option_and_then (get name.now) (option_map (λ v. view v.now) parent.entry) }
 {
     match parent {
         Some(value) => value.get(name),
@@ -28,7 +29,8 @@ fn member<'v>(parent: Option<&'v Value>, name: &str) -> Option<&'v Value>
 
 /// A field of its shape.
 fn field<T: Decode>(alloc: Global, name: CertField, found: Option<&Value>) -> Result<T, CertRefusal>
-    ensures { Tells result (shaped name T.Decode.spelled (option_map (λ v. view v.now) found.entry)) }
+    ensures { Tells result (shaped name T.Decode.spelled
+        (option_map (λ v. view v.now) found.entry)) }
 {
     let Some(value) = found else {
         return Err(CertRefusal::Field(name));

@@ -20,7 +20,8 @@ use std::alloc::{AllocError, Global};
 #[tactic(auto, using(crate::proofs::FormsAgain::goto_again), unfolding(crate::specs::Written::goto_data))]
 fn goto(alloc: Global, goto: &Goto) -> Result<Value, AllocError>
     ensures value { IfOk result (λ v. view v ≡ goto_data goto.now) }
-    ensures reads { IfOk result (λ _. AllByRecursion (λ b. EndHasCode b.end) goto.now.blocks → goto_in (Some (goto_data goto.now)) ≡ Ok goto.now) }
+    ensures reads { IfOk result (λ _. AllByRecursion (λ b. EndHasCode b.end) goto.now.blocks
+        → goto_in (Some (goto_data goto.now)) ≡ Ok goto.now) }
 {
     let nodes = numbers(alloc, &goto.nodes)?;
     let blocks = goto.blocks.encode(alloc)?;
@@ -32,7 +33,8 @@ fn goto(alloc: Global, goto: &Goto) -> Result<Value, AllocError>
 #[tactic(auto, using(crate::proofs::FormsAgain::ssa_again), unfolding(crate::specs::Written::ssa_data))]
 fn ssa(alloc: Global, ssa: &Ssa) -> Result<Value, AllocError>
     ensures value { IfOk result (λ v. view v ≡ ssa_data ssa.now) }
-    ensures reads { IfOk result (λ _. AllByRecursion (λ b. EndHasCode b.end) ssa.now.blocks → ssa_in (Some (ssa_data ssa.now)) ≡ Ok ssa.now) }
+    ensures reads { IfOk result (λ _. AllByRecursion (λ b. EndHasCode b.end) ssa.now.blocks
+        → ssa_in (Some (ssa_data ssa.now)) ≡ Ok ssa.now) }
 {
     let names = numbers(alloc, &ssa.names)?;
     let blocks = ssa.blocks.encode(alloc)?;
@@ -42,7 +44,8 @@ fn ssa(alloc: Global, ssa: &Ssa) -> Result<Value, AllocError>
 #[tactic(auto, using(crate::proofs::FormsAgain::anf_again), unfolding(crate::specs::Written::anf_data))]
 fn anf(alloc: Global, anf: &Anf) -> Result<Value, AllocError>
     ensures value { IfOk result (λ v. view v ≡ anf_data anf.now) }
-    ensures reads { IfOk result (λ _. AllByRecursion (λ b. CallEndHasCode b.end) anf.now.blocks → anf_in (Some (anf_data anf.now)) ≡ Ok anf.now) }
+    ensures reads { IfOk result (λ _. AllByRecursion (λ b. CallEndHasCode b.end) anf.now.blocks
+        → anf_in (Some (anf_data anf.now)) ≡ Ok anf.now) }
 {
     let blocks = anf.blocks.encode(alloc)?;
     json!(in alloc; {"blocks": blocks})
@@ -51,7 +54,8 @@ fn anf(alloc: Global, anf: &Anf) -> Result<Value, AllocError>
 #[tactic(auto, using(crate::proofs::FormsAgain::cert_again), unfolding(crate::specs::Written::cert_data))]
 fn cert_value(alloc: Global, cert: &Cert) -> Result<Value, AllocError>
     ensures value { IfOk result (λ v. view v ≡ cert_data cert.now) }
-    ensures reads { IfOk result (λ _. HasSpelling cert.now → cert_in (cert_data cert.now) ≡ Ok cert.now) }
+    ensures reads { IfOk result
+        (λ _. HasSpelling cert.now → cert_in (cert_data cert.now) ≡ Ok cert.now) }
 {
     let anf = anf(alloc, &cert.anf)?;
     let columns = cert.tail.columns.encode(alloc)?;

@@ -1,5 +1,5 @@
-//! Runs of the commands over files and a sink in memory, and over the system's. A crate of its own, so that they load what stands below and prove none of it
-//! again.
+//! Runs of the commands over files and a sink in memory, and over the system's. A crate of its own, so that they load what stands below and prove
+//! none of it again.
 #![tactic(auto)]
 
 #[cfg(test)]

@@ -14,8 +14,9 @@ use Rattle.call_forms.specs.Writable.{HasSpelling}
 use Rattle.equivalence.specs.Accepted.{AcceptedForms}
 use Rattle.sql_text.specs.Refusals.{MayBeRead}
 
--- The text reads as the written query, which breaks no rule under the schema. The forms stand between the function and the query with its names resolved.
--- They are neat and tight, and a certificate can spell them.
+-- The text reads as the written query, which breaks no rule under the schema. The forms stand
+-- between the function and the query with its names resolved. They are neat and tight, and a
+-- certificate can spell them.
 pub record IsCompiled (s : Schema) (f : Function) (slots : List Slot) (written : Query) (text : List ℕ) (forms : Forms) : Type 0 where
   pub may_be_read : MayBeRead text
   pub reads : ReadsQuery text written

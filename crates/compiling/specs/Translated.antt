@@ -11,8 +11,9 @@ use Rattle.cte_template.specs.Numbers.{NumbersFit}
 use Rattle.cte_template.specs.Tree.{tree}
 use Rattle.equivalence.specs.Accepted.{AcceptedForms}
 
--- The forms stand between the function and the tree, over the tables of the schema. No φ joins one name alone, every parameter is useful, and the tail form
--- has no more columns and labels than it needs. The tree is that of the template with its names, whose numbers fit a word.
+-- The forms stand between the function and the tree, over the tables of the schema. No φ joins one
+-- name alone, every parameter is useful, and the tail form has no more columns and labels than it
+-- needs. The tree is that of the template with its names, whose numbers fit a word.
 pub record IsTranslated (s : Schema) (f : Function) (slots : List Slot) (x : Translated) : Type 0 where
   pub accepted : AcceptedForms s f slots x.forms x.tree
   pub neat : Neat x.forms.ssa x.forms.anf

@@ -54,13 +54,16 @@ fn text_of(alloc: Global, tree: &Query) -> Result<WrittenQuery, NoMemory>
     Ok(WrittenQuery { query, text })
 }
 
-/// The query of a function, with its text, and with forms that show that the query is equivalent to the function, if that was checked under the schema.
-/// The function is that of a text, checked under the schema.
+/// The query of a function, with its text, and with forms that show that the query is equivalent to the function, if that was checked under the
+/// schema. The function is that of a text, checked under the schema.
 pub fn compile(alloc: Global, s: &CheckedSchema, f: &CheckedFunction) -> Result<Compiled, NoMemory>
     requires texts { IsOfTexts s.now.schema f.now.function f.now.slots }
-    ensures compiled { IfOk result (λ c. IsCompiled s.now.schema f.now.function f.now.slots c.query (string_bytes c.text) c.cert) }
-    ensures equivalent { IfOk result (λ c. (written : Function) → IsChecked s.now.schema written f.now.function f.now.slots
-        → EquivalentWith s.now.schema f.now.function f.now.slots (resolved_query s.now.schema c.query)) }
+    ensures compiled { IfOk result (λ c. IsCompiled s.now.schema f.now.function f.now.slots c.query
+        (string_bytes c.text) c.cert) }
+    ensures equivalent { IfOk result
+        (λ c. (written : Function) → IsChecked s.now.schema written f.now.function f.now.slots
+        → EquivalentWith s.now.schema f.now.function f.now.slots
+        (resolved_query s.now.schema c.query)) }
 {
     accepted_forms_are_equivalent(f);
     trees_read_again();

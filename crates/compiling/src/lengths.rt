@@ -19,9 +19,11 @@ use ssa_build::names_are_few;
 /// names of the SSA form are set.
 pub fn normal_forms_are_short(f: &CheckedFunction)
     ensures blocks { (g : Goto) (z : Ssa) (a : Anf) → Lowered f.now.function f.now.slots g
-        → Named (length f.now.slots) (length f.now.function.params) g z → Called g z a → length a.blocks < 2 ^ 28 }
+        → Named (length f.now.slots) (length f.now.function.params) g z → Called g z a
+        → length a.blocks < 2 ^ 28 }
     ensures parameters { (g : Goto) (z : Ssa) (a : Anf) → Lowered f.now.function f.now.slots g
-        → Named (length f.now.slots) (length f.now.function.params) g z → NamesAreSet (length f.now.slots) z → Called g z a
+        → Named (length f.now.slots) (length f.now.function.params) g z
+        → NamesAreSet (length f.now.slots) z → Called g z a
         → Each HasFewParameters a.blocks }
 {
     checked_functions_own_their_slots(f);

@@ -1,6 +1,27 @@
--- What a field of a file writes for a type. The spellings of bigint and boolean are those of PostgreSQL's manual, those that COPY
--- writes among them; `\N` for NULL is COPY's text format, taken over into CSV.
-use Rattle.std.specs.Prelude.{ℕ, Bool, true, false, ◌&&◌, ◌||◌, not, nat_le, if◌then◌else◌, List, length, Option, Some, None, option_map, codes, bytes_eq, chars, eqb}
+-- What a field of a file writes for a type. The spellings of bigint and boolean are those of
+-- PostgreSQL's manual, those that COPY writes among them; `\N` for NULL is COPY's text format,
+-- taken over into CSV.
+use Rattle.std.specs.Prelude.{
+  ℕ,
+  Bool,
+  true,
+  false,
+  ◌&&◌,
+  ◌||◌,
+  not,
+  nat_le,
+  if◌then◌else◌,
+  List,
+  length,
+  Option,
+  Some,
+  None,
+  option_map,
+  codes,
+  bytes_eq,
+  chars,
+  eqb,
+}
 use Rattle.std.specs.List.{list_all}
 use Rattle.std.specs.Option.{option_and_then}
 use Rattle.std.specs.Str.{is_utf8}

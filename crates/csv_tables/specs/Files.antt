@@ -1,6 +1,25 @@
--- What a table's file is: its records, the names of the columns first, and a value for each field of the others. The first row that is
--- no row of the table decides, and in it the first field.
-use Rattle.std.specs.Prelude.{◌≡◌, ◌≢◌, ℕ, ◌+◌, Bool, true, false, ◌&&◌, ◌==◌, if◌then◌else◌, List, [], ◌∷◌, length, Result, Ok, Err, bytes_eq}
+-- What a table's file is: its records, the names of the columns first, and a value for each field
+-- of the others. The first row that is no row of the table decides, and in it the first field.
+use Rattle.std.specs.Prelude.{
+  ◌≡◌,
+  ◌≢◌,
+  ℕ,
+  ◌+◌,
+  Bool,
+  true,
+  false,
+  ◌&&◌,
+  ◌==◌,
+  if◌then◌else◌,
+  List,
+  [],
+  ◌∷◌,
+  length,
+  Result,
+  Ok,
+  Err,
+  bytes_eq,
+}
 use Rattle.std.specs.Option.{ok_or}
 use Rattle.csv.specs.Reading.{default_config, records, strip_bom}
 use Rattle.away_values.specs.declared.values.Value.{Value}
@@ -15,7 +34,8 @@ use Rattle.csv_tables.specs.Cells.{is_null_mark, value_of}
 abbrev pub Fields : Type 0
 Fields = List (List ℕ)
 
--- the records of a file as `csv` reads them: fields between commas, in quotes or not, with nothing trimmed, after a byte order mark
+-- the records of a file as `csv` reads them: fields between commas, in quotes or not, with nothing
+-- trimmed, after a byte order mark
 abbrev pub records_of : List ℕ → List Fields
 records_of bytes = records default_config (strip_bom bytes)
 
@@ -38,7 +58,8 @@ pub record Refuses {A : Type 0} (meant : Or A) (e : TableRefusal) : Type 0 where
 
 -- ---- rows; rows and columns count from 1
 
--- a field under its column: NULL only where the column takes it, and a spelling of the column's type
+-- a field under its column: NULL only where the column takes it, and a spelling of the column's
+-- type
 unfoldable pub cell_of : ℕ → ℕ → ColumnSchema → List ℕ → Or Value
 cell_of row column c field =
     if c.not_null && is_null_mark field then Err (refusal.NullCell row column) else ok_or (value_of c.ty field) (refusal.Cell row column)

@@ -1,5 +1,19 @@
 -- What worked fields write and what worked files hold.
-use Rattle.std.specs.Prelude.{◌≡◌, Bool, true, false, [], ◌∷◌, Some, None, Ok, Err, codes, pos, negsuc}
+use Rattle.std.specs.Prelude.{
+  ◌≡◌,
+  Bool,
+  true,
+  false,
+  [],
+  ◌∷◌,
+  Some,
+  None,
+  Ok,
+  Err,
+  codes,
+  pos,
+  negsuc,
+}
 use Rattle.away_values.specs.declared.values.Value.TheVariants as val
 use Rattle.away_values.specs.declared.types.Ty.TheVariants as ty
 use Rattle.away_trees.specs.declared.schemas.TableSchema.{TableSchema}

@@ -44,7 +44,8 @@ pub(crate) fn row_values(
     fields: &ByteRecord,
     row: u64,
 ) -> Result<Items<Value>, TableRefusal>
-    ensures values { IfOk result (λ values. row_of row columns.now (fields_of fields.now) ≡ Ok values) }
+    ensures values { IfOk result
+        (λ values. row_of row columns.now (fields_of fields.now) ≡ Ok values) }
     ensures refused { IfErr result (Refuses (row_of row columns.now (fields_of fields.now))) }
 {
     if fields.len() != columns.len() {

@@ -1,5 +1,21 @@
 -- A walk over the blocks of a label beside its branch: where it is, and what is read from there.
-use Rattle.std.specs.Prelude.{◌≡◌, ℕ, suc, ◌+◌, ◌-◌, ◌<◌, ◌≤◌, List, [], length, slice_get, get_or, Option, Some, None}
+use Rattle.std.specs.Prelude.{
+  ◌≡◌,
+  ℕ,
+  suc,
+  ◌+◌,
+  ◌-◌,
+  ◌<◌,
+  ◌≤◌,
+  List,
+  [],
+  length,
+  slice_get,
+  get_or,
+  Option,
+  Some,
+  None,
+}
 use Rattle.away_trees.specs.declared.queries.Expr.{Expr}
 use Rattle.away_values.specs.declared.types.Ty.{Ty}
 use Rattle.block_forms.specs.Places.{Each}
@@ -52,7 +68,8 @@ abbrev pub InSight : ℕ → Option (ℕ × Ref) → List Ref → Type 0
 InSight depth None refs = Each (λ r. r.from ≤ suc depth) refs
 InSight depth (Some s) refs = (s.1.from ≤ suc depth) × Each (λ r. r.from ≤ suc depth) refs
 
--- a walk has as many references as names, which are in sight, and what is counted stays below the number of blocks
+-- a walk has as many references as names, which are in sight, and what is counted stays below the
+-- number of blocks
 pub record Sound (g : code.Given) (w : walk.Walk) : Type 0 where
   pub as_many : length w.scope.refs ≡ length w.scope.names.now
   pub in_sight : InSight w.depth w.scope.set w.scope.refs
@@ -66,7 +83,8 @@ parts_at table g w x = parts table (types_in g) g.tail.now.columns g.result w.de
 abbrev pub parts_put : Parts → Put
 parts_put p = body_put p.items p.list
 
--- Where the body has a tree, what is read from the walk's place on is its items and its list. Where it has none, nothing is.
+-- Where the body has a tree, what is read from the walk's place on is its items and its list. Where
+-- it has none, nothing is.
 abbrev pub BodyRead : List Expr → code.Given → walk.Walk → Body → Option ℕ → Type 0
 BodyRead table g w x to = ReadsWhere (HasTree table (names_of w.scope) x) (parts_put (parts_at table g w x)) g.events.now w.at to
 
@@ -74,7 +92,8 @@ BodyRead table g w x to = ReadsWhere (HasTree table (names_of w.scope) x) (parts
 abbrev pub WalkRead : List Expr → code.Given → walk.Walk → Option ℕ → Type 0
 WalkRead table g w to = BodyRead table g w (further_blocks g w w.block) to
 
--- What a piece of a body comes to: it is over, or the walk goes on, and what is read from there on ends the body.
+-- What a piece of a body comes to: it is over, or the walk goes on, and what is read from there on
+-- ends the body.
 abbrev pub StepRead : List Expr → code.Given → walk.Walk → Body → walks.Step → Type 0
 StepRead table g w x (step.Ends to) = BodyRead table g w x to
 StepRead table g w x (step.Goes next) = (to : Option ℕ) → WalkRead table g next to → BodyRead table g w x to

@@ -1,5 +1,22 @@
 -- The events of the whole query round its branches.
-use Rattle.std.specs.Prelude.{◌≡◌, ℕ, suc, true, pos, List, [], ◌∷◌, ◌++◌, length, get_or, slice_get, Option, Some, None, decimal}
+use Rattle.std.specs.Prelude.{
+  ◌≡◌,
+  ℕ,
+  suc,
+  true,
+  pos,
+  List,
+  [],
+  ◌∷◌,
+  ◌++◌,
+  length,
+  get_or,
+  slice_get,
+  Option,
+  Some,
+  None,
+  decimal,
+}
 use Rattle.away_trees.specs.declared.queries.Expr.{Expr}
 use Rattle.away_trees.specs.declared.queries.Expr.TheVariants as expr
 use Rattle.away_trees.specs.declared.queries.FromItem.{FromItem}
@@ -15,7 +32,15 @@ use Rattle.tree_events.specs.declared.events.Kind.TheVariants as kind
 use Rattle.tree_events.specs.declared.events.TreeEvent.TheVariants as event
 use Rattle.sql_meaning.specs.Template.{last}
 use Rattle.sql_meaning.specs.Trees.{col, number, truth, null_of, table_by, select}
-use Rattle.cte_reads.specs.Puts.{expr_put, exprs_put, from_put, select_put, end_put, lateral_put, lateral_end_put}
+use Rattle.cte_reads.specs.Puts.{
+  expr_put,
+  exprs_put,
+  from_put,
+  select_put,
+  end_put,
+  lateral_put,
+  lateral_end_put,
+}
 use Rattle.cte_reads.specs.Read.{ReadsWhere}
 use Rattle.cte_reads.specs.References.{lookup}
 use Rattle.cte_check.specs.Walks.{anf_of, types_in, branch_of, HasBranch}

@@ -84,7 +84,8 @@ fn arm<'a>(
     requires sound { Sound g.now w.now }
     requires further { w.now.depth + suc w.now.fuel ≤ length g.now.blocks.now }
     ensures { IfOk result (λ to. (table : List Expr) → GivenOf table g.now
-        → ArmRead table g.now w.now by (bodies.goes (spec.anf_of g.now) g.now.tail.now (spec.further_blocks g.now w.now) call.now) at to) }
+        → ArmRead table g.now w.now by (bodies.goes (spec.anf_of g.now) g.now.tail.now
+        (spec.further_blocks g.now w.now) call.now) at to) }
 {
     let next = inner(alloc, w, open_body(g.events, at, by))?;
     match go(alloc, g, next, call)? {
@@ -140,7 +141,8 @@ fn end<'a>(alloc: Global, g: &Given<'a>, w: Walk<'a>, end: &CallEnd) -> Result<S
     requires further { w.depth + suc w.fuel ≤ length g.now.blocks.now }
     ensures sound { IfOk result (λ s. GoesSoundly g.now w.entry.fuel s) }
     ensures read { IfOk result (λ s. (table : List Expr) → GivenOf table g.now
-        → StepRead table g.now w.entry (bodies.end_body (spec.anf_of g.now) g.now.tail.now (spec.further_blocks g.now w.entry) end.now) s) }
+        → StepRead table g.now w.entry (bodies.end_body (spec.anf_of g.now) g.now.tail.now
+        (spec.further_blocks g.now w.entry) end.now) s) }
 {
     match end {
         CallEnd::Go(call) => go(alloc, g, w, call),
@@ -159,7 +161,8 @@ fn block<'a>(alloc: Global, g: &Given<'a>, w: Walk<'a>, x: &AnfBlock) -> Result<
     requires room { w.items + w.fuel ≤ length g.now.blocks.now }
     ensures sound { IfOk result (λ s. GoesSoundly g.now w.entry.fuel s) }
     ensures read { IfOk result (λ s. (table : List Expr) → GivenOf table g.now
-        → StepRead table g.now w.entry (bodies.block_body (spec.anf_of g.now) g.now.tail.now (spec.further_blocks g.now w.entry) (Some x.now)) s) }
+        → StepRead table g.now w.entry (bodies.block_body (spec.anf_of g.now) g.now.tail.now
+        (spec.further_blocks g.now w.entry) (Some x.now)) s) }
 {
     match &x.set {
         None => end(alloc, g, w, &x.end),
@@ -205,7 +208,8 @@ fn advance<'a>(alloc: Global, g: &Given<'a>, w: Walk<'a>) -> Result<Step<'a>, No
 fn body<'a>(alloc: Global, g: &Given<'a>, start: Walk<'a>) -> Result<Option<usize>, NoMemory>
     requires sound { Sound g.now start }
     requires fresh { spec.Fresh start }
-    ensures { IfOk result (λ to. (table : List Expr) → GivenOf table g.now → WalkRead table g.now start.entry to) }
+    ensures { IfOk result (λ to. (table : List Expr) → GivenOf table g.now
+        → WalkRead table g.now start.entry to) }
 {
     let mut w = start;
     'onward: loop {
@@ -224,7 +228,8 @@ pub(crate) fn branch(
     label: usize,
     of: u32,
 ) -> Result<Option<usize>, NoMemory>
-    ensures { IfOk result (λ to. (table : List Expr) → GivenOf table g.now → BranchRead table g.now label of at to) }
+    ensures { IfOk result (λ to. (table : List Expr) → GivenOf table g.now
+        → BranchRead table g.now label of at to) }
 {
     let params = params_of(g, of);
     let start = Walk {

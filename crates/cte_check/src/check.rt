@@ -20,7 +20,8 @@ use std::alloc::Global;
 use tree_events::query_events;
 
 fn branches(alloc: Global, g: &Given<'_>, at: Option<usize>) -> Result<Option<usize>, NoMemory>
-    ensures { IfOk result (λ to. (table : List Expr) → walks.GivenOf table g.now → spec.BranchesRead table g.now at to) }
+    ensures { IfOk result (λ to. (table : List Expr) → walks.GivenOf table g.now
+        → spec.BranchesRead table g.now at to) }
 {
     let mut at = at;
     let labels = g.tail.labels.as_slice();
@@ -32,7 +33,8 @@ fn branches(alloc: Global, g: &Given<'_>, at: Option<usize>) -> Result<Option<us
 
 /// Whether the events are those of the template, from the first to the last.
 fn is_query(alloc: Global, g: &Given<'_>, entry: u32, tables: usize) -> Result<bool, NoMemory>
-    ensures { IfOk result (λ yes. (table : List Expr) → walks.GivenOf table g.now → IsTrue yes ↔ spec.IsTemplate table g.now entry tables) }
+    ensures { IfOk result (λ yes. (table : List Expr) → walks.GivenOf table g.now
+        → IsTrue yes ↔ spec.IsTemplate table g.now entry tables) }
 {
     let Some(label) = label_of(g, entry) else {
         return Ok(false);

@@ -34,7 +34,8 @@ pub(crate) fn type_of_name(slots: &[Slot], names: &[u32], n: u32) -> Ty
 /// The label of a block, counted from 0.
 pub(crate) fn label_of(g: &Given<'_>, block: u32) -> Option<usize>
     ensures { LabelsOf g.now → length g.now.labels.now ≡ length g.now.blocks.now
-        → Each (λ b. suc b ≤ length g.now.blocks.now) g.now.tail.now.labels → result ≡ forms.label_of g.now.tail.now block }
+        → Each (λ b. suc b ≤ length g.now.blocks.now) g.now.tail.now.labels
+        → result ≡ forms.label_of g.now.tail.now block }
 {
     let block = block as usize;
     if block < g.labels.len() {

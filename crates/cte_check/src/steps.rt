@@ -30,8 +30,10 @@ pub(crate) fn assign<'a>(
     ensures sound { IfOk result (λ next. Sound g.now next) }
     ensures fuel { IfOk result (λ next. next.fuel ≡ w.entry.fuel) }
     ensures depth { IfOk result (λ next. next.depth ≡ w.entry.depth) }
-    ensures read { IfOk result (λ next. (table : List Expr) → GivenOf table g.now → (x : bodies.Body) (to : Option ℕ)
-        → BodyRead table g.now next x to → BodyRead table g.now w.entry (bodies.sets n t.now x) to) }
+    ensures read { IfOk result (λ next. (table : List Expr) → GivenOf table g.now
+        → (x : bodies.Body) (to : Option ℕ)
+        → BodyRead table g.now next x to
+        → BodyRead table g.now w.entry (bodies.sets n t.now x) to) }
 {
     let ty = type_of_name(g.slots, g.names, n);
     let at = term(alloc, g.events, w.at, g.entries, &w.scope, t, ty, w.depth)?;
@@ -64,7 +66,8 @@ pub(crate) fn go<'a>(
     requires { Sound g.now w }
     ensures sound { IfOk result (λ s. GoesSoundly g.now w.entry.fuel s) }
     ensures read { IfOk result (λ s. (table : List Expr) → GivenOf table g.now
-        → StepRead table g.now w.entry (bodies.goes (spec.anf_of g.now) g.now.tail.now (spec.further_blocks g.now w.entry) call.now) s) }
+        → StepRead table g.now w.entry (bodies.goes (spec.anf_of g.now) g.now.tail.now
+        (spec.further_blocks g.now w.entry) call.now) s) }
 {
     let Some(refs) = find_all(alloc, &w.scope, call.args.as_slice())? else {
         return Ok(Step::Ends(None));
@@ -80,7 +83,8 @@ fn enter_block<'a>(g: &Given<'a>, w: Walk<'a>, call: &Call, refs: Items<Ref>) ->
     requires sound { Sound g.now w }
     requires found { founds w.scope call.now.args ≡ Some refs }
     ensures sound { GoesSoundly g.now w.entry.fuel result }
-    ensures read { (table : List Expr) → StepRead table g.now w.entry (spec.entered_body g.now w.entry call.now) result }
+    ensures read { (table : List Expr)
+        → StepRead table g.now w.entry (spec.entered_body g.now w.entry call.now) result }
 {
     let params = params_of(g, call.target);
     if call.args.len() != params.len() {
@@ -104,7 +108,8 @@ fn enter_block<'a>(g: &Given<'a>, w: Walk<'a>, call: &Call, refs: Items<Ref>) ->
 fn call_end(g: &Given<'_>, w: &Walk<'_>, label: usize, call: &Call, refs: &[Ref]) -> Option<usize>
     requires sound { Sound g.now w.now }
     requires found { founds w.now.scope call.now.args ≡ Some refs.now }
-    ensures { (table : List Expr) → BodyRead table g.now w.now (spec.called_body g.now label call.now) result }
+    ensures { (table : List Expr)
+        → BodyRead table g.now w.now (spec.called_body g.now label call.now) result }
 {
     let places = places_of(g, label);
     if call.args.len() != places.len() {
@@ -128,7 +133,8 @@ pub(crate) fn return_end(
     t: &Term,
 ) -> Result<Option<usize>, NoMemory>
     requires { Sound g.now w.now }
-    ensures { IfOk result (λ to. (table : List Expr) → GivenOf table g.now → BodyRead table g.now w.now (bodies.returns t.now) to) }
+    ensures { IfOk result (λ to. (table : List Expr) → GivenOf table g.now
+        → BodyRead table g.now w.now (bodies.returns t.now) to) }
 {
     let at = term(
         alloc, g.events, w.at, g.entries, &w.scope, t, g.result, w.depth,

@@ -43,7 +43,8 @@ fn argument(g: &Given<'_>, at: Option<usize>, found: Option<u32>, ty: Ty) -> Opt
 
 /// The arguments in the places of the entry's parameters, and NULL in each other column.
 fn arguments(g: &Given<'_>, at: Option<usize>, params: &[u32], places: &[u32]) -> Option<usize>
-    ensures { Reads (exprs_put (spec.arguments g.now params.now places.now)) g.now.events.now at result }
+    ensures { Reads (exprs_put
+        (spec.arguments g.now params.now places.now)) g.now.events.now at result }
 {
     let columns = g.tail.columns.as_slice();
     let mut at = at;

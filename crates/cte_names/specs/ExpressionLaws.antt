@@ -15,7 +15,8 @@ use Rattle.block_forms.specs.Places.{Each}
 use Rattle.qualified_names.specs.Unambiguous.{value, IsClear}
 use Rattle.cte_names.specs.Own.{SeesTables, IsOwn}
 
--- each expression of a checked function is clear where the query has it, if its slots are columns of the query's own there
+-- each expression of a checked function is clear where the query has it, if its slots are columns
+-- of the query's own there
 abbrev pub PlacedAreClear : Type 0
 PlacedAreClear =
     (schema : Schema) (written f : Function) (slots : List Slot) → IsChecked schema written f slots → (i : ℕ) (t : Ty) (s : Scope) (ref : ℕ → Col)

@@ -7,7 +7,8 @@ use Rattle.away_names.specs.Lookups.{Name, Level, Scope, column_qualified, is_ke
 use Rattle.away_names.specs.Tables.{table_of}
 use Rattle.qualified_names.specs.Sight.{reference}
 
--- The tables of the schema are seen there by their names. A function can't name what other names stand for.
+-- The tables of the schema are seen there by their names. A function can't name what other names
+-- stand for.
 pub record SeesTables (schema : Schema) (s : Scope) : Type 0 where
   pub tables : (n : Name) → is_kept n ≡ false → s.table n ≡ table_of schema n
 

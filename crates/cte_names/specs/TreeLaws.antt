@@ -23,10 +23,12 @@ use Rattle.qualified_names.specs.Unambiguous.{IsClearFile}
 abbrev pub TreeIsClear : Type 0
 TreeIsClear =
     (schema : Schema) (written f : Function) (slots : List Slot) (g : Goto) (z : Ssa) (a : Anf) (r : Tail) (q : Query)
-    → IsChecked schema written f slots → Columned slots z a r → Templated f slots (length schema.tables) g z a r q → NumbersFit (making_of f slots z a r)
+    → IsChecked schema written f slots → Columned slots z a r
+    → Templated f slots (length schema.tables) g z a r q → NumbersFit (making_of f slots z a r)
     → IsClearFile schema (tree (making_of f slots z a r) g.entry (length schema.tables))
 
--- with names again, the query names its recursive table never in its first term and once in its second
+-- with names again, the query names its recursive table never in its first term and once in its
+-- second
 pub record NamesTableOnce (schema : Schema) (q : Query) : Type 0 where
   pub first : (file schema (qualified q)).first.refers ≡ Never
   pub second : (file schema (qualified q)).second.refers ≡ Once
@@ -34,5 +36,6 @@ pub record NamesTableOnce (schema : Schema) (q : Query) : Type 0 where
 abbrev pub TableIsNamedOnce : Type 0
 TableIsNamedOnce =
     (schema : Schema) (written f : Function) (slots : List Slot) (g : Goto) (z : Ssa) (a : Anf) (r : Tail) (q : Query)
-    → IsChecked schema written f slots → Columned slots z a r → Templated f slots (length schema.tables) g z a r q → NumbersFit (making_of f slots z a r)
+    → IsChecked schema written f slots → Columned slots z a r
+    → Templated f slots (length schema.tables) g z a r q → NumbersFit (making_of f slots z a r)
     → NamesTableOnce schema (tree (making_of f slots z a r) g.entry (length schema.tables))

@@ -1,4 +1,5 @@
--- An expression of the function as it stands in the query: columns for its slots, and a cast round each literal, inside so many of its own selects.
+-- An expression of the function as it stands in the query: columns for its slots, and a cast round
+-- each literal, inside so many of its own selects.
 use Rattle.std.specs.Prelude.{ℕ, List, Option, Some, None}
 use Rattle.away_values.specs.declared.operators.ChainOp.{ChainOp}
 use Rattle.away_trees.specs.declared.queries.Col.{Col}
@@ -10,7 +11,14 @@ use Rattle.away_trees.specs.declared.queries.Key.{Key}
 use Rattle.away_trees.specs.declared.queries.Query.{Query}
 use Rattle.away_trees.specs.declared.queries.Recursive.{Recursive}
 use Rattle.away_trees.specs.declared.queries.Select.{Select}
-use Rattle.away_trees.specs.declared.queries.Expr.TheViews.{roll-Item, roll-FromItem, roll-Key, out-Item, out-FromItem, out-Key}
+use Rattle.away_trees.specs.declared.queries.Expr.TheViews.{
+  roll-Item,
+  roll-FromItem,
+  roll-Key,
+  out-Item,
+  out-FromItem,
+  out-Key,
+}
 use Rattle.away_trees.specs.Algebra.{Algebra, expr_of, source_of, query_of, recursive_of, select_of}
 use Rattle.sql_meaning.specs.Placed.{replacing, column_of, with_cast}
 use Rattle.cte_parts.specs.Columns.{column_beside}

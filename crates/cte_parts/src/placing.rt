@@ -316,7 +316,8 @@ fn place_selects(
     leaves: &Leaves<'_>,
     d: usize,
 ) -> Result<Items<Select>, NoMemory>
-    ensures { IfOk result (λ all. all ≡ map (spec.select_in (spec.column_at leaves.now) d) list.now) }
+    ensures { IfOk result (λ all. all
+        ≡ map (spec.select_in (spec.column_at leaves.now) d) list.now) }
 {
     let mut all = Items::new(alloc);
     for i in 0..list.len() {
@@ -333,7 +334,8 @@ fn place_recursive(
     leaves: &Leaves<'_>,
     d: usize,
 ) -> Result<Option<Recursive>, NoMemory>
-    ensures { IfOk result (λ r. r ≡ spec.maybe_recursive_in (spec.column_at leaves.now) d value.now) }
+    ensures { IfOk result (λ r. r
+        ≡ spec.maybe_recursive_in (spec.column_at leaves.now) d value.now) }
 {
     match value {
         None => Ok(None),
@@ -363,10 +365,11 @@ fn place_query(
     })
 }
 
-/// An expression of a function as it stands in the query: the columns stand for its slots, in the order in which it reads them, and another for what has
-/// no column. Each literal is under a cast; a lone NULL is under one to the type that the place asks for.
+/// An expression of a function as it stands in the query: the columns stand for its slots, in the order in which it reads them, and another for what
+/// has no column. Each literal is under a cast; a lone NULL is under one to the type that the place asks for.
 pub fn place(alloc: Global, ty: Ty, e: &Expr, columns: &[Col], other: Col) -> Result<Expr, NoMemory>
-    ensures { IfOk result (λ x. x ≡ placed_at ty (column_beside (slots_of e.now) columns.now other) e.now) }
+    ensures { IfOk result (λ x. x
+        ≡ placed_at ty (column_beside (slots_of e.now) columns.now other) e.now) }
 {
     if matches!(e, Expr::Null) {
         return null(alloc, ty);

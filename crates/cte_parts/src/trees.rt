@@ -120,7 +120,8 @@ pub fn select(
     from: Items<FromItem>,
     filter: Option<Expr>,
 ) -> Select
-    ensures { result ≡ roll-Select (record { list = list; from = from; filter = filter; order = []; limit = None }) }
+    ensures { result ≡ roll-Select
+        (record { list = list; from = from; filter = filter; order = []; limit = None }) }
 {
     Select {
         list,

@@ -22,8 +22,8 @@ use Rattle.cte_prints.specs.Derivable.{Derivable}
 use Rattle.cte_prints.specs.Like.{IsCastable}
 use Rattle.cte_prints.specs.InSight.{SightIsWritable}
 
--- Each expression of the table but the NULL of 32 bits, which no text derives, can be derived at a depth, where its slots are columns of the query's own and
--- the
+-- Each expression of the table but the NULL of 32 bits, which no text derives, can be derived at a
+-- depth, where its slots are columns of the query's own and the
 -- names in sight can be written.
 abbrev pub TableIsDerivable : ℕ → Schema → List Expr → Type 0
 TableIsDerivable d schema table =
@@ -41,7 +41,8 @@ module _ (table : List Expr) where
   abbrev pub HasExpression : Term → Type 0
   HasExpression u = get_or table u.expr expr.Null ≡ null_as ty.Integer → ⊥
 
-  -- Terms have expressions that may be derived, at most so many tests stand one inside another, faults are of a class, and a label's number is a bigint.
+  -- Terms have expressions that may be derived, at most so many tests stand one inside another,
+  -- faults are of a class, and a label's number is a bigint.
   abbrev pub BodyFits : Body → ℕ → Type 0
   BodyFits (sets name t x) n = HasExpression t × BodyFits x n
   BodyFits (enters params args x) n = BodyFits x n

@@ -7,7 +7,8 @@ use Rattle.away_grammar.specs.Terminals.{Terminal}
 use Rattle.sql_printer.specs.Writable.{AllWritable}
 use Rattle.cte_prints.specs.ReadsIn.{ReadsIn}
 
--- Writable terminals begin with what reads as the expression, with at most so many brackets one inside another.
+-- Writable terminals begin with what reads as the expression, with at most so many brackets one
+-- inside another.
 pub record IsReadWithin (d : ℕ) (x : Expr) : Type 0 where
   pub terminals : List Terminal
   pub rest : List Terminal

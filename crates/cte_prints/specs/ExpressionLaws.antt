@@ -35,8 +35,10 @@ abbrev pub ReadNamesAreWritable : Type 0
 ReadNamesAreWritable = (level : Level) (ts : List Terminal) (x : Expr) (rest : List Terminal) → Reads (at level) ts x rest → AllWritable ts
     → NamesAreWritable value x
 
--- Each entry of a checked function's table can be derived where a query has it, in no more than 195 brackets one inside another: with the literals' casts, and
--- CAST for each `::`, three times the 64 of the function's text and three. NULL of the type integer alone can't be derived, as no cast can name that type.
+-- Each entry of a checked function's table can be derived where a query has it, in no more than 195
+-- brackets one inside another: with the literals' casts, and CAST for each `::`, three times the 64
+-- of the function's text and three. NULL of the type integer alone can't be derived, as no cast can
+-- name that type.
 abbrev pub EntriesAreDerivable : (Function → Type 0) → Type 0
 EntriesAreDerivable IsRead =
     (schema : Schema) (written f : Function) (slots : List Slot) → IsChecked schema written f slots → IsRead written → (i : ℕ) (t : Ty) (s : Scope)

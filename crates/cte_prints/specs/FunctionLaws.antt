@@ -7,6 +7,7 @@ use Rattle.block_forms.specs.Expressions.{sources}
 use Rattle.block_forms.specs.Places.{Each}
 use Rattle.cte_prints.specs.Derivation.{IsReadWithin}
 
--- Each expression of a function that a file reads as is read from writable terminals, with no more brackets one inside another than the body may nest.
+-- Each expression of a function that a file reads as is read from writable terminals, with no more
+-- brackets one inside another than the body may nest.
 abbrev pub SourcesAreRead : Type 0
 SourcesAreRead = (bytes : List ℕ) (f : Function) → MayBeRead bytes → ReadsFunction bytes f → Each (IsReadWithin most_nesting) (sources f.body)

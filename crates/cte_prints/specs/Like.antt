@@ -1,4 +1,5 @@
--- Trees that are one another's like: the second tree is the first one with columns called by an alias and a name, and with casts round literals.
+-- Trees that are one another's like: the second tree is the first one with columns called by an
+-- alias and a name, and with casts round literals.
 use Rattle.std.specs.Prelude.{ℕ, ℤ, Bool, List, [], ◌∷◌, Option, Some, None}
 use Rattle.away_values.specs.declared.types.Ty.{Ty}
 use Rattle.away_values.specs.declared.types.Ty.TheVariants as ty
@@ -13,7 +14,13 @@ use Rattle.away_trees.specs.declared.queries.Item.{Item}
 use Rattle.away_trees.specs.declared.queries.Key.{Key}
 use Rattle.away_trees.specs.declared.queries.Select.{Select}
 use Rattle.away_trees.specs.declared.queries.Query.{Query}
-use Rattle.away_trees.specs.declared.queries.Expr.TheViews.{roll-Item, roll-FromItem, roll-Key, roll-Select, roll-Query}
+use Rattle.away_trees.specs.declared.queries.Expr.TheViews.{
+  roll-Item,
+  roll-FromItem,
+  roll-Key,
+  roll-Select,
+  roll-Query,
+}
 use Rattle.away_grammar.specs.Terminals.{name}
 use Rattle.sql_printer.specs.Writable.{Writable}
 
@@ -81,7 +88,8 @@ pub data IsLike : (n : Kind) → Tree n → Tree n → Type 0 where
   no_value : IsLike values [] []
   one_value : {x u : Expr} {xs us : List Expr} → IsLike value x u → IsLike values xs us → IsLike values (x ∷ xs) (u ∷ us)
   no_link : IsLike links [] []
-  one_link : {x u : Expr} {xs us : List (ChainOp × Expr)} (o : ChainOp) → IsLike value x u → IsLike links xs us → IsLike links ((o, x) ∷ xs) ((o, u) ∷ us)
+  one_link : {x u : Expr} {xs us : List (ChainOp × Expr)} (o : ChainOp) → IsLike value x u
+      → IsLike links xs us → IsLike links ((o, x) ∷ xs) ((o, u) ∷ us)
   no_arm : IsLike arms [] []
   one_arm : {x y u v : Expr} {xs us : List (Expr × Expr)} → IsLike value x u → IsLike value y v → IsLike arms xs us
       → IsLike arms ((x, y) ∷ xs) ((u, v) ∷ us)

@@ -21,12 +21,14 @@ TokensChangeAsTerminals = (ts : List Lexeme) → tokens.changes ts ≡ changes (
 abbrev pub PrintedNest : Type 0
 PrintedNest = (d : ℕ) (ts : List Terminal) (q : Query) (rest : List Terminal) → DerivesIn d file ts q rest → TerminalsNestWithin d (query_terminals q)
 
--- The text of a query that writable terminals say, in few enough brackets, may be read, and reads as the query.
+-- The text of a query that writable terminals say, in few enough brackets, may be read, and reads
+-- as the query.
 abbrev pub DerivedTextsRead : Type 0
 DerivedTextsRead =
     (d : ℕ) (ts : List Terminal) (q : Query) → d ≤ most_nesting → AllWritable ts → DerivesIn d file ts q []
     → MayBeRead (query_text q) × ReadsQuery (query_text q) q
 
--- The text of a query that can be derived in few enough brackets may be read, and reads as the query.
+-- The text of a query that can be derived in few enough brackets may be read, and reads as the
+-- query.
 abbrev pub DerivableTextsRead : Type 0
 DerivableTextsRead = (d : ℕ) (q : Query) → d ≤ most_nesting → Derivable d file q → MayBeRead (query_text q) × ReadsQuery (query_text q) q

@@ -25,15 +25,16 @@ use Rattle.cte_prints.specs.Derivable.{Derivable}
 use Rattle.cte_types.specs.Typed.{HasKind, NoIntegers}
 use Rattle.cte_prints.specs.DerivableParts.{TableIsDerivable}
 
--- What is asked of a function and its labels beside their relations: no integers of 32 bits, parameters that have a terminal, and labels whose numbers are
--- bigints.
+-- What is asked of a function and its labels beside their relations: no integers of 32 bits,
+-- parameters that have a terminal, and labels whose numbers are bigints.
 pub record IsWritable (f : Function) (slots : List Slot) (r : Tail) (params : ℕ) : Type 0 where
   pub types : NoIntegers slots f.result
   pub columns : Each HasKind r.columns
   pub parameters : params ≤ 64
   pub labels : length r.labels < 2 ^ 63
 
--- Where the function's expressions can be derived with 195 brackets one inside another, the query, with its names, can be derived with 216.
+-- Where the function's expressions can be derived with 195 brackets one inside another, the query,
+-- with its names, can be derived with 216.
 abbrev pub TreeIsDerivable : Type 0
 TreeIsDerivable =
     (schema : Schema) (written f : Function) (slots : List Slot) (g : Goto) (z : Ssa) (a : Anf) (r : Tail) (count params : ℕ)

@@ -1,5 +1,18 @@
 -- How deep the brackets and blocks of terminals nest: what tokens that are they do to the count.
-use Rattle.std.specs.Prelude.{◌≤◌, ℕ, ◌+◌, Bool, true, false, ◌&&◌, if◌then◌else◌, List, [], ◌∷◌, take}
+use Rattle.std.specs.Prelude.{
+  ◌≤◌,
+  ℕ,
+  ◌+◌,
+  Bool,
+  true,
+  false,
+  ◌&&◌,
+  if◌then◌else◌,
+  List,
+  [],
+  ◌∷◌,
+  take,
+}
 use Rattle.away_grammar.specs.declared.grammar.Mark.{Mark}
 use Rattle.away_grammar.specs.declared.grammar.Mark.TheVariants as m
 use Rattle.away_grammar.specs.Nesting.{Change, opens, closes, stays, opened, closed}
@@ -39,7 +52,8 @@ abbrev pub change : Terminal → Change
 change (mark terminal) = mark_change terminal
 change _ = stays
 
--- one change for each terminal, where END and IF, LOOP or CASE directly behind it are one closing pair
+-- one change for each terminal, where END and IF, LOOP or CASE directly behind it are one closing
+-- pair
 abbrev pub changes : List Terminal → List Change
 changes [] = []
 changes (s ∷ []) = change s ∷ []

@@ -37,14 +37,16 @@ pub record IsOfTexts (s : Schema) (f : Function) (slots : List Slot) : Type 0 wh
   pub function_fits : functions.MayBeRead function_text
   pub reads_function : ReadsFunction function_text written
 
--- The text of the tree, with its names, reads as the tree with its names, which breaks no rule under the schema and is the tree once they are resolved.
+-- The text of the tree, with its names, reads as the tree with its names, which breaks no rule
+-- under the schema and is the tree once they are resolved.
 pub record ReadsAgain (s : Schema) (q : Query) : Type 0 where
   pub may_be_read : MayBeRead (query_text (qualified q))
   pub reads : ReadsQuery (query_text (qualified q)) (qualified q)
   pub unbroken : IsUnbroken (query_note s (qualified q))
   pub is_tree : resolved_query s (qualified q) ≡ q
 
--- The query of a function that was read, with tight forms between them and numbers that fit a word, reads again.
+-- The query of a function that was read, with tight forms between them and numbers that fit a word,
+-- reads again.
 abbrev pub TreesReadAgain : Type 0
 TreesReadAgain =
     (s : Schema) (f : Function) (slots : List Slot) (g : Goto) (z : Ssa) (a : Anf) (r : Tail) → IsOfTexts s f slots → Lowered f slots g

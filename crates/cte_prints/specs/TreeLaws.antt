@@ -2,8 +2,36 @@
 use Rattle.std.specs.Prelude.{ℕ, ◌+◌, ◌*◌, ◌≤◌, true, List, ◌≡◌}
 use Rattle.away_grammar.specs.declared.grammar.Level.TheVariants as l
 use Rattle.away_grammar.specs.Terminals.{Terminal}
-use Rattle.away_grammar.specs.Grammar.{Sort, at, links, list, arms, item, items, from_item, from_items, from_clause, where_clause, key, keys, order_clause}
-use Rattle.away_grammar.specs.Grammar.{limit_clause, select, selects, query, names, recursive, file, column, columns, tables, Tree, Reads}
+use Rattle.away_grammar.specs.Grammar.{
+  Sort,
+  at,
+  links,
+  list,
+  arms,
+  item,
+  items,
+  from_item,
+  from_items,
+  from_clause,
+  where_clause,
+  key,
+  keys,
+  order_clause,
+}
+use Rattle.away_grammar.specs.Grammar.{
+  limit_clause,
+  select,
+  selects,
+  query,
+  names,
+  recursive,
+  file,
+  column,
+  columns,
+  tables,
+  Tree,
+  Reads,
+}
 use Rattle.sql_printer.specs.Writable.{AllWritable}
 use Rattle.cte_prints.specs.ReadsIn.{ReadsIn}
 use Rattle.cte_prints.specs.DerivesIn.{DerivesIn}
@@ -11,7 +39,8 @@ use Rattle.cte_prints.specs.Derivable.{Derivable}
 use Rattle.cte_prints.specs.Like.{IsLike}
 use Rattle.cte_prints.specs.Like as k
 
--- What is like what is read. Names in a list stay as they are; a query with WITH, and the parts of a schema, are like nothing.
+-- What is like what is read. Names in a list stay as they are; a query with WITH, and the parts of
+-- a schema, are like nothing.
 abbrev pub Like : (n : Sort) → Tree n → Tree n → Type 0
 Like (at level) t u = IsLike k.value t u
 Like (links level) t u = IsLike k.links t u
@@ -37,7 +66,8 @@ Like column t u = ⊥
 Like columns t u = ⊥
 Like tables t u = ⊥
 
--- How deep the like of what is read at a depth may be: each `::` becomes the parentheses of a CAST, and at most two follow one another; a literal gets one.
+-- How deep the like of what is read at a depth may be: each `::` becomes the parentheses of a CAST,
+-- and at most two follow one another; a literal gets one.
 abbrev pub bound : Sort → ℕ → ℕ
 bound (at l.Primary) d = 3 * d + 1
 bound n d = 3 * d + 3

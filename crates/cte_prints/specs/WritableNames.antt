@@ -1,4 +1,5 @@
--- Trees whose names can be written: each is in lower case and isn't reserved. No slot, no column by its place and no WITH stands in them.
+-- Trees whose names can be written: each is in lower case and isn't reserved. No slot, no column by
+-- its place and no WITH stands in them.
 use Rattle.std.specs.Prelude.{ℕ, ℤ, Bool, List, [], ◌∷◌, Option, Some, None}
 use Rattle.away_values.specs.declared.types.Ty.{Ty}
 use Rattle.away_values.specs.declared.operators.ChainOp.{ChainOp}
@@ -11,10 +12,33 @@ use Rattle.away_trees.specs.declared.queries.FromItem.{FromItem}
 use Rattle.away_trees.specs.declared.queries.Item.{Item}
 use Rattle.away_trees.specs.declared.queries.Key.{Key}
 use Rattle.away_trees.specs.declared.queries.Select.{Select}
-use Rattle.away_trees.specs.declared.queries.Expr.TheViews.{roll-Item, roll-FromItem, roll-Key, roll-Select, roll-Query}
+use Rattle.away_trees.specs.declared.queries.Expr.TheViews.{
+  roll-Item,
+  roll-FromItem,
+  roll-Key,
+  roll-Select,
+  roll-Query,
+}
 use Rattle.away_grammar.specs.Terminals.{name}
 use Rattle.sql_printer.specs.Writable.{Writable}
-use Rattle.cte_prints.specs.Like.{Kind, Tree, value, values, links, arms, maybe, item, items, key, keys, from_item, from_items, select, selects, query}
+use Rattle.cte_prints.specs.Like.{
+  Kind,
+  Tree,
+  value,
+  values,
+  links,
+  arms,
+  maybe,
+  item,
+  items,
+  key,
+  keys,
+  from_item,
+  from_items,
+  select,
+  selects,
+  query,
+}
 
 -- a name that can be written
 abbrev pub IsWritableName : List ℕ → Type 0
@@ -50,7 +74,8 @@ pub data NamesAreWritable : (n : Kind) → Tree n → Type 0 where
   no_value : NamesAreWritable values []
   one_value : {x : Expr} {xs : List Expr} → NamesAreWritable value x → NamesAreWritable values xs → NamesAreWritable values (x ∷ xs)
   no_link : NamesAreWritable links []
-  one_link : {x : Expr} {xs : List (ChainOp × Expr)} (o : ChainOp) → NamesAreWritable value x → NamesAreWritable links xs → NamesAreWritable links ((o, x) ∷ xs)
+  one_link : {x : Expr} {xs : List (ChainOp × Expr)} (o : ChainOp) → NamesAreWritable value x
+      → NamesAreWritable links xs → NamesAreWritable links ((o, x) ∷ xs)
   no_arm : NamesAreWritable arms []
   one_arm : {x y : Expr} {xs : List (Expr × Expr)} → NamesAreWritable value x → NamesAreWritable value y → NamesAreWritable arms xs
       → NamesAreWritable arms ((x, y) ∷ xs)
@@ -69,7 +94,8 @@ pub data NamesAreWritable : (n : Kind) → Tree n → Type 0 where
   subquery : {q : Tree query} (alias : List ℕ) (columns : List (List ℕ)) (lateral : Bool) → IsWritableName alias → NamesAreWritable query q
       → NamesAreWritable from_item (roll-FromItem (record { source = source.Sub q lateral; alias = alias; columns = columns }))
   no_from : NamesAreWritable from_items []
-  one_from : {x : FromItem} {xs : List FromItem} → NamesAreWritable from_item x → NamesAreWritable from_items xs → NamesAreWritable from_items (x ∷ xs)
+  one_from : {x : FromItem} {xs : List FromItem} → NamesAreWritable from_item x
+      → NamesAreWritable from_items xs → NamesAreWritable from_items (x ∷ xs)
   whole : {list : List Item} {from : List FromItem} {filter limit : Option Expr} {order : List Key}
       → NamesAreWritable items list → NamesAreWritable from_items from → NamesAreWritable maybe filter → NamesAreWritable keys order
       → NamesAreWritable maybe limit

@@ -2,7 +2,8 @@
 
 ghost use Rattle.cte_prints.specs.FunctionLaws.{SourcesAreRead};
 
-/// Each expression of a function that a file reads as is read from writable terminals, with no more brackets one inside another than the body may nest.
+/// Each expression of a function that a file reads as is read from writable terminals, with no more brackets one inside another than the body may
+/// nest.
 pub fn sources_are_read()
     ensures { SourcesAreRead }
 {}

@@ -31,7 +31,8 @@ abbrev pub left_at : Events → Option ℕ → Option Events
 left_at events None = None
 left_at events (Some k) = Some (drop k events)
 
--- From the one place the events are those that are put, and others behind, exactly where from the other place they are these others.
+-- From the one place the events are those that are put, and others behind, exactly where from the
+-- other place they are these others.
 pub record Reads (put : Put) (events : Events) (from to : Option ℕ) : Type 0 where
   pub told : (rest : Events) → (left_at events from ≡ Some (put rest)) ↔ (left_at events to ≡ Some rest)
 

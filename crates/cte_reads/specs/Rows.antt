@@ -1,5 +1,19 @@
 -- The rows that bodies give, where what is passed is references.
-use Rattle.std.specs.Prelude.{ℕ, suc, true, false, pos, List, [], ◌∷◌, ◌++◌, map, Option, Some, None}
+use Rattle.std.specs.Prelude.{
+  ℕ,
+  suc,
+  true,
+  false,
+  pos,
+  List,
+  [],
+  ◌∷◌,
+  ◌++◌,
+  map,
+  Option,
+  Some,
+  None,
+}
 use Rattle.away_trees.specs.declared.queries.Expr.{Expr}
 use Rattle.away_trees.specs.declared.queries.Expr.TheVariants as expr
 use Rattle.away_values.specs.declared.types.Ty.{Ty}
@@ -14,7 +28,8 @@ abbrev pub cell : ℕ → Option Ref → Ty → Expr
 cell out None t = null_of t
 cell out (Some r) t = expr.Column (col_at out r)
 
--- the references in a label's places, from place i on, seen from a select that `out` selects of the branch enclose
+-- the references in a label's places, from place i on, seen from a select that `out` selects of the
+-- branch enclose
 abbrev pub cells_at : ℕ → ℕ → List ℕ → List Ref → List Ty → List Expr
 cells_at out i places refs [] = []
 cells_at out i places refs (t ∷ ts) = cell out (lookup places refs i) t ∷ cells_at out (suc i) places refs ts

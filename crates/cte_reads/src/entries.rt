@@ -30,7 +30,8 @@ pub struct Entries {
 impl Entries {
     /// The expression with a number.
     pub fn at(&self, number: u32) -> &Entry
-        ensures { (table : List Expr) → EntriesOf table self.now → EntryOf (get_or table number expr.Null) result.now }
+        ensures { (table : List Expr) → EntriesOf table self.now
+            → EntryOf (get_or table number expr.Null) result.now }
     {
         let number = number as usize;
         if number < self.list.len() {

@@ -44,7 +44,8 @@ fn is_ref(c: Col, found: Ref, depth: Depth) -> bool
 
 /// The first event of a column that is the reference.
 fn open_ref(events: &[TreeEvent], at: Option<usize>, found: Ref, depth: Depth) -> Option<usize>
-    ensures { Reads (λ rest. event.Open (kind.Column (further depth.within (col_at depth.out found))) ∷ rest) events.now at result }
+    ensures { Reads (λ rest. event.Open (kind.Column
+        (further depth.within (col_at depth.out found))) ∷ rest) events.now at result }
 {
     let place = at?;
     if place >= events.len() {
@@ -94,7 +95,8 @@ fn slot_ref(slots: &[u32], refs: &[Ref], slot: u32) -> Ref
 
 /// The first event of a literal's cast, and of the literal.
 fn open_literal(events: &[TreeEvent], at: Option<usize>, ty: Ty, literal: Kind) -> Option<usize>
-    ensures { Reads (λ rest. event.Open (kind.Cast ty) ∷ event.Open literal ∷ rest) events.now at result }
+    ensures { Reads (λ rest. event.Open (kind.Cast ty) ∷ event.Open literal
+        ∷ rest) events.now at result }
 {
     let at = open(events, at, Kind::Cast(ty));
     open(events, at, literal)
@@ -109,7 +111,8 @@ fn placed_node(
     refs: &[Ref],
     depth: Depth,
 ) -> Option<usize>
-    ensures { Reads (placed_kind (slot_column_in depth slots.now refs.now) 0 kind) events.now at result }
+    ensures { Reads (placed_kind
+        (slot_column_in depth slots.now refs.now) 0 kind) events.now at result }
 {
     match kind {
         Kind::Slot(slot) => open_ref(events, at, slot_ref(slots, refs, slot), depth),
@@ -172,7 +175,8 @@ fn placed(
     refs: &[Ref],
     out: usize,
 ) -> Option<usize>
-    ensures { Reads (λ rest. placed_events (slot_column out slots.now refs.now) 0 of.now ++ rest) events.now at result }
+    ensures { Reads (λ rest. placed_events (slot_column out slots.now refs.now) 0 of.now
+        ++ rest) events.now at result }
 {
     let mut at = at;
     let mut depth = Depth { out, within: 1 };
@@ -193,7 +197,9 @@ fn expression(
     ty: Ty,
     out: usize,
 ) -> Option<usize>
-    ensures { (e : Expr) → EntryOf e entry.now → Reads (expr_put (placed_at ty (slot_column out entry.now.slots refs.now) e)) events.now at result }
+    ensures { (e : Expr) → EntryOf e entry.now
+        → Reads (expr_put (placed_at ty
+        (slot_column out entry.now.slots refs.now) e)) events.now at result }
 {
     if entry.is_null {
         return null_of(events, at, ty);
@@ -218,7 +224,8 @@ fn let_of(
     out: usize,
 ) -> Option<usize>
     ensures { (e : Expr) → EntryOf e entry.now
-        → Reads (from_put (let_item (placed_at ty (slot_column out entry.now.slots refs.now) e))) events.now at result }
+        → Reads (from_put (let_item
+        (placed_at ty (slot_column out entry.now.slots refs.now) e))) events.now at result }
 {
     let at = enter(events, open_lateral(events, at));
     let at = open(events, empty(events, at, Kind::From), Kind::List);
@@ -240,7 +247,8 @@ pub fn term(
 ) -> Result<Option<usize>, NoMemory>
     requires { length scope.now.refs ≡ length scope.now.names.now }
     ensures { IfOk result (λ to. (table : List Expr) → EntriesOf table entries.now
-        → ReadsWhere (HasReferences table (names_of scope.now) t.now) (from_put (let_at table depth (refs_of depth scope.now) ty t.now)) events.now at to) }
+        → ReadsWhere (HasReferences table (names_of scope.now) t.now)
+        (from_put (let_at table depth (refs_of depth scope.now) ty t.now)) events.now at to) }
 {
     let entry = entries.at(t.expr);
     if t.names.len() != entry.slots.len() {

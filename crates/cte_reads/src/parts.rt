@@ -177,7 +177,8 @@ pub fn open_body(events: &[TreeEvent], at: Option<usize>, by: Gate) -> Option<us
 
 /// Columns of an item of the select, from the first on.
 pub fn all_of(events: &[TreeEvent], at: Option<usize>, item: usize, columns: usize) -> Option<usize>
-    ensures { Reads (exprs_put (map (tree.col 0 item) (template.below columns))) events.now at result }
+    ensures { Reads (exprs_put
+        (map (tree.col 0 item) (template.below columns))) events.now at result }
 {
     let mut at = at;
     for place in 0..columns {

@@ -37,7 +37,8 @@ fn cells(
     columns: &[Ty],
     depth: usize,
 ) -> Option<usize>
-    ensures { Reads (exprs_put (spec.cells_at depth 0 places.now refs.now columns.now)) events.now at result }
+    ensures { Reads (exprs_put
+        (spec.cells_at depth 0 places.now refs.now columns.now)) events.now at result }
 {
     let mut at = at;
     for i in 0..columns.len() {
@@ -93,7 +94,8 @@ pub fn fault_row(
     columns: &[Ty],
     result_type: Ty,
 ) -> Option<usize>
-    ensures { Reads (exprs_put (spec.fault_list columns.now result_type class)) events.now at result }
+    ensures { Reads (exprs_put
+        (spec.fault_list columns.now result_type class)) events.now at result }
 {
     let at = begin_of_end(events, at, columns);
     class_text(events, null_of(events, at, result_type), class)

@@ -7,4 +7,5 @@ use Rattle.cte_template.specs.Tree.{tree}
 
 -- without its names the tree is the template's
 abbrev pub IsTemplates : Type 0
-IsTemplates = (m : Making) (entry tables : ℕ) → bare (tree m entry tables) ≡ bare (template.query_of m.table m.types m.result m.anf m.tail entry tables)
+IsTemplates = (m : Making) (entry tables : ℕ) → bare (tree m entry tables)
+    ≡ bare (template.query_of m.table m.types m.result m.anf m.tail entry tables)

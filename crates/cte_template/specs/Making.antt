@@ -1,4 +1,5 @@
--- What a query is made of: the expressions by number, the types of names, the type of the result, and the forms.
+-- What a query is made of: the expressions by number, the types of names, the type of the result,
+-- and the forms.
 use Rattle.std.specs.Prelude.{ℕ, List, length}
 use Rattle.away_trees.specs.declared.queries.Expr.{Expr}
 use Rattle.away_trees.specs.declared.statements.Function.{Function}

@@ -1,5 +1,18 @@
 -- Where names stand: the items and columns of the query that hold their values.
-use Rattle.std.specs.Prelude.{ℕ, suc, ◌-◌, List, [], ◌∷◌, Option, Some, None, if◌then◌else◌, cond, nat_eq}
+use Rattle.std.specs.Prelude.{
+  ℕ,
+  suc,
+  ◌-◌,
+  List,
+  [],
+  ◌∷◌,
+  Option,
+  Some,
+  None,
+  if◌then◌else◌,
+  cond,
+  nat_eq,
+}
 use Rattle.away_trees.specs.declared.queries.Col.{Col}
 use Rattle.call_forms.specs.Scopes.{Scope, paired}
 use Rattle.cte_template.specs.declared.places.ItemColumn.{ItemColumn}

@@ -1,4 +1,5 @@
--- The body of a label as the query has it: the items of its select, its list, and the number of the next alias. Names stand at places.
+-- The body of a label as the query has it: the items of its select, its list, and the number of the
+-- next alias. Names stand at places.
 use Rattle.std.specs.Prelude.{ℕ, suc, List, [], ◌∷◌, ◌++◌, length, get_or, map, Option, Some, None}
 use Rattle.away_trees.specs.declared.queries.Col.{Col}
 use Rattle.away_trees.specs.declared.queries.Expr.{Expr}
@@ -12,7 +13,20 @@ use Rattle.away_values.specs.declared.types.Ty.TheVariants as ty
 use Rattle.away_values.specs.declared.values.Class.{Class}
 use Rattle.block_forms.specs.declared.forms.Term.{Term}
 use Rattle.block_forms.specs.Forms.{Assignment}
-use Rattle.call_forms.specs.Bodies.{Body, sets, enters, picks, returns, fails, calls, endless, goes, end_body, sets_first, tree}
+use Rattle.call_forms.specs.Bodies.{
+  Body,
+  sets,
+  enters,
+  picks,
+  returns,
+  fails,
+  calls,
+  endless,
+  goes,
+  end_body,
+  sets_first,
+  tree,
+}
 use Rattle.call_forms.specs.declared.forms.Call.{Call}
 use Rattle.call_forms.specs.declared.forms.CallEnd.{CallEnd}
 use Rattle.call_forms.specs.Scopes.{Scope, paired}

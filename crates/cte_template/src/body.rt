@@ -59,7 +59,8 @@ fn add_let(
     ty: Ty,
     term: &Term,
 ) -> Result<(), NoMemory>
-    ensures items { OnOk result (draft.new.items ≡ draft.old.items ++ spec.let_at (making w.now) depth (standing pairs.now) draft.old.next ty term.now ∷ []) }
+    ensures items { OnOk result (draft.new.items ≡ draft.old.items ++ spec.let_at
+        (making w.now) depth (standing pairs.now) draft.old.next ty term.now ∷ []) }
     ensures next { OnOk result (draft.new.next ≡ draft.old.next + 1) }
 {
     let item = let_at(alloc, w, depth, pairs, draft.next, ty, term)?;
@@ -77,8 +78,10 @@ fn assigned(
     draft: &mut Draft,
     set: &Option<(u32, Term)>,
 ) -> Result<Items<(u32, ItemColumn)>, NoMemory>
-    ensures { IfOk result (λ now. (body : Body) → spec.rest (making w.now) depth (standing now) draft.new body
-        ≡ spec.rest (making w.now) depth (standing pairs) draft.old (spec.from_set (making w.now) set.now body)) }
+    ensures { IfOk result (λ now. (body : Body)
+        → spec.rest (making w.now) depth (standing now) draft.new body
+        ≡ spec.rest (making w.now) depth (standing pairs) draft.old
+        (spec.from_set (making w.now) set.now body)) }
 {
     match set {
         None => Ok(pairs),
@@ -99,7 +102,8 @@ fn placed_first(
     depth: usize,
     item: usize,
 ) -> Result<Items<(u32, ItemColumn)>, NoMemory>
-    ensures { IfOk result (λ now. standing now ≡ stands name (first_of depth item) (standing pairs)) }
+    ensures { IfOk result (λ now. standing now
+        ≡ stands name (first_of depth item) (standing pairs)) }
 {
     let mut pairs = pairs;
     let place = ItemColumn {
@@ -122,7 +126,8 @@ fn behind_call(
     call: &Call,
 ) -> Result<Next, NoMemory>
     ensures { IfOk result (λ next. steps.reached (making w.now) depth left next draft.new
-        ≡ spec.rest (making w.now) depth (standing pairs.now) draft.old (spec.from_call (making w.now) left call.now)) }
+        ≡ spec.rest (making w.now) depth (standing pairs.now) draft.old
+        (spec.from_call (making w.now) left call.now)) }
 {
     let args = call.args.as_slice();
     match label_of(w, call.target) {
@@ -144,7 +149,8 @@ fn value_row(
     draft: &mut Draft,
     term: &Term,
 ) -> Result<Items<Item>, NoMemory>
-    ensures { IfOk result (λ list. spec.written draft.new list ≡ spec.rest (making w.now) depth (standing pairs.now) draft.old (returns term.now)) }
+    ensures { IfOk result (λ list. spec.written draft.new list
+        ≡ spec.rest (making w.now) depth (standing pairs.now) draft.old (returns term.now)) }
 {
     let item = draft.items.len();
     add_let(alloc, w, depth, pairs, draft, w.result, term)?;
@@ -155,7 +161,8 @@ fn value_row(
 /// The row of a label whose blocks have no end.
 #[tactic(auto, using(crate::proofs::WalkRules::end_rules))]
 fn unended(alloc: Global, w: &Writer<'_>) -> Result<Items<Item>, NoMemory>
-    ensures { IfOk result (λ list. list ≡ map item_of (spec.end_row (making w.now) (null_of w.now.result) (null_of ty.Text))) }
+    ensures { IfOk result (λ list. list
+        ≡ map item_of (spec.end_row (making w.now) (null_of w.now.result) (null_of ty.Text))) }
 {
     let value = null(alloc, w.result)?;
     end_row(alloc, w, value, null(alloc, Ty::Text)?)
@@ -164,7 +171,9 @@ fn unended(alloc: Global, w: &Writer<'_>) -> Result<Items<Item>, NoMemory>
 /// The row of a fault.
 fn fault_row(alloc: Global, w: &Writer<'_>, class: Class) -> Result<Items<Item>, NoMemory>
     requires { is_class class.code ≡ true }
-    ensures { IfOk result (λ list. list ≡ map item_of (spec.end_row (making w.now) (null_of w.now.result) (spec.class_text (making w.now) class))) }
+    ensures { IfOk result (λ list. list
+        ≡ map item_of (spec.end_row (making w.now) (null_of w.now.result)
+        (spec.class_text (making w.now) class))) }
 {
     let text = class_text(alloc, class)?;
     let value = null(alloc, w.result)?;
@@ -185,7 +194,8 @@ fn left_by(
     requires classes { Each FailsByClass w.now.anf.now.blocks }
     requires class { EndHasClass end.now }
     ensures { IfOk result (λ next. steps.reached (making w.now) depth left next draft.new
-        ≡ spec.rest (making w.now) depth (standing pairs.now) draft.old (spec.from_end (making w.now) left end.now)) }
+        ≡ spec.rest (making w.now) depth (standing pairs.now) draft.old
+        (spec.from_end (making w.now) left end.now)) }
 {
     match end {
         CallEnd::Go(call) => behind_call(alloc, w, left, depth, pairs, draft, call),
@@ -217,7 +227,8 @@ fn visited(
 ) -> Result<Next, NoMemory>
     requires classes { Each FailsByClass w.now.anf.now.blocks }
     ensures { IfOk result (λ next. steps.reached (making w.now) depth left next draft.new
-        ≡ spec.rest (making w.now) depth (standing pairs) draft.old (spec.from_block (making w.now) (left + 1) block)) }
+        ≡ spec.rest (making w.now) depth (standing pairs) draft.old
+        (spec.from_block (making w.now) (left + 1) block)) }
 {
     let Some(x) = w.anf.blocks.get(block as usize) else {
         return Ok(Next::Row(unended(alloc, w)?));
@@ -239,7 +250,8 @@ pub(crate) fn body_of(
 ) -> Result<Items<Item>, NoMemory>
     requires classes { Each FailsByClass w.now.anf.now.blocks }
     ensures { IfOk result (λ list. spec.written draft.new list
-        ≡ spec.rest (making w.now) depth (standing pairs) draft.old (spec.from_block (making w.now) most block)) }
+        ≡ spec.rest (making w.now) depth (standing pairs) draft.old
+        (spec.from_block (making w.now) most block)) }
 {
     let mut pairs = pairs;
     let mut block = block;
@@ -270,7 +282,8 @@ fn through(
 ) -> Result<Items<Item>, NoMemory>
     requires classes { Each FailsByClass w.now.anf.now.blocks }
     ensures { IfOk result (λ list. spec.written draft.new list
-        ≡ spec.rest (making w.now) depth (standing pairs.now) draft.old (spec.from_call (making w.now) left call.now)) }
+        ≡ spec.rest (making w.now) depth (standing pairs.now) draft.old
+        (spec.from_call (making w.now) left call.now)) }
 {
     match behind_call(alloc, w, left, depth, pairs, draft, call)? {
         Next::Row(list) => Ok(list),
@@ -301,7 +314,8 @@ fn where_true(alloc: Global, alias: usize, item: usize) -> Result<Draft, NoMemor
 
 /// The gate of what is done elsewhere.
 fn elsewhere(alloc: Global, alias: usize, item: usize) -> Result<Draft, NoMemory>
-    ensures items { IfOk result (λ d. d.items ≡ gate_item alias (is_not_true (tree.col 2 item 0)) ∷ []) }
+    ensures items { IfOk result
+        (λ d. d.items ≡ gate_item alias (is_not_true (tree.col 2 item 0)) ∷ []) }
     ensures next { IfOk result (λ d. d.next ≡ alias + 1) }
 {
     behind(alloc, alias, not_true(alloc, col(2, item, 0)?)?)
@@ -319,7 +333,8 @@ fn arm(
     call: &Call,
 ) -> Result<Gated, NoMemory>
     requires classes { Each FailsByClass w.now.anf.now.blocks }
-    ensures { IfOk result (λ a. a ≡ steps.arm_of (spec.rest (making w.now) depth (standing pairs.now) gate (spec.from_call (making w.now) left call.now))) }
+    ensures { IfOk result (λ a. a ≡ steps.arm_of (spec.rest (making w.now) depth
+        (standing pairs.now) gate (spec.from_call (making w.now) left call.now))) }
 {
     let mut draft = gate;
     let list = through(alloc, w, left, depth, pairs, &mut draft, call)?;
@@ -338,7 +353,8 @@ fn both(
     first: Gated,
     second: Gated,
 ) -> Result<FromItem, NoMemory>
-    ensures { IfOk result (λ i. i ≡ either_item alias columns (steps.select_of first) (steps.select_of second)) }
+    ensures { IfOk result (λ i. i ≡ either_item alias columns (steps.select_of first)
+        (steps.select_of second)) }
 {
     let first = select(alloc, first.list, first.items, None);
     let second = select(alloc, second.list, second.items, None);
@@ -354,10 +370,12 @@ fn either(
     first: Gated,
     second: Gated,
 ) -> Result<Items<Item>, NoMemory>
-    ensures items { IfOk result (λ list. draft.new.items ≡ draft.old.items ++ either_item draft.old.next (length w.now.tail.now.columns)
+    ensures items { IfOk result (λ list. draft.new.items ≡ draft.old.items
+        ++ either_item draft.old.next (length w.now.tail.now.columns)
         (steps.select_of first) (steps.select_of second) ∷ []) }
     ensures next { IfOk result (λ list. draft.new.next ≡ second.next) }
-    ensures list { IfOk result (λ list. list ≡ map item_of (spec.all_columns (making w.now) (item + 1))) }
+    ensures list { IfOk result
+        (λ list. list ≡ map item_of (spec.all_columns (making w.now) (item + 1))) }
 {
     let next = second.next;
     let columns = w.tail.columns.len();
@@ -382,7 +400,8 @@ fn picked(
 ) -> Result<Items<Item>, NoMemory>
     requires classes { Each FailsByClass w.now.anf.now.blocks }
     ensures { IfOk result (λ list. spec.written draft.new list
-        ≡ spec.rest (making w.now) depth (standing pairs.now) draft.old (picks term.now (spec.from_call (making w.now) left yes.now)
+        ≡ spec.rest (making w.now) depth (standing pairs.now) draft.old
+        (picks term.now (spec.from_call (making w.now) left yes.now)
         (spec.from_call (making w.now) left no.now))) }
 {
     let item = draft.items.len();

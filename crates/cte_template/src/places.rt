@@ -111,7 +111,8 @@ pub(crate) fn entered(
     params: &[u32],
     args: &[u32],
 ) -> Result<Items<(u32, ItemColumn)>, NoMemory>
-    ensures { IfOk result (λ list. spec.place_of list ≡ paired (spec.place_of pairs.now) spec.nowhere params.now args.now) }
+    ensures { IfOk result (λ list. spec.place_of list
+        ≡ paired (spec.place_of pairs.now) spec.nowhere params.now args.now) }
 {
     let places = places_of(alloc, pairs, args)?;
     keys_at(alloc, params, places.as_slice())
@@ -123,7 +124,8 @@ pub(crate) fn on_row(
     params: &[u32],
     columns: &[u32],
 ) -> Result<Items<(u32, ItemColumn)>, NoMemory>
-    ensures { IfOk result (λ list. spec.place_of list ≡ paired spec.row_place spec.nowhere params.now columns.now) }
+    ensures { IfOk result (λ list. spec.place_of list
+        ≡ paired spec.row_place spec.nowhere params.now columns.now) }
 {
     let places = row_places(alloc, columns)?;
     keys_at(alloc, params, places.as_slice())

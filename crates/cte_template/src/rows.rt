@@ -26,7 +26,8 @@ fn add_nulls(alloc: Global, list: &mut Items<Item>, types: &[Ty]) -> Result<(), 
 
 /// The first columns of a finished row.
 fn finished(alloc: Global, w: &Writer<'_>) -> Result<Items<Item>, NoMemory>
-    ensures { IfOk result (λ list. list ≡ map tree.item (tree.truth false ∷ tree.number (pos 0) ∷ map tree.null_of w.now.tail.now.columns)) }
+    ensures { IfOk result (λ list. list ≡ map tree.item
+        (tree.truth false ∷ tree.number (pos 0) ∷ map tree.null_of w.now.tail.now.columns)) }
 {
     let mut list = only(alloc, truth(alloc, false)?)?;
     add(&mut list, number(alloc, 0)?)?;
@@ -76,7 +77,8 @@ fn add_cells(
     args: &[u32],
     columns: &[Ty],
 ) -> Result<(), NoMemory>
-    ensures { OnOk result (list.new ≡ list.old ++ map tree.item (spec.cells_at 0 depth (standing pairs.now) keys.now args.now columns.now)) }
+    ensures { OnOk result (list.new ≡ list.old ++ map tree.item
+        (spec.cells_at 0 depth (standing pairs.now) keys.now args.now columns.now)) }
 {
     for i in 0..columns.len() {
         let passed = beside(keys, args, small(i)?);
@@ -95,7 +97,8 @@ pub(crate) fn call_row(
     args: &[u32],
 ) -> Result<Items<Item>, NoMemory>
     ensures { IfOk result (λ list. list ≡ map tree.item
-        (spec.call_row (making w.now) depth (standing pairs.now) label (spec.keys_of (making w.now) label) args.now)) }
+        (spec.call_row (making w.now) depth (standing pairs.now) label
+        (spec.keys_of (making w.now) label) args.now)) }
 {
     let mut list = only(alloc, truth(alloc, true)?)?;
     add(&mut list, number(alloc, after(label)?)?)?;
@@ -145,7 +148,8 @@ pub(crate) fn add_arguments(
     keys: &[u32],
     params: &[u32],
 ) -> Result<(), NoMemory>
-    ensures { OnOk result (list.new ≡ list.old ++ map tree.item (spec.arguments_at (making w.now) 0 keys.now params.now w.now.tail.now.columns)) }
+    ensures { OnOk result (list.new ≡ list.old ++ map tree.item
+        (spec.arguments_at (making w.now) 0 keys.now params.now w.now.tail.now.columns)) }
 {
     let columns = w.tail.columns.as_slice();
     for i in 0..columns.len() {

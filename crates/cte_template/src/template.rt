@@ -187,9 +187,12 @@ pub fn template_tree(
     requires merged { Merged goto.now anf.now tail.now }
     requires columned { Columned f.now.slots ssa.now anf.now tail.now }
     requires entries { table.now.list ≡ expressions f.now.function }
-    ensures templated { IfOk result (λ q. Templated f.now.function f.now.slots tables goto.now ssa.now anf.now tail.now q) }
-    ensures is { IfOk result (λ q. q ≡ spec.tree (making_of f.now.function f.now.slots ssa.now anf.now tail.now) goto.now.entry tables) }
-    ensures fits { IfOk result (λ q. NumbersFit (making_of f.now.function f.now.slots ssa.now anf.now tail.now)) }
+    ensures templated { IfOk result
+        (λ q. Templated f.now.function f.now.slots tables goto.now ssa.now anf.now tail.now q) }
+    ensures is { IfOk result (λ q. q ≡ spec.tree
+        (making_of f.now.function f.now.slots ssa.now anf.now tail.now) goto.now.entry tables) }
+    ensures fits { IfOk result
+        (λ q. NumbersFit (making_of f.now.function f.now.slots ssa.now anf.now tail.now)) }
 {
     let w = Writer {
         table: table.list.as_slice(),

@@ -21,7 +21,8 @@ fn columns_of(
     pairs: &[(u32, ItemColumn)],
     names: &[u32],
 ) -> Result<Items<Col>, NoMemory>
-    ensures { IfOk result (λ list. list ≡ map (spec.column_at depth (standing pairs.now)) names.now) }
+    ensures { IfOk result (λ list. list
+        ≡ map (spec.column_at depth (standing pairs.now)) names.now) }
 {
     let mut list = Items::new(alloc);
     for name in names {
@@ -39,7 +40,8 @@ fn value_at(
     ty: Ty,
     term: &Term,
 ) -> Result<Expr, NoMemory>
-    ensures { IfOk result (λ e. e ≡ spec.value_at (making w.now) depth (standing pairs.now) ty term.now) }
+    ensures { IfOk result (λ e. e
+        ≡ spec.value_at (making w.now) depth (standing pairs.now) ty term.now) }
 {
     let Some(e) = w.table.get(term.expr as usize) else {
         return null(alloc, ty);
@@ -60,7 +62,8 @@ pub(crate) fn let_at(
     ty: Ty,
     term: &Term,
 ) -> Result<FromItem, NoMemory>
-    ensures { IfOk result (λ i. i ≡ spec.let_at (making w.now) depth (standing pairs.now) alias ty term.now) }
+    ensures { IfOk result (λ i. i
+        ≡ spec.let_at (making w.now) depth (standing pairs.now) alias ty term.now) }
 {
     let value = value_at(alloc, w, depth, pairs, ty, term)?;
     let_as(alloc, alias, value)

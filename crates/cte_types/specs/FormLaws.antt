@@ -16,8 +16,9 @@ use Rattle.call_forms.specs.Called.{Called}
 use Rattle.call_forms.specs.Templated.{types_of}
 use Rattle.cte_types.specs.Typed.{NoIntegers, BlockHasTypes, BlockKeepsTypes}
 
--- In the forms of a checked function each assigned term has the type of its name's slot, each test is boolean, and each returned term has the type
--- of the result. Integers of 32 bits, which no reader makes, have no expressions yet.
+-- In the forms of a checked function each assigned term has the type of its name's slot, each test
+-- is boolean, and each returned term has the type of the result. Integers of 32 bits, which no
+-- reader makes, have no expressions yet.
 abbrev pub TermsHaveTypes : Type 0
 TermsHaveTypes =
     (schema : Schema) (written f : Function) (slots : List Slot) (g : Goto) (z : Ssa) (a : Anf) (count params : ℕ)

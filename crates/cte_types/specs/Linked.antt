@@ -6,7 +6,8 @@ abbrev pub AreLinks : {m : _} → b.Row_of-Expr-Chain-1-2 m → Type 0
 AreLinks b.end_of-Expr-Chain-1-2 = ⊥
 AreLinks (b.more_of-Expr-Chain-1-2 op e rest) = Unit {0}
 
--- A chain without links has the value of its operand, and no reader makes one. As a whole the expression is none.
+-- A chain without links has the value of its operand, and no reader makes one. As a whole the
+-- expression is none.
 abbrev pub IsLinked : Expr → Type 0
 IsLinked (b.Chain' p e s links) = AreLinks links
 IsLinked _ = Unit {0}

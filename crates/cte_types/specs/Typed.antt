@@ -1,4 +1,5 @@
--- Terms whose expressions have a type, where their slots have the types of the names beside them, and calls that pass what has the type.
+-- Terms whose expressions have a type, where their slots have the types of the names beside them,
+-- and calls that pass what has the type.
 use Rattle.std.specs.Prelude.{◌≡◌, ℕ, true, false, List, [], get_or, slice_get, Some, None}
 use Rattle.away_values.specs.declared.types.Ty.{Ty}
 use Rattle.away_values.specs.declared.types.Ty.TheVariants as ty
@@ -35,8 +36,9 @@ pub record NoIntegers (slots : List Slot) (result : Ty) : Type 0 where
 
 -- ---- terms
 
--- The expression has the type where its slots, in the order of their first occurrence, have the types of the names beside them. It stands over these
--- tables, in no select, and outside of lists, where no aggregate may stand.
+-- The expression has the type where its slots, in the order of their first occurrence, have the
+-- types of the names beside them. It stands over these tables, in no select, and outside of lists,
+-- where no aggregate may stand.
 pub record HasTypeBy (tables : List (List Ty)) (types : ℕ → Ty) (names : List ℕ) (t : Ty) (e : Expr) : Type 0 where
   pub slots : List Ty
   pub beside : EachPair (λ k i n. slice_get slots i ≡ Some (types n)) (slots_of e) names

@@ -24,19 +24,20 @@ use Rattle.cte_template.specs.Tree.{tree}
 use Rattle.cte_types.specs.Typed.{HasKind, NoIntegers}
 use Rattle.cte_types.specs.Linked.{IsLinked}
 
--- What is asked of a function and its columns beside their relations: no integers of 32 bits and no chain without links, which no reader makes, and tables
--- whose number fits a place.
+-- What is asked of a function and its columns beside their relations: no integers of 32 bits and no
+-- chain without links, which no reader makes, and tables whose number fits a place.
 pub record IsTypable (schema : Schema) (f : Function) (slots : List Slot) (r : Tail) : Type 0 where
   pub few : length schema.tables < 2 ^ 64
   pub types : NoIntegers slots f.result
   pub columns : Each HasKind r.columns
   pub linked : Each IsLinked (expressions f)
 
--- A query that is read as the tree of a checked function's forms, with no rule of names broken and the recursive table named in the second term alone, and
--- there once, breaks no rule.
+-- A query that is read as the tree of a checked function's forms, with no rule of names broken and
+-- the recursive table named in the second term alone, and there once, breaks no rule.
 abbrev pub TreeBreaksNoRule : Type 0
 TreeBreaksNoRule =
-    (schema : Schema) (written f : Function) (slots : List Slot) (g : Goto) (z : Ssa) (a : Anf) (r : Tail) (count params : ℕ) → IsChecked schema written f slots
+    (schema : Schema) (written f : Function) (slots : List Slot) (g : Goto) (z : Ssa) (a : Anf)
+    (r : Tail) (count params : ℕ) → IsChecked schema written f slots
     → Lowered f slots g → Named count params g z → Called g z a → Merged g a r → Columned slots z a r → IsTypable schema f slots r → (names : File)
     → names.query ≡ tree (making_of f slots z a r) g.entry (length schema.tables) → IsUnbroken names.note → names.first.refers ≡ Never
     → names.second.refers ≡ Once → IsUnbroken (judged schema names).note

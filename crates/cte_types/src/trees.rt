@@ -3,8 +3,8 @@
 ghost use Rattle.cte_types.specs.TreeLaws.{ExpressionsHaveNoParameters, PlacingKeepsKinds, PlacingKeepsParameters, PlacingKeepsUses};
 ghost use Rattle.cte_types.specs.Whole.{TreeBreaksNoRule};
 
-/// An expression of a function has in a query, where its slots are columns, the type that is asked of it. It uses aggregates and has parameters as in the
-/// function.
+/// An expression of a function has in a query, where its slots are columns, the type that is asked of it. It uses aggregates and has parameters as in
+/// the function.
 pub fn placing_keeps_types()
     ensures kinds { PlacingKeepsKinds }
     ensures uses { PlacingKeepsUses }

@@ -11,8 +11,8 @@ use Rattle.compiling.specs.Compiled.{IsCompiled}
 use Rattle.equivalence.specs.Accepted.{EquivalentWith}
 use Rattle.demonstration.specs.declared.compiled.CompiledQuery.{CompiledQuery}
 
--- The text is compiled from the function over the tables of the schema. So the query that it reads as is equivalent to the function, where that is
--- checked under the schema.
+-- The text is compiled from the function over the tables of the schema. So the query that it reads
+-- as is equivalent to the function, where that is checked under the schema.
 pub record IsCompiledText (s : Schema) (f : Function) (slots : List Slot) (written : Query) (text : List ℕ) : Type 0 where
   pub forms : Forms
   pub compiled : IsCompiled s f slots written text forms

@@ -26,17 +26,20 @@ use Rattle.demonstration.specs.declared.trial.Trial.{Trial}
 abbrev pub turns : ℕ
 turns = 1000000
 
--- the most iterations of the query of a function of this weight: as many as an answer within the turns needs
+-- the most iterations of the query of a function of this weight: as many as an answer within the
+-- turns needs
 abbrev pub iterations_for : ℕ → ℕ
 iterations_for heaviness = (turns + 1) * heaviness + 1
 
--- what the function answers within its turns, what the query answers within so many iterations, and the least bound at which it does
+-- what the function answers within its turns, what the query answers within so many iterations, and
+-- the least bound at which it does
 pub record AreRuns (f : Function) (slots : List Slot) (q : Query) (tables : List Rows) (args : List Value) (most : ℕ) (runs : Runs) : Type 0 where
   pub function_is : runs.function ≡ answers f (not_nulls slots) tables args turns
   pub query_is : runs.query ≡ sql q tables args most
   pub iterations_are : IsLength q tables args most runs.iterations
 
--- the number is told, with a text that the function of the trial is compiled to, and with what that function and the text's query answer
+-- the number is told, with a text that the function of the trial is compiled to, and with what that
+-- function and the text's query answer
 pub record IsOver (number : ℕ) (text : List ℕ) (trial : Trial) (args : List Value) (summary : Summary) : Type 0 where
   pub query : Query
   pub compiled : IsCompiledText trial.schema.schema trial.counted.function.function trial.counted.function.slots query text
@@ -46,9 +49,11 @@ pub record IsOver (number : ℕ) (text : List ℕ) (trial : Trial) (args : List 
   pub runs : AreRuns trial.counted.function.function trial.counted.function.slots (resolved_query trial.schema.schema query)
       (rows_of_tables trial.tables.list) args (iterations_for (16 * (trial.counted.nodes + 1))) summary.runs
 
--- The case of the number is told, with a text that its function is compiled to: the texts of the case read as a schema and as a function, which break no
--- rule, and its file holds the rows of the schema's table. The summary has the nodes of the function, the length of the text, and what the checked
--- function and the query that the text reads as answer over those rows and the arguments of the case.
+-- The case of the number is told, with a text that its function is compiled to: the texts of the
+-- case read as a schema and as a function, which break no rule, and its file holds the rows of the
+-- schema's table. The summary has the nodes of the function, the length of the text, and what the
+-- checked function and the query that the text reads as answer over those rows and the arguments of
+-- the case.
 pub record IsSummary (number : ℕ) (text : List ℕ) (summary : Summary) : Type 0 where
   pub case : DemoCase
   pub case_is : IsCase number case

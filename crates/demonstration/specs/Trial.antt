@@ -16,7 +16,8 @@ pub record IsCounted (schema : Schema) (written : Function) (c : Counted) : Type
   pub checked : IsChecked schema written c.function.function c.function.slots
   pub nodes_are : c.nodes ≡ nodes written
 
--- the schema and the function are those that the case's texts read as, which break no rule, and the rows are those of its file
+-- the schema and the function are those that the case's texts read as, which break no rule, and the
+-- rows are those of its file
 pub record IsTrial (case : DemoCase) (trial : Trial) : Type 0 where
   pub schema_reads : IsSchemaText case.schema.items trial.schema.schema
   pub written : Function

@@ -26,7 +26,8 @@ pub(crate) fn compiled_query(
     function: &CheckedFunction,
 ) -> Result<CompiledQuery, NoMemory>
     requires texts { IsOfTexts schema.now.schema function.now.function function.now.slots }
-    ensures { IfOk result (λ told. (text : List ℕ) × IsCompiledQuery schema.now.schema function.now.function function.now.slots text told) }
+    ensures { IfOk result (λ told. (text : List ℕ)
+        × IsCompiledQuery schema.now.schema function.now.function function.now.slots text told) }
 {
     let compiled = compile(alloc, schema, function)?;
     with_length(alloc, schema, compiled)

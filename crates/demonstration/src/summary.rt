@@ -51,7 +51,8 @@ pub fn summary_of(alloc: Global, number: u64) -> Result<Summary, NoMemory>
 fn over_case(alloc: Global, number: u64, trial: &Trial, args: &[Value]) -> Result<Summary, NoMemory>
     requires few { trial.now.counted.nodes ≤ 500 }
     requires texts { IsOfTexts trial.now.schema.schema trial.now.counted.function.function trial.now.counted.function.slots }
-    ensures { IfOk result (λ summary. (text : List ℕ) × IsOver number text trial.now args.now summary) }
+    ensures { IfOk result (λ summary. (text : List ℕ)
+        × IsOver number text trial.now args.now summary) }
 {
     let told = compiled_query(alloc, trial.schema.get(), trial.counted.function.get())?;
     let most = most_iterations(trial.counted.nodes);

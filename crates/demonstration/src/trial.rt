@@ -59,7 +59,8 @@ fn schema_of(alloc: Global, bytes: &[u8]) -> Result<Boxed<CheckedSchema>, NoMemo
 }
 
 fn function_of(alloc: Global, schema: &CheckedSchema, bytes: &[u8]) -> Result<Counted, NoMemory>
-    ensures { IfOk result (λ c. (written : FunctionTree) × IsFunctionText schema.now.schema bytes.now written
+    ensures { IfOk result (λ c. (written : FunctionTree)
+        × IsFunctionText schema.now.schema bytes.now written
         × IsCounted schema.now.schema written c) }
 {
     let Ok(function) = read_function(alloc, bytes) else {
@@ -77,7 +78,8 @@ fn function_of(alloc: Global, schema: &CheckedSchema, bytes: &[u8]) -> Result<Co
 
 /// The table of the schema's one table.
 fn tables_of(alloc: Global, schema: &Schema, bytes: &[u8]) -> Result<Tables, NoMemory>
-    ensures { IfOk result (λ tables. (rows : List (List SqlValue)) × IsTableFile schema.now bytes.now rows
+    ensures { IfOk result (λ tables. (rows : List (List SqlValue))
+        × IsTableFile schema.now bytes.now rows
         × (rows_of_tables tables.list ≡ rows ∷ [])) }
 {
     match schema.tables.as_slice() {

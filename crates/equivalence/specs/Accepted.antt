@@ -1,4 +1,5 @@
--- The relations between a function, the forms that lead to its query and the query, and what all promise together.
+-- The relations between a function, the forms that lead to its query and the query, and what all
+-- promise together.
 use Rattle.std.specs.Prelude.{List, length, map}
 use Rattle.away_trees.specs.declared.queries.Query.{Query}
 use Rattle.away_trees.specs.declared.schemas.Schema.{Schema}
@@ -13,7 +14,14 @@ use Rattle.call_forms.specs.Columned.{Columned as IsColumned}
 use Rattle.call_forms.specs.Merged.{Merged as IsMerged}
 use Rattle.call_forms.specs.Templated.{Templated as IsTemplated}
 use Rattle.equivalence.specs.declared.relation.Relation.{Relation}
-use Rattle.equivalence.specs.declared.relation.Relation.TheVariants.{Lowered, Named, Called, Merged, Columned, Templated}
+use Rattle.equivalence.specs.declared.relation.Relation.TheVariants.{
+  Lowered,
+  Named,
+  Called,
+  Merged,
+  Columned,
+  Templated,
+}
 
 -- a checked function with its slots, over the tables of a schema, four forms, and a query
 module _ (s : Schema) (f : Function) (slots : List Slot) (forms : Forms) (q : Query) where
@@ -35,8 +43,10 @@ module _ (s : Schema) (f : Function) (slots : List Slot) (forms : Forms) (q : Qu
     pub columned : Holds Columned
     pub templated : Holds Templated
 
--- The query is equivalent to the function with these slots, over all tables that fit the schema and all arguments of the parameters' types. An answer
--- that the function has within n turns is the query's at (n + 1) * weight + 1 iterations. Where the function needs more than n turns, the query has no
--- answer at n iterations. An answer that the query has at k iterations is the function's within k turns.
+-- The query is equivalent to the function with these slots, over all tables that fit the schema and
+-- all arguments of the parameters' types. An answer that the function has within n turns is the
+-- query's at (n + 1) * weight + 1 iterations. Where the function needs more than n turns, the query
+-- has no answer at n iterations. An answer that the query has at k iterations is the function's
+-- within k turns.
 abbrev pub EquivalentWith : Schema → Function → List Slot → Query → Type 0
 EquivalentWith s f slots q = Equivalent s f (map (λ (x : Slot). x.not_null) slots) q

@@ -18,8 +18,10 @@ use ssa_check::naming_keeps_answers;
 
 /// Where a function is checked under a schema, and the six relations hold of it, four forms and a query, the query is equivalent to the function.
 pub fn accepted_forms_are_equivalent(f: &CheckedFunction)
-    ensures { (s : Schema) (written : Function) (forms : Forms) (q : Query) → IsChecked s written f.now.function f.now.slots → length s.tables < 2 ^ 64
-        → AcceptedForms s f.now.function f.now.slots forms q → EquivalentWith s f.now.function f.now.slots q }
+    ensures { (s : Schema) (written : Function) (forms : Forms) (q : Query)
+        → IsChecked s written f.now.function f.now.slots → length s.tables < 2 ^ 64
+        → AcceptedForms s f.now.function f.now.slots forms q
+        → EquivalentWith s f.now.function f.now.slots q }
 {
     forms_of_checked_functions_keep_answers(f);
     naming_keeps_answers();

@@ -1,4 +1,5 @@
-//! Forms of small functions: which are built, and which the checks accept. A crate of its own, so that they load what they look at and prove none of it again.
+//! Forms of small functions: which are built, and which the checks accept. A crate of its own, so that they load what they look at and prove none of
+//! it again.
 #![tactic(auto)]
 
 #[cfg(test)]

@@ -1,5 +1,5 @@
-//! Each block belongs to one node of the function, and each node tells a block: forms in which two share one, or in which nodes are missing or left over,
-//! are refused.
+//! Each block belongs to one node of the function, and each node tells a block: forms in which two share one, or in which nodes are missing or left
+//! over, are refused.
 
 use crate::edits::Edit;
 use crate::forms::{BlockOf, EndOf, goto_of};

@@ -16,7 +16,7 @@ IsSeen sight _ = Unit {0}
 abbrev pub ReadsInSight : Sighted → Type 0
 ReadsInSight x = Every (IsSeen x.sight) (reads x.expr)
 
--- Each slot that an expression of the function reads is a parameter, or a variable declared before it in a block around it, or the variable of a FOR
--- around it.
+-- Each slot that an expression of the function reads is a parameter, or a variable declared before
+-- it in a block around it, or the variable of a FOR around it.
 abbrev pub AllInSight : Function → Type 0
 AllInSight f = Every ReadsInSight (sighted f)

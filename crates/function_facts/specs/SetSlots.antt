@@ -12,7 +12,8 @@ use Rattle.plsql_meaning.specs.Outcomes.{Env}
 use Rattle.plsql_meaning.specs.Sight.{Agree, of_expressions, reads_in_sight}
 use Rattle.plsql_meaning.specs.Statements.{meaning}
 
--- Over the tables of its schema the body of a checked function reads slots in sight alone, from its parameters on.
+-- Over the tables of its schema the body of a checked function reads slots in sight alone, from its
+-- parameters on.
 abbrev pub ReadInSight : Type 0
 ReadInSight =
     (s : Schema) (written f : Function) (slots : List Slot) → IsChecked s written f slots → length s.tables < 2 ^ 64

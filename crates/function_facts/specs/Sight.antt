@@ -1,5 +1,6 @@
--- The expressions of a function whose names are resolved, each with the slots that are in sight where it stands. Parameters, declarations and FOR
--- variables take the slots in the order of the text.
+-- The expressions of a function whose names are resolved, each with the slots that are in sight
+-- where it stands. Parameters, declarations and FOR variables take the slots in the order of the
+-- text.
 use Rattle.std.specs.Prelude.{ℕ, ◌+◌, List, [], ◌∷◌, ◌++◌, fold, length, Option, Some, None}
 use Rattle.std.specs.List.{range_with_len}
 use Rattle.away_trees.specs.declared.queries.Expr.{Expr}

@@ -14,8 +14,8 @@ pub fn lowered_forms_raise_classes()
     ensures { RaiseClasses }
 {}
 
-/// A checked function reads slots in sight alone: its parameters, variables declared before in the blocks around, and variables of the FORs around, each
-/// of which has been set by then. So its body answers the same whatever stands in the slots behind its parameters when it begins.
+/// A checked function reads slots in sight alone: its parameters, variables declared before in the blocks around, and variables of the FORs around,
+/// each of which has been set by then. So its body answers the same whatever stands in the slots behind its parameters when it begins.
 pub fn checked_functions_read_set_slots()
     ensures reads { ReadInSight }
     ensures answers { AnswerFromParameters }

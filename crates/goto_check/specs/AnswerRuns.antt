@@ -23,7 +23,8 @@ yes_numbers blocks q (p ∷ ps) = if says_yes blocks q p then number_of p ∷ ye
 unfoldable pub answer_run : Asking → List Part → Run
 answer_run a ps = run_of (yes_numbers a.goto.now.blocks a.question ps)
 
--- the blocks that the parts have, as their own or as one that they may share, in the order of the text
+-- the blocks that the parts have, as their own or as one that they may share, in the order of the
+-- text
 abbrev pub blocks_in : List Part → List ℕ
 blocks_in [] = []
 blocks_in (own b x ∷ ps) = b ∷ blocks_in ps

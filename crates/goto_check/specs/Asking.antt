@@ -1,5 +1,20 @@
 -- What is asked of each part of a pattern.
-use Rattle.std.specs.Prelude.{◌≡◌, ℕ, Bool, true, false, not, ◌&&◌, List, slice_get, Option, Some, None, nat_eq, bytes_eq}
+use Rattle.std.specs.Prelude.{
+  ◌≡◌,
+  ℕ,
+  Bool,
+  true,
+  false,
+  not,
+  ◌&&◌,
+  List,
+  slice_get,
+  Option,
+  Some,
+  None,
+  nat_eq,
+  bytes_eq,
+}
 use Rattle.goto_check.specs.declared.asking.Question.{Question}
 use Rattle.goto_check.specs.declared.asking.Question.TheVariants as question
 use Rattle.goto_check.specs.declared.asking.Asking.{Asking}
@@ -54,7 +69,8 @@ is_found (Some x) y = is_block x y
 
 -- ---- answers
 
--- whether a part fails to stand, whether a block is its own, whether it is one that the part may share, or whether the part has a block
+-- whether a part fails to stand, whether a block is its own, whether it is one that the part may
+-- share, or whether the part has a block
 abbrev pub says_yes : List Block → Question → Part → Bool
 says_yes blocks question.Fails (own b x) = not (is_found (slice_get blocks b) x)
 says_yes blocks question.Fails (shared b x) = not (is_found (slice_get blocks b) x)
@@ -81,6 +97,7 @@ numbers_in a = record { fixed = a.fixed; counters = a.counters }
 abbrev pub setting_in : Asking → Setting
 setting_in a = setting_of a.goto.now a.slots.now (numbers_in a)
 
--- a block is the one that follows, where a part that fails is asked for; who has a block is told without what follows it
+-- a block is the one that follows, where a part that fails is asked for; who has a block is told
+-- without what follows it
 abbrev pub IsAsked : Asking → ℕ → ℕ → Type 0
 IsAsked a x y = a.question ≡ question.Fails → x ≡ y

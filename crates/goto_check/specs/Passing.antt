@@ -1,5 +1,24 @@
--- A list of slots against those that a text reads in turn: each is one that the list had before, or the next one.
-use Rattle.std.specs.Prelude.{ℕ, ◌+◌, ◌&&◌, List, [], ◌∷◌, ◌++◌, fold, filter_map, flat_map, length, Option, Some, None, if◌then◌else◌, nat_eq, nat_lt}
+-- A list of slots against those that a text reads in turn: each is one that the list had before, or
+-- the next one.
+use Rattle.std.specs.Prelude.{
+  ℕ,
+  ◌+◌,
+  ◌&&◌,
+  List,
+  [],
+  ◌∷◌,
+  ◌++◌,
+  fold,
+  filter_map,
+  flat_map,
+  length,
+  Option,
+  Some,
+  None,
+  if◌then◌else◌,
+  nat_eq,
+  nat_lt,
+}
 use Rattle.away_values.specs.declared.operators.ChainOp.{ChainOp}
 use Rattle.away_trees.specs.declared.queries.Expr.{Expr}
 use Rattle.away_trees.specs.declared.queries.FromItem.{FromItem}

@@ -1,5 +1,20 @@
 -- Numbers in a row, as far as each is the next one.
-use Rattle.std.specs.Prelude.{ℕ, zero, suc, ◌+◌, Bool, true, false, ◌&&◌, List, [], ◌∷◌, length, if◌then◌else◌, nat_eq}
+use Rattle.std.specs.Prelude.{
+  ℕ,
+  zero,
+  suc,
+  ◌+◌,
+  Bool,
+  true,
+  false,
+  ◌&&◌,
+  List,
+  [],
+  ◌∷◌,
+  length,
+  if◌then◌else◌,
+  nat_eq,
+}
 use Rattle.goto_check.specs.declared.runs.Run.{Run}
 use Rattle.goto_check.specs.declared.runs.Run.TheVariants.{Empty, FromTo, Broken}
 

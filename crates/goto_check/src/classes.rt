@@ -51,7 +51,8 @@ fn of_bytes(bytes: &[u8]) -> Class
 }
 
 fn class_of_text(text: &str) -> Class
-    ensures { result ≡ (if is_class (chars text.now) then class (chars text.now) else raised_message) }
+    ensures { result ≡ (if is_class (chars text.now) then class
+        (chars text.now) else raised_message) }
 {
     if is_class(text) {
         of_bytes(text.as_bytes())

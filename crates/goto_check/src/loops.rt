@@ -23,7 +23,8 @@ use block_forms::{Fixed, Goto};
 #[tactic(auto, using(crate::proofs::AnswerRules::answer_rules))]
 fn ask_bound(a: &Asking<'_>, b: usize, slot: usize, want: &Wanted<'_>, next: usize) -> Run
     requires { a.now.fixed + many ≤ 2 ^ 64 }
-    ensures { result ≡ answer_run a.now (bound_parts a.now.goto.now (numbers_in a.now) b slot (wanted want.now) next) }
+    ensures { result ≡ answer_run a.now
+        (bound_parts a.now.goto.now (numbers_in a.now) b slot (wanted want.now) next) }
 {
     let test = jump_of(a.goto, b);
     let fault = yes_of(a.goto, test);
@@ -56,7 +57,8 @@ fn ask_step(
     head: usize,
 ) -> Run
     requires { a.now.fixed + many ≤ 2 ^ 64 }
-    ensures { result ≡ answer_run a.now (step_parts a.now.goto.now (numbers_in a.now) by.now expr b step head) }
+    ensures { result ≡ answer_run a.now
+        (step_parts a.now.goto.now (numbers_in a.now) by.now expr b step head) }
 {
     match by {
         None => {
@@ -98,7 +100,8 @@ fn ask_turn(
     next: usize,
 ) -> Run
     requires { a.now.fixed + many ≤ 2 ^ 64 }
-    ensures { result ≡ answer_run a.now (turn_parts a.now.goto.now (numbers_in a.now) reverse c.var c.cur c.last c.step head test body next) }
+    ensures { result ≡ answer_run a.now (turn_parts a.now.goto.now
+        (numbers_in a.now) reverse c.var c.cur c.last c.step head test body next) }
 {
     let in_range = entry_term(a.fixed, Fixed::in_range(reverse), Reads::Two(c.cur, c.last));
     let copy = entry_term(a.fixed, Fixed::Copy, Reads::One(c.cur));
@@ -141,7 +144,8 @@ fn ask_for(
 ) -> Run
     requires room { Room (numbers_in a.now) (here p) }
     requires more { p.expr + 2 < 2 ^ 64 }
-    ensures { result ≡ answer_run a.now (for_parts a.now.goto.now (numbers_in a.now) reverse first.now last.now by.now (here p) body next) }
+    ensures { result ≡ answer_run a.now (for_parts a.now.goto.now
+        (numbers_in a.now) reverse first.now last.now by.now (here p) body next) }
 {
     let cur = a.counters + 3 * p.fors;
     let counter = Counter {
@@ -196,7 +200,8 @@ pub(crate) fn turns_to(a: &Asking<'_>, kind: &LoopKind, p: Spot) -> usize
 /// The blocks of a loop, but its body's.
 pub(crate) fn ask_kind(a: &Asking<'_>, kind: &LoopKind, p: Spot, body: usize, next: usize) -> Run
     requires { Room (numbers_in a.now) (after (here p) (kind_size kind.now)) }
-    ensures { result ≡ answer_run a.now (kind_parts (setting_in a.now) kind.now (here p) body next) }
+    ensures { result ≡ answer_run a.now
+        (kind_parts (setting_in a.now) kind.now (here p) body next) }
 {
     match kind {
         LoopKind::Plain => ask_own(a, node(a.goto, p.node), &Shape::Jump(true, body)),

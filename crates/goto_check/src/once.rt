@@ -18,7 +18,8 @@ use away_trees::Function;
 #[tactic(auto, unfolding(crate::specs::AnswerRuns::answer_run))]
 fn asked(a: &Asking<'_>, f: &Function, question: Question) -> Run
     requires { Room (numbers_in a.now) (after (body_place f.now) (laid f.now.body).size) }
-    ensures { result ≡ run_of (yes_numbers a.now.goto.now.blocks question (parts_in (setting_in a.now) f.now)) }
+    ensures { result ≡ run_of
+        (yes_numbers a.now.goto.now.blocks question (parts_in (setting_in a.now) f.now)) }
 {
     let asking = Asking {
         goto: a.goto,
@@ -61,7 +62,8 @@ fn is_once(a: &Asking<'_>, f: &Function, b: usize) -> bool
 /// Whether the blocks of the parts, in the order of the text, are all blocks, each once and in order: so `lower` numbers them.
 fn is_in_order(a: &Asking<'_>, f: &Function) -> bool
     requires { Room (numbers_in a.now) (after (body_place f.now) (laid f.now.body).size) }
-    ensures { IsTrue result ↔ (blocks_in (parts_in (setting_in a.now) f.now) ≡ range_with_len 0 (length a.now.goto.now.blocks)) }
+    ensures { IsTrue result ↔ (blocks_in (parts_in (setting_in a.now) f.now)
+        ≡ range_with_len 0 (length a.now.goto.now.blocks)) }
 {
     is_up_to(asked(a, f, Question::Which), a.goto.blocks.len())
 }

@@ -44,7 +44,8 @@ fn ask_param(a: &Asking<'_>, strict: bool, result_type: Ty, k: usize, ty: Ty) ->
 fn ask_params(a: &Asking<'_>, strict: bool, result_type: Ty, k: usize, params: &[(Name, Ty)]) -> Run
     requires fixed { a.now.fixed + many ≤ 2 ^ 64 }
     requires more { k + length params.now < 2 ^ 64 }
-    ensures { result ≡ answer_run a.now (params_parts (setting_in a.now) strict result_type k params.now) }
+    ensures { result ≡ answer_run a.now
+        (params_parts (setting_in a.now) strict result_type k params.now) }
 {
     match params {
         [] => Run::Empty,

@@ -61,7 +61,8 @@ fn ask_set(
     next: usize,
 ) -> Run
     requires { a.now.fixed + many ≤ 2 ^ 64 }
-    ensures { result ≡ answer_run a.now (set_parts a.now.goto.now (numbers_in a.now) not_null ty b slot (wanted want.now) next) }
+    ensures { result ≡ answer_run a.now (set_parts a.now.goto.now
+        (numbers_in a.now) not_null ty b slot (wanted want.now) next) }
 {
     if not_null {
         let test = jump_of(a.goto, b);
@@ -89,7 +90,8 @@ pub(crate) fn ask_slot(
     next: usize,
 ) -> Run
     requires { a.now.fixed + many ≤ 2 ^ 64 }
-    ensures { result ≡ answer_run a.now (slot_parts a.now.goto.now (numbers_in a.now) s b slot (wanted want.now) next) }
+    ensures { result ≡ answer_run a.now
+        (slot_parts a.now.goto.now (numbers_in a.now) s b slot (wanted want.now) next) }
 {
     match s {
         None => ask_set(a, false, Ty::Bigint, b, slot, want, next),
@@ -106,7 +108,8 @@ pub(crate) fn ask_leave(
     to: usize,
     next: usize,
 ) -> Run
-    ensures { result ≡ answer_run a.now (leave_parts a.now.goto.now (numbers_in a.now) when.now expr b to next) }
+    ensures { result ≡ answer_run a.now
+        (leave_parts a.now.goto.now (numbers_in a.now) when.now expr b to next) }
 {
     match when {
         None => ask_own(a, b, &Shape::Jump(false, to)),
@@ -123,7 +126,8 @@ pub(crate) fn ask_exit(
     to: usize,
     next: usize,
 ) -> Run
-    ensures { result ≡ answer_run a.now (exit_parts a.now.goto.now (numbers_in a.now) when.now expr b to next) }
+    ensures { result ≡ answer_run a.now
+        (exit_parts a.now.goto.now (numbers_in a.now) when.now expr b to next) }
 {
     if b == a.goto.entry as usize {
         ask_never(a)

@@ -82,7 +82,8 @@ fn ask_decls(a: &Asking<'_>, decls: &[Decl], p: Spot, next: usize) -> Run
 
 fn ask_assign(a: &Asking<'_>, slot: Option<u32>, e: &Expr, p: Spot, next: usize) -> Run
     requires { Room (numbers_in a.now) (here p) }
-    ensures { result ≡ answer_run a.now (l.assign_parts (setting_in a.now) slot e.now (here p) next) }
+    ensures { result ≡ answer_run a.now
+        (l.assign_parts (setting_in a.now) slot e.now (here p) next) }
 {
     match slot {
         None => ask_own(a, node(a.goto, p.node), &Shape::Jump(false, next)),
@@ -112,7 +113,8 @@ struct Tested {
 /// What follows where no arm is taken and there is no ELSE.
 #[tactic(auto, using(crate::proofs::AnswerRules::answer_rules))]
 fn ask_lack(a: &Asking<'_>, tested: Tested, without: Option<Class>, next: usize) -> Answer
-    ensures run { result.run ≡ join tested.run (answer_run a.now (l.lack_parts (setting_in a.now) without tested.lack next)) }
+    ensures run { result.run ≡ join tested.run
+        (answer_run a.now (l.lack_parts (setting_in a.now) without tested.lack next)) }
     ensures end { result.end ≡ tested.end }
 {
     let run = match without {
@@ -141,7 +143,8 @@ fn behind(run: Run, s: &Stmt, p: Spot) -> Answer
 /// then is the statement sized before it is walked.
 fn follows(a: &Asking<'_>, s: &Stmt, p: Spot, many: usize, next: usize) -> usize
     requires { Room (numbers_in a.now) (after (here p) (laid s.now).size) }
-    ensures { IsAsked a.now result (l.first_block (setting_in a.now) many (after (here p) (laid s.now).size).node next) }
+    ensures { IsAsked a.now result
+        (l.first_block (setting_in a.now) many (after (here p) (laid s.now).size).node next) }
 {
     if many == 0 {
         return next;
@@ -155,14 +158,16 @@ fn follows(a: &Asking<'_>, s: &Stmt, p: Spot, many: usize, next: usize) -> usize
 }
 
 fn ask_return(a: &Asking<'_>, e: &Expr, p: Spot) -> Run
-    ensures { result ≡ answer_run a.now (form.own (form.node a.now.goto.now p.node) (form.returns (form.source_term p.expr e.now)) ∷ []) }
+    ensures { result ≡ answer_run a.now (form.own (form.node a.now.goto.now p.node)
+        (form.returns (form.source_term p.expr e.now)) ∷ []) }
 {
     let term = source_term(p.expr, e);
     ask_own(a, node(a.goto, p.node), &Shape::Return(&term))
 }
 
 fn ask_raise(a: &Asking<'_>, raised: &Raised, p: Spot) -> Run
-    ensures { result ≡ answer_run a.now (form.shared (form.node a.now.goto.now p.node) (form.fails (meaning.class_of raised.now)) ∷ []) }
+    ensures { result ≡ answer_run a.now (form.shared (form.node a.now.goto.now p.node)
+        (form.fails (meaning.class_of raised.now)) ∷ []) }
 {
     ask_shared(a, node(a.goto, p.node), &Shape::Fail(class_of(raised)))
 }
@@ -177,7 +182,8 @@ pub(crate) fn ask_statement(
     next: usize,
 ) -> Answer
     requires { Room (numbers_in a.now) (after (here p) (laid s.now).size) }
-    ensures run { result.run ≡ answer_run a.now ((laid s.now).parts (setting_in a.now) (here p) (around_of around.now) next) }
+    ensures run { result.run ≡ answer_run a.now
+        ((laid s.now).parts (setting_in a.now) (here p) (around_of around.now) next) }
     ensures end { here result.end ≡ after (here p) (laid s.now).size }
 {
     match s {
@@ -239,7 +245,8 @@ pub(crate) fn ask_statement(
 #[tactic(auto, using(crate::proofs::AnswerRules::answer_rules, crate::proofs::Rooms::room_rules))]
 fn ask_row(a: &Asking<'_>, list: &[Stmt], p: Spot, around: &Enclosing<'_>, next: usize) -> Answer
     requires { Room (numbers_in a.now) (after (here p) (row_size (laid_row list.now))) }
-    ensures run { result.run ≡ answer_run a.now (row_parts (setting_in a.now) (laid_row list.now) (here p) (around_of around.now) next) }
+    ensures run { result.run ≡ answer_run a.now (row_parts (setting_in a.now) (laid_row list.now)
+        (here p) (around_of around.now) next) }
     ensures end { here result.end ≡ after (here p) (row_size (laid_row list.now)) }
 {
     let mut run = Run::Empty;
@@ -265,10 +272,13 @@ fn ask_block(
     around: &Enclosing<'_>,
     next: usize,
 ) -> Answer
-    requires { Room (numbers_in a.now) (after (here p) (after (after a_node (decls_size decls.now)) (row_size (laid_row body.now)))) }
-    ensures run { result.run ≡ answer_run a.now (l.block_parts (setting_in a.now) label.now decls.now (laid_row body.now) (here p)
+    requires { Room (numbers_in a.now) (after (here p)
+        (after (after a_node (decls_size decls.now)) (row_size (laid_row body.now)))) }
+    ensures run { result.run ≡ answer_run a.now
+        (l.block_parts (setting_in a.now) label.now decls.now (laid_row body.now) (here p)
         (around_of around.now) next) }
-    ensures end { here result.end ≡ after (here p) (after (after a_node (decls_size decls.now)) (row_size (laid_row body.now))) }
+    ensures end { here result.end ≡ after (here p)
+        (after (after a_node (decls_size decls.now)) (row_size (laid_row body.now))) }
 {
     let one = spot_of(1, 0, 0, 0);
     let begin = after(p, after(one, decls_size(decls)));
@@ -295,9 +305,12 @@ fn ask_loop(
     around: &Enclosing<'_>,
     next: usize,
 ) -> Answer
-    requires { Room (numbers_in a.now) (after (here p) (after (kind_size kind.now) (row_size (laid_row body.now)))) }
-    ensures run { result.run ≡ answer_run a.now (l.loop_parts (setting_in a.now) label.now kind.now (laid_row body.now) (here p) (around_of around.now) next) }
-    ensures end { here result.end ≡ after (here p) (after (kind_size kind.now) (row_size (laid_row body.now))) }
+    requires { Room (numbers_in a.now)
+        (after (here p) (after (kind_size kind.now) (row_size (laid_row body.now)))) }
+    ensures run { result.run ≡ answer_run a.now (l.loop_parts (setting_in a.now) label.now kind.now
+        (laid_row body.now) (here p) (around_of around.now) next) }
+    ensures end { here result.end
+        ≡ after (here p) (after (kind_size kind.now) (row_size (laid_row body.now))) }
 {
     let again = turns_to(a, kind, p);
     let first = first_block(a, body.len(), p.node + 1, again);
@@ -321,7 +334,8 @@ fn ask_arms(
     b: usize,
 ) -> Tested
     requires { Room (numbers_in a.now) (after (here p) (arms_size (laid_arms arms.now))) }
-    ensures run { result.run ≡ answer_run a.now (arms_parts (setting_in a.now) (laid_arms arms.now) (here p) (around_of around.now) next b) }
+    ensures run { result.run ≡ answer_run a.now (arms_parts (setting_in a.now) (laid_arms arms.now)
+        (here p) (around_of around.now) next b) }
     ensures end { here result.end ≡ after (here p) (arms_size (laid_arms arms.now)) }
     ensures lack { result.lack ≡ l.lack (setting_in a.now) (laid_arms arms.now) b }
 {
@@ -352,11 +366,14 @@ fn ask_arms(
 #[cycle(stand)]
 #[tactic(auto, using(crate::proofs::Rooms::room_rules))]
 fn ask_tests(a: &Asking<'_>, arms: &[Arm], p: Spot, around: &Enclosing<'_>, next: usize) -> Tested
-    requires { Room (numbers_in a.now) (after (here p) (after a_node (arms_size (laid_arms arms.now)))) }
-    ensures run { result.run ≡ answer_run a.now (arms_parts (setting_in a.now) (laid_arms arms.now) (after (here p) a_node) (around_of around.now) next
+    requires { Room (numbers_in a.now)
+        (after (here p) (after a_node (arms_size (laid_arms arms.now)))) }
+    ensures run { result.run ≡ answer_run a.now (arms_parts (setting_in a.now) (laid_arms arms.now)
+        (after (here p) a_node) (around_of around.now) next
         (form.node a.now.goto.now p.node)) }
     ensures end { here result.end ≡ after (here p) (after a_node (arms_size (laid_arms arms.now))) }
-    ensures lack { result.lack ≡ l.lack (setting_in a.now) (laid_arms arms.now) (form.node a.now.goto.now p.node) }
+    ensures lack { result.lack ≡ l.lack (setting_in a.now) (laid_arms arms.now)
+        (form.node a.now.goto.now p.node) }
 {
     let first = node(a.goto, p.node);
     ask_arms(a, arms, after(p, spot_of(1, 0, 0, 0)), around, next, first)
@@ -372,10 +389,13 @@ fn ask_else(
     around: &Enclosing<'_>,
     next: usize,
 ) -> Answer
-    requires { Room (numbers_in a.now) (after (here tested.end) (after a_node (row_size (laid_row body.now)))) }
+    requires { Room (numbers_in a.now)
+        (after (here tested.end) (after a_node (row_size (laid_row body.now)))) }
     ensures run { result.run ≡ join tested.run (answer_run a.now
-        (l.else_parts (setting_in a.now) (Some (laid_row body.now)) None (here tested.end) (around_of around.now) next tested.lack)) }
-    ensures end { here result.end ≡ after (here tested.end) (after a_node (row_size (laid_row body.now))) }
+        (l.else_parts (setting_in a.now) (Some (laid_row body.now)) None (here tested.end)
+        (around_of around.now) next tested.lack)) }
+    ensures end { here result.end
+        ≡ after (here tested.end) (after a_node (row_size (laid_row body.now))) }
 {
     let q = tested.end;
     let to = first_block(a, body.len(), q.node + 1, next);

@@ -1,4 +1,5 @@
--- The law: a goto form that is a function's answers what the function answers, within the function's weight for each turn.
+-- The law: a goto form that is a function's answers what the function answers, within the
+-- function's weight for each turn.
 use Rattle.std.specs.Prelude.{◌≡◌, ℕ, suc, ◌*◌, ◌≤◌, List, length, map}
 use Rattle.away_values.specs.declared.values.Value.{Value}
 use Rattle.away_values.specs.declared.values.Answer.{Answer}
@@ -15,7 +16,8 @@ use Rattle.block_forms.specs.Machines.{IsOver, Ran}
 use Rattle.block_forms.specs.Runs.{goto_runs}
 use Rattle.block_forms.specs.OwnSlots.{OwnSlots}
 
--- the function and its goto form over tables: what it answers within so many turns, and the run of so many visits
+-- the function and its goto form over tables: what it answers within so many turns, and the run of
+-- so many visits
 module _ (f : Function) (slots : List Slot) (g : Goto) (tables : List Rows) (args : List Value) where
   abbrev pub function_at : ℕ → Answer
   function_at n = function_answer (over tables (map (λ (s : Slot). s.not_null) slots)) f args n
@@ -23,7 +25,8 @@ module _ (f : Function) (slots : List Slot) (g : Goto) (tables : List Rows) (arg
   abbrev pub form_at : ℕ → Ran
   form_at k = goto_runs (frame_of f (length slots) g tables) g args k
 
--- A run of a form meets the function's answer within n turns: it has the answer, or where the function needs more turns, it has more than n heads.
+-- A run of a form meets the function's answer within n turns: it has the answer, or where the
+-- function needs more turns, it has more than n heads.
 abbrev pub Meets : Answer → Ran → ℕ → Type 0
 Meets answer.More run n = suc n ≤ run.heads
 Meets (answer.Value v) run n = run.answer ≡ answer.Value v

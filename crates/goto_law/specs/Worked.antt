@@ -1,4 +1,5 @@
--- What is live at the entry of two small forms with one parameter: in one the parameter alone is, in the other a variable that nothing has set.
+-- What is live at the entry of two small forms with one parameter: in one the parameter alone is,
+-- in the other a variable that nothing has set.
 use Rattle.std.specs.Prelude.{false, [], ◌∷◌}
 use Rattle.block_forms.specs.declared.forms.Goto.{Goto}
 use Rattle.block_forms.specs.Patterns.{term, jumps, returns}

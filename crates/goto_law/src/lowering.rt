@@ -7,9 +7,9 @@ ghost use Rattle.goto_law.specs.Law.{KeepsAnswers, OnlyItsAnswers, Waits, Keeps}
 use away_types::CheckedFunction;
 use function_facts::checked_functions_own_their_slots;
 
-/// The goto form of a function has the function's answer within the function's weight for each turn and one more. Where the function needs more turns, that
-/// run has more heads than there are turns, and a run of as many visits as turns has no answer. What a run of the form answers, the function answers within
-/// as many turns.
+/// The goto form of a function has the function's answer within the function's weight for each turn and one more. Where the function needs more
+/// turns, that run has more heads than there are turns, and a run of as many visits as turns has no answer. What a run of the form answers, the
+/// function answers within as many turns.
 pub fn lowering_keeps_answers()
     ensures answers { KeepsAnswers }
     ensures only { OnlyItsAnswers }
@@ -18,7 +18,8 @@ pub fn lowering_keeps_answers()
 
 /// The same of each goto form of a checked function, of whose slots nothing is supposed.
 pub fn forms_of_checked_functions_keep_answers(f: &CheckedFunction)
-    ensures { (g : Goto) → Lowered f.now.function f.now.slots g → Keeps f.now.function f.now.slots g }
+    ensures { (g : Goto) → Lowered f.now.function f.now.slots g
+        → Keeps f.now.function f.now.slots g }
 {
     checked_functions_own_their_slots(f);
 }

@@ -1,5 +1,24 @@
--- A goto form of each statement: its blocks from a number on, every target computed from counts of blocks. Each fault has a block of its own.
-use Rattle.std.specs.Prelude.{ℕ, zero, suc, ◌+◌, ◌*◌, Bool, true, false, List, [], ◌∷◌, ◌++◌, map, slice_get, Option, Some, None}
+-- A goto form of each statement: its blocks from a number on, every target computed from counts of
+-- blocks. Each fault has a block of its own.
+use Rattle.std.specs.Prelude.{
+  ℕ,
+  zero,
+  suc,
+  ◌+◌,
+  ◌*◌,
+  Bool,
+  true,
+  false,
+  List,
+  [],
+  ◌∷◌,
+  ◌++◌,
+  map,
+  slice_get,
+  Option,
+  Some,
+  None,
+}
 use Rattle.away_values.specs.declared.types.Ty.{Ty}
 use Rattle.away_values.specs.declared.types.Ty.TheVariants as ty
 use Rattle.away_values.specs.declared.values.Class.{Class}
@@ -20,12 +39,37 @@ use Rattle.block_forms.specs.declared.places.Numbers.{Numbers}
 use Rattle.block_forms.specs.Around.{Around, exit_to, again_to}
 use Rattle.block_forms.specs.declared.forms.Term.{Term}
 use Rattle.block_forms.specs.declared.forms.Block.{Block}
-use Rattle.block_forms.specs.Laid.{place, after, nothing, a_node, with_expr, one_if, decl_size, decls_size}
-use Rattle.block_forms.specs.Patterns.{source_term, null_of, is_null, not_positive, one, copy, in_range, leaves_range, moved, sets, branches, jumps, returns, fails}
+use Rattle.block_forms.specs.Laid.{
+  place,
+  after,
+  nothing,
+  a_node,
+  with_expr,
+  one_if,
+  decl_size,
+  decls_size,
+}
+use Rattle.block_forms.specs.Patterns.{
+  source_term,
+  null_of,
+  is_null,
+  not_positive,
+  one,
+  copy,
+  in_range,
+  leaves_range,
+  moved,
+  sets,
+  branches,
+  jumps,
+  returns,
+  fails,
+}
 use Rattle.block_forms.specs.Slots.{slot, slot_of}
 
--- How much there is; so many blocks; the first block, from the number at which they begin and the block that follows; the blocks, from their
--- place, what stands around them and these two; the first block of each node; the variables.
+-- How much there is; so many blocks; the first block, from the number at which they begin and the
+-- block that follows; the blocks, from their place, what stands around them and these two; the
+-- first block of each node; the variables.
 pub record Built : Type 0 where
   pub size : Position
   pub many : ℕ
@@ -65,7 +109,8 @@ abbrev pub row_vars : List Built → List Slot
 row_vars [] = []
 row_vars (x ∷ xs) = x.vars ++ row_vars xs
 
--- where a part begins that has so many blocks: at its first one, or where it has none at what follows
+-- where a part begins that has so many blocks: at its first one, or where it has none at what
+-- follows
 abbrev pub first_from : ℕ → ℕ → ℕ → ℕ
 first_from zero start next = next
 first_from (suc _) start next = start
@@ -322,7 +367,8 @@ module _ (n : Numbers) (slots : List Slot) (finish : ℕ) where
   built_step (st.Cases arms other) = branched arms other (Some case_not_found)
   built_step (st.Loop label k body _) = loop_built n label k body
   built_step (st.Exit label when) = simple (place 1 (one_if when) 0 0) (λ p around next. leave_block when p.expr (exit_to finish around label) next)
-  built_step (st.Continue label when) = simple (place 1 (one_if when) 0 0) (λ p around next. leave_block when p.expr (again_to finish around label) next)
+  built_step (st.Continue label when) = simple (place 1 (one_if when) 0 0)
+      (λ p around next. leave_block when p.expr (again_to finish around label) next)
   built_step (st.Return e) = simple with_expr (λ p around next. returns (source_term p.expr e))
   built_step (st.Raise r) = simple a_node (λ p around next. fails (class_of r))
   built_step (st.Into strict targets query) = unbuilt

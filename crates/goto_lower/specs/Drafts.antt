@@ -1,5 +1,19 @@
 -- What the parts of a function add to a form that is built.
-use Rattle.std.specs.Prelude.{ℕ, Bool, true, List, [], ◌∷◌, ◌++◌, length, map, Option, Some, None, ◌+◌}
+use Rattle.std.specs.Prelude.{
+  ℕ,
+  Bool,
+  true,
+  List,
+  [],
+  ◌∷◌,
+  ◌++◌,
+  length,
+  map,
+  Option,
+  Some,
+  None,
+  ◌+◌,
+}
 use Rattle.away_values.specs.declared.types.Ty.{Ty}
 use Rattle.away_trees.specs.declared.queries.Expr.{Expr}
 use Rattle.away_trees.specs.declared.statements.Arm.{Arm}
@@ -14,7 +28,27 @@ use Rattle.block_forms.specs.declared.forms.Block.{Block}
 use Rattle.block_forms.specs.Laid.{place, after, a_node, with_expr, decl_size, decls_size}
 use Rattle.goto_lower.specs.declared.draft.Draft.{Draft}
 use Rattle.goto_lower.specs.declared.setting.Setting.{Setting}
-use Rattle.goto_lower.specs.Building.{Built, BuiltArm, row_size, row_blocks, row_firsts, built_of, built_arm, arms_size, arms_blocks, arms_firsts, slot_blocks, decl_blocks, decls_many, decls_firsts, decls_blocks, for_blocks, count_size, first_from, arms_first}
+use Rattle.goto_lower.specs.Building.{
+  Built,
+  BuiltArm,
+  row_size,
+  row_blocks,
+  row_firsts,
+  built_of,
+  built_arm,
+  arms_size,
+  arms_blocks,
+  arms_firsts,
+  slot_blocks,
+  decl_blocks,
+  decls_many,
+  decls_firsts,
+  decls_blocks,
+  for_blocks,
+  count_size,
+  first_from,
+  arms_first,
+}
 use Rattle.block_forms.specs.Patterns.{source_term, jumps, branches}
 use Rattle.goto_lower.specs.Whole.{finish, Params, param_firsts, param_blocks}
 
@@ -87,7 +121,8 @@ count_begun n reverse e1 e2 by body next d =
 abbrev pub headed : Option Expr → ℕ → ℕ → Draft → Draft
 headed None inside next d = pushed (jumps true (first_from inside (length d.blocks + 1) (length d.blocks))) (begun a_node (length d.blocks) d)
 headed (Some e) inside next d =
-    pushed (branches true (source_term d.place.expr e) (first_from inside (length d.blocks + 1) (length d.blocks)) next) (begun with_expr (length d.blocks) d)
+    pushed (branches true (source_term d.place.expr e) (first_from inside (length d.blocks + 1)
+    (length d.blocks)) next) (begun with_expr (length d.blocks) d)
 
 -- the body of a loop
 abbrev pub inside : List Built → Label → Around → ℕ → ℕ → Draft → Draft

@@ -1,4 +1,5 @@
--- The goto form that is built for a function: its entry, the block behind the body, the tests of STRICT, and the body.
+-- The goto form that is built for a function: its entry, the block behind the body, the tests of
+-- STRICT, and the body.
 use Rattle.std.specs.Prelude.{ℕ, ◌+◌, Bool, true, false, List, [], ◌∷◌, ◌++◌}
 use Rattle.away_values.specs.declared.types.Ty.{Ty}
 use Rattle.away_trees.specs.declared.statements.Function.{Function}

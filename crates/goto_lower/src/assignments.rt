@@ -37,7 +37,9 @@ pub(crate) fn push_set(
     target: Target,
     next: u32,
 ) -> Result<(), NoMemory>
-    ensures { OnOk result (draft.new ≡ extended (spec.set_blocks numbers not_null target.ty target.slot target.term next (length draft.old.blocks)) draft.old) }
+    ensures { OnOk result (draft.new
+        ≡ extended (spec.set_blocks numbers not_null target.ty target.slot target.term next
+        (length draft.old.blocks)) draft.old) }
 {
     let Target { ty, slot, term } = target;
     if not_null {
@@ -62,7 +64,9 @@ pub(crate) fn push_slot(
     term: Term,
     next: u32,
 ) -> Result<(), NoMemory>
-    ensures { OnOk result (draft.new ≡ extended (spec.slot_blocks numbers (option_copied slot.entry) number term next (length draft.old.blocks)) draft.old) }
+    ensures { OnOk result (draft.new
+        ≡ extended (spec.slot_blocks numbers (option_copied slot.entry) number term next
+        (length draft.old.blocks)) draft.old) }
 {
     let (not_null, ty) = match slot {
         None => (false, Ty::Bigint),

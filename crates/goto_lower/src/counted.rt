@@ -47,7 +47,8 @@ fn push_bound(
     slot: u32,
     term: Term,
 ) -> Result<(), NoMemory>
-    ensures { OnOk result (draft.new ≡ extended (spec.bound_blocks numbers slot term (length draft.old.blocks)) draft.old) }
+    ensures { OnOk result (draft.new
+        ≡ extended (spec.bound_blocks numbers slot term (length draft.old.blocks)) draft.old) }
 {
     let next = sum(draft.here()?, 3)?;
     let target = Target {
@@ -68,7 +69,8 @@ fn push_step(
     slot: u32,
     head: u32,
 ) -> Result<(), NoMemory>
-    ensures { OnOk result (draft.new ≡ extended (spec.step_blocks numbers step.now k slot head (length draft.old.blocks)) draft.old) }
+    ensures { OnOk result (draft.new ≡ extended
+        (spec.step_blocks numbers step.now k slot head (length draft.old.blocks)) draft.old) }
 {
     match step {
         None => draft.push(sets(slot, one(alloc, numbers.fixed)?, head)),
@@ -94,7 +96,8 @@ fn push_turns(
     body: u32,
     next: u32,
 ) -> Result<(), NoMemory>
-    ensures { OnOk result (draft.new ≡ extended (spec.turn_blocks numbers reverse at body next (length draft.old.blocks)) draft.old) }
+    ensures { OnOk result (draft.new ≡ extended
+        (spec.turn_blocks numbers reverse at body next (length draft.old.blocks)) draft.old) }
 {
     let fixed = numbers.fixed;
     let head = draft.here()?;

@@ -52,7 +52,8 @@ fn push_params(
     f: &Function,
     body: u32,
 ) -> Result<(), NoMemory>
-    ensures { OnOk result (draft.new ≡ begun_params numbers f.now.strict f.now.result f.now.params body draft.old) }
+    ensures { OnOk result (draft.new
+        ≡ begun_params numbers f.now.strict f.now.result f.now.params body draft.old) }
 {
     for i in 0..f.params.len() {
         let k = draft.place.slot;

@@ -10,6 +10,7 @@ ghost use Rattle.goto_lower.specs.Whole.{built};
 
 /// The form that is built for a function with slots of its own is its goto form, and has at most sixteen blocks for each node and sixteen more.
 pub fn built_forms_are_lowered()
-    ensures lowered { (f : Function) (slots : List Slot) → OwnSlots f slots → Lowered f slots (built f slots) }
+    ensures lowered { (f : Function) (slots : List Slot) → OwnSlots f slots
+        → Lowered f slots (built f slots) }
     ensures few { (f : Function) (slots : List Slot) → length (built f slots).blocks ≤ weight f }
 {}

@@ -48,7 +48,8 @@ pub(crate) fn push_leave(
     to: u32,
     next: u32,
 ) -> Result<(), NoMemory>
-    ensures { OnOk result (draft.new ≡ pushed (spec.leave_block when.now draft.old.place.expr to next)
+    ensures { OnOk result (draft.new
+        ≡ pushed (spec.leave_block when.now draft.old.place.expr to next)
         (begun (laid.place 1 (laid.one_if when.now) 0 0) (length draft.old.blocks) draft.old)) }
 {
     let at = draft.place;
@@ -62,7 +63,8 @@ pub(crate) fn push_leave(
 
 #[tactic(auto, using(crate::proofs::DraftRules::draft_rules))]
 pub(crate) fn push_jump(draft: &mut Draft, size: Position, next: u32) -> Result<(), NoMemory>
-    ensures { OnOk result (draft.new ≡ pushed (patterns.jumps false next) (begun size (length draft.old.blocks) draft.old)) }
+    ensures { OnOk result (draft.new
+        ≡ pushed (patterns.jumps false next) (begun size (length draft.old.blocks) draft.old)) }
 {
     let start = draft.here()?;
     draft.begin(size, start)?;
@@ -71,7 +73,8 @@ pub(crate) fn push_jump(draft: &mut Draft, size: Position, next: u32) -> Result<
 
 #[tactic(auto, using(crate::proofs::DraftRules::draft_rules))]
 pub(crate) fn push_return(alloc: Global, draft: &mut Draft, e: &Expr) -> Result<(), NoMemory>
-    ensures { OnOk result (draft.new ≡ pushed (patterns.returns (patterns.source_term draft.old.place.expr e.now))
+    ensures { OnOk result (draft.new
+        ≡ pushed (patterns.returns (patterns.source_term draft.old.place.expr e.now))
         (begun with_expr (length draft.old.blocks) draft.old)) }
 {
     let at = draft.place;
@@ -82,7 +85,8 @@ pub(crate) fn push_return(alloc: Global, draft: &mut Draft, e: &Expr) -> Result<
 
 #[tactic(auto, using(crate::proofs::DraftRules::draft_rules))]
 pub(crate) fn push_raise(alloc: Global, draft: &mut Draft, raised: &Raised) -> Result<(), NoMemory>
-    ensures { OnOk result (draft.new ≡ pushed (patterns.fails (class_of raised.now)) (begun a_node (length draft.old.blocks) draft.old)) }
+    ensures { OnOk result (draft.new ≡ pushed (patterns.fails (class_of raised.now))
+        (begun a_node (length draft.old.blocks) draft.old)) }
 {
     let start = draft.here()?;
     draft.begin(place(1, 0, 0, 0), start)?;
@@ -98,7 +102,8 @@ pub(crate) fn push_assign(
     e: &Expr,
     next: u32,
 ) -> Result<(), NoMemory>
-    ensures { OnOk result (draft.new ≡ set_by setting.now.numbers (slice_get setting.now.slots.now slot) slot e.now next draft.old) }
+    ensures { OnOk result (draft.new ≡ set_by setting.now.numbers
+        (slice_get setting.now.slots.now slot) slot e.now next draft.old) }
 {
     let at = draft.place;
     let start = draft.here()?;
@@ -125,7 +130,8 @@ pub(crate) fn push_head(
     next: u32,
 ) -> Result<u32, NoMemory>
     ensures number { IfOk result (λ k. k ≡ length draft.old.blocks) }
-    ensures pushed { IfOk result (λ k. draft.new ≡ headed (option_copied test.entry) inside next draft.old) }
+    ensures pushed { IfOk result
+        (λ k. draft.new ≡ headed (option_copied test.entry) inside next draft.old) }
 {
     let at = draft.place;
     let start = draft.here()?;
@@ -152,7 +158,9 @@ pub(crate) fn push_test(
     first: u32,
     other: u32,
 ) -> Result<(), NoMemory>
-    ensures { OnOk result (draft.new ≡ pushed (patterns.branches false (patterns.source_term draft.old.place.expr test.now) first other)
+    ensures { OnOk result (draft.new
+        ≡ pushed (patterns.branches false
+        (patterns.source_term draft.old.place.expr test.now) first other)
         (begun with_expr (length draft.old.blocks) draft.old)) }
 {
     let at = draft.place;
@@ -171,7 +179,8 @@ pub(crate) fn push_start(
     inside: u32,
     next: u32,
 ) -> Result<(), NoMemory>
-    ensures { OnOk result (draft.new ≡ started setting.now.numbers decls.now inside next draft.old) }
+    ensures { OnOk result (draft.new
+        ≡ started setting.now.numbers decls.now inside next draft.old) }
 {
     let start = draft.here()?;
     let many = decls_many(decls)?;

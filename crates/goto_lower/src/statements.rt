@@ -58,7 +58,8 @@ pub(crate) fn push_statement(
     s: &Stmt,
     flow: &Flow<'_>,
 ) -> Result<(), NoMemory>
-    ensures { OnOk result (draft.new ≡ emitted (statement_in setting.now s.now) (frames_of flow.now.around.now) flow.now.next draft.old) }
+    ensures { OnOk result (draft.new ≡ emitted (statement_in setting.now s.now)
+        (frames_of flow.now.around.now) flow.now.next draft.old) }
 {
     match s {
         Stmt::Block {
@@ -138,7 +139,8 @@ fn push_row(
     body: &[Stmt],
     flow: &Flow<'_>,
 ) -> Result<(), NoMemory>
-    ensures { OnOk result (draft.new ≡ emitted_row (row_in setting.now body.now) (frames_of flow.now.around.now) flow.now.next draft.old) }
+    ensures { OnOk result (draft.new ≡ emitted_row (row_in setting.now body.now)
+        (frames_of flow.now.around.now) flow.now.next draft.old) }
 {
     let many = row_many(setting, body)?;
     let end = sum(draft.here()?, many)?;
@@ -166,7 +168,8 @@ fn push_arms(
     flow: &Flow<'_>,
     lack: u32,
 ) -> Result<(), NoMemory>
-    ensures { OnOk result (draft.new ≡ emitted_arms (arms_in setting.now arms.now) (frames_of flow.now.around.now) flow.now.next lack draft.old) }
+    ensures { OnOk result (draft.new ≡ emitted_arms (arms_in setting.now arms.now)
+        (frames_of flow.now.around.now) flow.now.next lack draft.old) }
 {
     for i in 0..arms.len() {
         let arm = &arms[i];
@@ -192,7 +195,8 @@ fn push_tests(
     flow: &Flow<'_>,
     lack: u32,
 ) -> Result<(), NoMemory>
-    ensures { OnOk result (draft.new ≡ tested (arms_in setting.now arms.now) (frames_of flow.now.around.now) flow.now.next lack draft.old) }
+    ensures { OnOk result (draft.new ≡ tested (arms_in setting.now arms.now)
+        (frames_of flow.now.around.now) flow.now.next lack draft.old) }
 {
     let first = first_of(arms.len(), draft.here()?, lack);
     draft.begin(place(1, 0, 0, 0), first)?;
@@ -210,7 +214,8 @@ fn push_other(
     flow: &Flow<'_>,
     first: u32,
 ) -> Result<(), NoMemory>
-    ensures { OnOk result (draft.new ≡ emitted_row (row_in setting.now body.now) (frames_of flow.now.around.now) flow.now.next (begun a_node first draft.old)) }
+    ensures { OnOk result (draft.new ≡ emitted_row (row_in setting.now body.now)
+        (frames_of flow.now.around.now) flow.now.next (begun a_node first draft.old)) }
 {
     draft.begin(place(1, 0, 0, 0), first)?;
     push_row(alloc, setting, draft, body, flow)
@@ -226,7 +231,8 @@ fn push_cases(
     arms: &[Arm],
     flow: &Flow<'_>,
 ) -> Result<(), NoMemory>
-    ensures { OnOk result (draft.new ≡ emitted (spec.branched (arms_in setting.now arms.now) None (Some case_not_found))
+    ensures { OnOk result (draft.new
+        ≡ emitted (spec.branched (arms_in setting.now arms.now) None (Some case_not_found))
         (frames_of flow.now.around.now) flow.now.next draft.old) }
 {
     let lack = sum(draft.here()?, arms_many(setting, arms)?)?;
@@ -246,7 +252,8 @@ fn push_inside(
     flow: &Flow<'_>,
     again: u32,
 ) -> Result<(), NoMemory>
-    ensures { OnOk result (draft.new ≡ inside (row_in setting.now body.now) label.now (frames_of flow.now.around.now) flow.now.next again draft.old) }
+    ensures { OnOk result (draft.new ≡ inside (row_in setting.now body.now) label.now
+        (frames_of flow.now.around.now) flow.now.next again draft.old) }
 {
     let around = Enclosing::Loop(label.as_ref(), flow.next, again, flow.around);
     let flow = Flow {
@@ -267,7 +274,8 @@ fn push_loop(
     body: &[Stmt],
     flow: &Flow<'_>,
 ) -> Result<(), NoMemory>
-    ensures { OnOk result (draft.new ≡ emitted (spec.loop_built setting.now.numbers label.now kind.now (row_in setting.now body.now))
+    ensures { OnOk result (draft.new ≡ emitted
+        (spec.loop_built setting.now.numbers label.now kind.now (row_in setting.now body.now))
         (frames_of flow.now.around.now) flow.now.next draft.old) }
 {
     let many = row_many(setting, body)?;

@@ -11,7 +11,8 @@ use away_values::{CmpOp, Value, compare};
 
 /// GREATEST or LEAST of a value so far and another.
 fn extreme<'a>(greatest: bool, a: Option<&'a Value>, b: &'a Value) -> Option<&'a Value>
-    ensures { or_null (option_copied result) ≡ op.extreme greatest (or_null (option_copied a.entry)) b.entry.now }
+    ensures { or_null (option_copied result)
+        ≡ op.extreme greatest (or_null (option_copied a.entry)) b.entry.now }
 {
     let Some(a) = a else {
         return Some(b);

@@ -10,17 +10,21 @@ ghost use Rattle.lateral_rows.specs.RowParts.{extended, flat, kept_by, offset, r
 
 /// A row of FROM keeps a row for each of its items. Laid out flat, an item extends the rows as `extend` does, by the groups that it has beside them.
 pub fn the_product_extends_rows()
-    ensures { (cx : Context) (item : FromMeaning) (frames : List Frame) → mapped (map flat) (meant.extend cx item frames)
-        ≡ mapped (λ (groups : List SqlRows). extended (map flat frames) (map rows_of groups)) (each (item cx) frames) }
+    ensures { (cx : Context) (item : FromMeaning) (frames : List Frame)
+        → mapped (map flat) (meant.extend cx item frames)
+        ≡ mapped (λ (groups : List SqlRows). extended (map flat frames) (map rows_of groups))
+        (each (item cx) frames) }
 {}
 
 /// The column at a place of an item stands behind the columns of the items before it.
 pub fn columns_keep_their_places()
-    ensures { (frame : Frame) (item place : ℕ) → place < length (slice_index_or frame item []) → at (flat frame)
+    ensures { (frame : Frame) (item place : ℕ) → place < length (slice_index_or frame item [])
+        → at (flat frame)
         (offset frame item + place) ≡ at (slice_index_or frame item []) place }
 {}
 
 /// WHERE keeps the rows as `keep` does, by its condition at each row.
 pub fn conditions_keep_rows()
-    ensures { (test : Frame → Or Value) (frames : List Frame) → meant.keep test frames ≡ mapped (kept_by frames) (each test frames) }
+    ensures { (test : Frame → Or Value) (frames : List Frame)
+        → meant.keep test frames ≡ mapped (kept_by frames) (each test frames) }
 {}

@@ -96,7 +96,8 @@ fn pairs<'a>(
 }
 
 fn sort_keyed(rows: &mut Vec<(Lent<'_>, Lent<'_>)>, descending: &[bool]) -> Result<(), AllocError>
-    ensures { OnOk result (rows.new.items ≡ sorted (λ a b. is_lt (keys_cmp descending.now a b)) rows.old.items) }
+    ensures { OnOk result (rows.new.items
+        ≡ sorted (λ a b. is_lt (keys_cmp descending.now a b)) rows.old.items) }
 {
     rows.sort_by(|a, b| compare_keys(descending, a.0.values(), b.0.values()))
 }
@@ -130,7 +131,8 @@ fn rest(values: &[Value]) -> &[Value]
 }
 
 fn compare_directed(falls: bool, a: Option<&Value>, b: Option<&Value>) -> Ordering
-    ensures { result ≡ directed falls (or_null (option_copied a.entry)) (or_null (option_copied b.entry)) }
+    ensures { result ≡ directed falls (or_null (option_copied a.entry))
+        (or_null (option_copied b.entry)) }
 {
     if falls {
         compare_held(b, a)

@@ -11,7 +11,8 @@ use away_values::{OpError, Value, sqlstate};
 
 /// The sum of the integers of a column, NULL over none. Its range is tested once, at the end.
 pub(crate) fn sum(column: &[Value]) -> Result<Value, OpError>
-    ensures { Answers (in_range (if has_int column.now then val.Int (whole_sum column.now) else val.Null)) result }
+    ensures { Answers (in_range
+        (if has_int column.now then val.Int (whole_sum column.now) else val.Null)) result }
 {
     if !any_int(column) {
         return Ok(Value::Null);

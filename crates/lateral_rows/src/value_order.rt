@@ -13,7 +13,8 @@ use std::cmp::Ordering;
 
 /// The order of two values, NULL where one is missing.
 pub(crate) fn compare_held(a: Option<&Value>, b: Option<&Value>) -> Ordering
-    ensures { result ≡ value_cmp (or_null (option_copied a.entry)) (or_null (option_copied b.entry)) }
+    ensures { result ≡ value_cmp (or_null (option_copied a.entry))
+        (or_null (option_copied b.entry)) }
 {
     let null = Value::Null;
     let a = match a {

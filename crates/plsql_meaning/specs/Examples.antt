@@ -1,5 +1,19 @@
 -- Small functions, written out, whose answers the checker computes.
-use Rattle.std.specs.Prelude.{ℕ, Bool, true, false, pos, negsuc, List, [], ◌∷◌, Option, Some, None, codes}
+use Rattle.std.specs.Prelude.{
+  ℕ,
+  Bool,
+  true,
+  false,
+  pos,
+  negsuc,
+  List,
+  [],
+  ◌∷◌,
+  Option,
+  Some,
+  None,
+  codes,
+}
 use Rattle.away_values.specs.declared.types.Ty.TheVariants as ty
 use Rattle.away_values.specs.declared.values.Value.{Value}
 use Rattle.away_values.specs.declared.values.Value.TheVariants as val
@@ -75,7 +89,8 @@ max = n 9223372036854775807
 abbrev pub min : Expr
 min = expr.Int (negsuc 9223372036854775807)
 
--- DECLARE c := 0; BEGIN <<a>> LOOP LOOP c := c + 1; EXIT a WHEN c > 3; CONTINUE a WHEN c > 1; END LOOP; END LOOP; RETURN c; END
+-- DECLARE c := 0; BEGIN <<a>> LOOP LOOP c := c + 1; EXIT a WHEN c > 3; CONTINUE a WHEN c > 1; END
+-- LOOP; END LOOP; RETURN c; END
 abbrev pub a_label : Option (List ℕ)
 a_label = Some (codes "a")
 
@@ -96,7 +111,8 @@ leaving = block [] (stmt.Block a_label [] (stmt.Exit a_label None ∷ stmt.Retur
 abbrev pub unmatched : Stmt
 unmatched = block [] (stmt.Cases (record { test = expr.Bool false; body = stmt.Nothing ∷ [] } ∷ []) None ∷ [])
 
--- IF false THEN (a block of two declarations) ELSE NULL END IF; then a declaration of its own, whose slot is the fifth
+-- IF false THEN (a block of two declarations) ELSE NULL END IF; then a declaration of its own,
+-- whose slot is the fifth
 abbrev pub skipping : Stmt
 skipping = block (var (Some (n 5)) ∷ []) (
     stmt.If (record { test = expr.Bool false; body = block (var None ∷ var None ∷ []) [] ∷ [] } ∷ []) (Some (block (var (Some (n 1)) ∷ []) [] ∷ []))
@@ -158,11 +174,13 @@ assigning_its_variable = with_counter (
     for false (n 1) (n 3) None (set_slot 1 (arith op.Mul (slot 1) (n 10)) ∷ add_to 0 (slot 1) ∷ [])
     ∷ stmt.Return (slot 0) ∷ [])
 
--- FOR i IN 1..c LOOP c := c + 5; END LOOP, c being 2 before: the bounds are those at the loop's beginning
+-- FOR i IN 1..c LOOP c := c + 5; END LOOP, c being 2 before: the bounds are those at the loop's
+-- beginning
 abbrev pub moving_its_bound : Stmt
 moving_its_bound = block (var (Some (n 2)) ∷ []) (for false (n 1) (slot 0) None (add_to 0 (n 5) ∷ []) ∷ stmt.Return (slot 0) ∷ [])
 
--- FOR i IN 1..3 LOOP DECLARE x := c; y := x + 1; BEGIN c := y; END; END LOOP; RETURN c: defaults are evaluated at each entry, and see those before them
+-- FOR i IN 1..3 LOOP DECLARE x := c; y := x + 1; BEGIN c := y; END; END LOOP; RETURN c: defaults
+-- are evaluated at each entry, and see those before them
 abbrev pub entering_again : Stmt
 entering_again = with_counter (
     for false (n 1) (n 3) None (block (var (Some (slot 0)) ∷ var (Some (plus (slot 2) (n 1))) ∷ []) (set_slot 0 (slot 3) ∷ []) ∷ [])
@@ -172,7 +190,8 @@ entering_again = with_counter (
 abbrev pub leaving_when : Expr → Stmt
 leaving_when test = block [] (stmt.Loop None kind.Plain (stmt.Exit None (Some test) ∷ stmt.Return (n 1) ∷ []) None ∷ stmt.Return (n 2) ∷ [])
 
--- LOOP BEGIN EXIT; END; RETURN 1; END LOOP; RETURN 2: EXIT without a label means the loop, not the block
+-- LOOP BEGIN EXIT; END; RETURN 1; END LOOP; RETURN 2: EXIT without a label means the loop, not the
+-- block
 abbrev pub leaving_the_loop : Stmt
 leaving_the_loop = block [] (stmt.Loop None kind.Plain (block [] (stmt.Exit None None ∷ []) ∷ stmt.Return (n 1) ∷ []) None ∷ stmt.Return (n 2) ∷ [])
 

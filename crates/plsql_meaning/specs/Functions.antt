@@ -10,7 +10,17 @@ use Rattle.away_values.specs.Operators.{is_null}
 use Rattle.sql_meaning.specs.Context.{Rows}
 use Rattle.sql_meaning.specs.OneReturn.{body}
 use Rattle.sql_meaning.specs.Meaning.{value, rows_of_select}
-use Rattle.plsql_meaning.specs.Outcomes.{Env, Outcome, normal, exits, continues, returns, faults, more, no_return}
+use Rattle.plsql_meaning.specs.Outcomes.{
+  Env,
+  Outcome,
+  normal,
+  exits,
+  continues,
+  returns,
+  faults,
+  more,
+  no_return,
+}
 use Rattle.plsql_meaning.specs.Statements.{Setting, meaning}
 
 abbrev pub answer_of : Outcome → Answer

@@ -1,5 +1,21 @@
 -- What the laws of this crate say.
-use Rattle.std.specs.Prelude.{◌≡◌, ◌≢◌, ◌≤◌, ℕ, ℤ, pos, ◌+ℤ◌, ◌-ℤ◌, ◌<ℤ◌, Bool, true, false, nat_lt, List, length}
+use Rattle.std.specs.Prelude.{
+  ◌≡◌,
+  ◌≢◌,
+  ◌≤◌,
+  ℕ,
+  ℤ,
+  pos,
+  ◌+ℤ◌,
+  ◌-ℤ◌,
+  ◌<ℤ◌,
+  Bool,
+  true,
+  false,
+  nat_lt,
+  List,
+  length,
+}
 use Rattle.away_values.specs.declared.values.Answer.TheVariants as answer
 use Rattle.away_values.specs.declared.values.Value.{Value}
 use Rattle.away_values.specs.declared.values.Value.TheVariants as val
@@ -21,7 +37,15 @@ use Rattle.plsql_meaning.specs.Equivalent.{answers, Equivalent, IsOneReturn, typ
 use Rattle.plsql_meaning.specs.Functions.{answer_of, begun, function_answer, over}
 use Rattle.plsql_meaning.specs.Loops.{counts}
 use Rattle.plsql_meaning.specs.Outcomes.{Env}
-use Rattle.plsql_meaning.specs.Sight.{Agree, Alike, AreReaders, of_expressions, Readers, reads_in_sight, Sight}
+use Rattle.plsql_meaning.specs.Sight.{
+  Agree,
+  Alike,
+  AreReaders,
+  of_expressions,
+  Readers,
+  reads_in_sight,
+  Sight,
+}
 use Rattle.plsql_meaning.specs.Statements.{meaning, Setting}
 
 -- ---- bounds
@@ -90,7 +114,8 @@ abbrev pub BodiesSee : Type 0
 BodiesSee =
     (set : Setting) (r : Readers) → AreReaders set r → (f : Function) (args : List Value) (env : Env) (n : ℕ)
     → reads_in_sight r f.body (length f.params) (parameters_of f) ≡ true → Agree (parameters_of f) (begun set f args) env
-    → answer_of ((meaning set f.body).run (length f.params) env n).outcome ≡ answer_of ((meaning set f.body).run (length f.params) (begun set f args) n).outcome
+    → answer_of ((meaning set f.body).run (length f.params) env n).outcome
+    ≡ answer_of ((meaning set f.body).run (length f.params) (begun set f args) n).outcome
 
 abbrev pub ExpressionsSee : Type 0
 ExpressionsSee = (T : List Rows) (not_null : List Bool) → AreReaders (over T not_null) (of_expressions (length T))

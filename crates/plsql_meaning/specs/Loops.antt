@@ -1,15 +1,47 @@
 -- Loops: what is done before a turn and after it, and the turns themselves.
-use Rattle.std.specs.Prelude.{ℕ, zero, suc, Bool, true, false, if◌then◌else◌, pos, negsuc, ◌-◌, ◌^◌, Option, Some, None, Ok, Err, slice_set}
+use Rattle.std.specs.Prelude.{
+  ℕ,
+  zero,
+  suc,
+  Bool,
+  true,
+  false,
+  if◌then◌else◌,
+  pos,
+  negsuc,
+  ◌-◌,
+  ◌^◌,
+  Option,
+  Some,
+  None,
+  Ok,
+  Err,
+  slice_set,
+}
 use Rattle.away_values.specs.declared.values.Value.{Value}
 use Rattle.away_values.specs.declared.values.Value.TheVariants as val
 use Rattle.away_values.specs.declared.operators.CmpOp.TheVariants as cmp
 use Rattle.away_values.specs.declared.operators.IntOp.TheVariants as int
 use Rattle.away_values.specs.Operators.{int_op, compare, is_true}
 use Rattle.away_values.specs.Results.{Or, mapped}
-use Rattle.plsql_meaning.specs.Outcomes.{Env, Label, Outcome, normal, exits, continues, returns, faults, more, Done, done, Step, names_loop}
+use Rattle.plsql_meaning.specs.Outcomes.{
+  Env,
+  Label,
+  Outcome,
+  normal,
+  exits,
+  continues,
+  returns,
+  faults,
+  more,
+  Done,
+  done,
+  Step,
+  names_loop,
+}
 
--- A loop over hidden states: `begin` gives a fault, the end of the loop, or the variables with which a turn begins; `next` gives a fault, the
--- end, or the state of the next turn.
+-- A loop over hidden states: `begin` gives a fault, the end of the loop, or the variables with
+-- which a turn begins; `next` gives a fault, the end, or the state of the next turn.
 pub record Turning (S : Type 0) : Type 0 where
   pub begin : S → Env → Or (Option Env)
   pub next : S → Or (Option S)
@@ -71,8 +103,8 @@ always = record { begin = λ s env. Ok (Some env); next = λ s. Ok (Some s) }
 abbrev pub while : (Env → Or Value) → Turning (Unit {0})
 while test = record { begin = λ s env. mapped (λ v. going (is_true v) env) (test env); next = λ s. Ok (Some s) }
 
--- ---- FOR (PostgreSQL manual, PL/pgSQL: FOR (Integer Variant)): its counter, its last value and its step are values apart from the variable, under the
--- operators of SQL
+-- ---- FOR (PostgreSQL manual, PL/pgSQL: FOR (Integer Variant)): its counter, its last value and
+-- its step are values apart from the variable, under the operators of SQL
 
 abbrev pub greatest : Value
 greatest = val.Int (pos (2 ^ 63 - 1))

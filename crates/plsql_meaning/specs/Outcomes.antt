@@ -1,5 +1,17 @@
 -- How a statement ends, and what it is to go on behind one.
-use Rattle.std.specs.Prelude.{ℕ, Bool, true, false, if◌then◌else◌, List, Option, Some, None, bytes_eq, codes}
+use Rattle.std.specs.Prelude.{
+  ℕ,
+  Bool,
+  true,
+  false,
+  if◌then◌else◌,
+  List,
+  Option,
+  Some,
+  None,
+  bytes_eq,
+  codes,
+}
 use Rattle.away_values.specs.declared.values.Value.{Value}
 use Rattle.away_values.specs.declared.values.Class.{Class}
 use Rattle.away_values.specs.Results.{class}

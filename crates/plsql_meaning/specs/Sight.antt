@@ -1,5 +1,24 @@
 -- The slots in sight where a statement stands, and that only these matter.
-use Rattle.std.specs.Prelude.{◌≡◌, ℕ, zero, suc, ◌+◌, Bool, true, false, ◌&&◌, ◌||◌, ◌==◌, List, [], ◌∷◌, length, Option, Some, None}
+use Rattle.std.specs.Prelude.{
+  ◌≡◌,
+  ℕ,
+  zero,
+  suc,
+  ◌+◌,
+  Bool,
+  true,
+  false,
+  ◌&&◌,
+  ◌||◌,
+  ◌==◌,
+  List,
+  [],
+  ◌∷◌,
+  length,
+  Option,
+  Some,
+  None,
+}
 use Rattle.away_trees.specs.declared.queries.Expr.{Expr}
 use Rattle.away_trees.specs.declared.queries.Select.{Select}
 use Rattle.away_trees.specs.declared.statements.Decl.{Decl}
@@ -31,7 +50,8 @@ pub record Readers : Type 0 where
   pub expr : Sight → Expr → Bool
   pub select : Sight → Select → Bool
 
--- how many slots a statement takes, and whether it reads slots in sight alone, from its first slot on
+-- how many slots a statement takes, and whether it reads slots in sight alone, from its first slot
+-- on
 pub record StatementSight : Type 0 where
   pub vars : ℕ
   pub sees : ℕ → Sight → Bool
@@ -103,11 +123,13 @@ module _ (r : Readers) where
   abbrev pub seeing : StatementAlgebra
   seeing = record { AStmt = StatementSight; AnArm = StatementSight; stmt = statement_sight; arm = arm_sight }
 
-  -- a statement whose first slot is `at` reads slots in sight alone: those around it, the declarations before in its blocks, the variables of its FORs
+  -- a statement whose first slot is `at` reads slots in sight alone: those around it, the
+  -- declarations before in its blocks, the variables of its FORs
   abbrev pub reads_in_sight : Stmt → ℕ → Sight → Bool
   reads_in_sight s = (stmt_of seeing s).sees
 
--- Over so many tables an expression reads slots in sight, these tables and no parameter of a query. SELECT INTO isn't spoken of.
+-- Over so many tables an expression reads slots in sight, these tables and no parameter of a query.
+-- SELECT INTO isn't spoken of.
 abbrev pub of_expressions : ℕ → Readers
 of_expressions tables = record { expr = λ sight e. fits sight 0 tables e; select = λ sight s. false }
 
@@ -118,7 +140,8 @@ pub record Agree (sight : Sight) (env other : Env) : Type 0 where
   pub long : length env ≡ length other
   pub values : (i : ℕ) → sight i ≡ true → at env i ≡ at other i
 
--- the value of an expression that reads slots in sight alone is by these alone; so are the rows of such a select
+-- the value of an expression that reads slots in sight alone is by these alone; so are the rows of
+-- such a select
 pub record AreReaders (set : Setting) (r : Readers) : Type 0 where
   pub value : (sight : Sight) (e : Expr) → r.expr sight e ≡ true → (env other : Env) → Agree sight env other → set.value e env ≡ set.value e other
   pub rows : (sight : Sight) (s : Select) → r.select sight s ≡ true → (env other : Env) → Agree sight env other → set.rows s env ≡ set.rows s other

@@ -1,5 +1,27 @@
 -- What a statement does, by what its parts do.
-use Rattle.std.specs.Prelude.{ℕ, suc, ◌+◌, Bool, true, false, ◌&&◌, if◌then◌else◌, pos, List, [], ◌∷◌, length, map, get_or, slice_set, Option, Some, None, Ok, Err}
+use Rattle.std.specs.Prelude.{
+  ℕ,
+  suc,
+  ◌+◌,
+  Bool,
+  true,
+  false,
+  ◌&&◌,
+  if◌then◌else◌,
+  pos,
+  List,
+  [],
+  ◌∷◌,
+  length,
+  map,
+  get_or,
+  slice_set,
+  Option,
+  Some,
+  None,
+  Ok,
+  Err,
+}
 use Rattle.away_values.specs.declared.values.Value.{Value}
 use Rattle.away_values.specs.declared.values.Value.TheVariants as val
 use Rattle.away_values.specs.declared.values.Class.{Class}
@@ -19,10 +41,30 @@ use Rattle.away_values.specs.Operators.{compare, is_true, is_null}
 use Rattle.away_values.specs.Results.{Or, class}
 use Rattle.sql_meaning.specs.Context.{Rows}
 use Rattle.away_values.specs.Classes.{is_class}
-use Rattle.plsql_meaning.specs.Outcomes.{Env, Label, Outcome, normal, exits, continues, returns, faults, done, Step, and_then, close, null_not_allowed, invalid_parameter, case_not_found, raised_message, no_data_found, too_many_rows}
+use Rattle.plsql_meaning.specs.Outcomes.{
+  Env,
+  Label,
+  Outcome,
+  normal,
+  exits,
+  continues,
+  returns,
+  faults,
+  done,
+  Step,
+  and_then,
+  close,
+  null_not_allowed,
+  invalid_parameter,
+  case_not_found,
+  raised_message,
+  no_data_found,
+  too_many_rows,
+}
 use Rattle.plsql_meaning.specs.Loops.{turning, always, while, counts}
 
--- What a statement stands in: the values of expressions, the rows of selects, and whether each slot is NOT NULL.
+-- What a statement stands in: the values of expressions, the rows of selects, and whether each slot
+-- is NOT NULL.
 pub record Setting : Type 0 where
   pub value : Expr → Env → Or Value
   pub rows : Select → Env → Or Rows
@@ -178,7 +220,11 @@ module _ (set : Setting) where
 
   abbrev pub statement : Stmt-F StatementMeaning ArmMeaning → StatementMeaning
   statement (st.Block label decls body _) =
-      record { vars = length decls + row_vars body; run = λ at env n. close label (and_then (declare decls at env n) (in_row body (at + length decls))) }
+      record {
+        vars = length decls + row_vars body;
+        run = λ at env n. close label
+            (and_then (declare decls at env n) (in_row body (at + length decls)));
+      }
   statement (st.Assign _ slot e) = record { vars = 0; run = λ at env n. assign slot (set.value e env) env n }
   statement (st.If arms other) = record { vars = arms_vars arms + else_vars other; run = in_arms arms (in_else other normal) }
   statement (st.Cases arms other) = record { vars = arms_vars arms + else_vars other; run = in_arms arms (in_else other (faults case_not_found)) }

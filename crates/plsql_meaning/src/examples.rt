@@ -57,17 +57,25 @@ pub fn for_has_its_own_counter()
     ensures fewer { answer_at (summing false (n 1) (n 4) None) 3 ≡ answer.More }
     ensures down { answer_at (summing true (n 4) (n 1) (Some (n 2))) 2 ≡ answer.Value (int 6) }
     ensures none { answer_at (summing false (n 4) (n 1) None) 0 ≡ answer.Value (int 0) }
-    ensures at_the_end { answer_at (counting false (n 9223372036854775806) max) 2 ≡ answer.Value (int 2) }
-    ensures at_the_least { answer_at (counting true (expr.Int (negsuc 9223372036854775806)) min) 2 ≡ answer.Value (int 2) }
-    ensures by_the_greatest { answer_at (summing false (n 5) (n 9) (Some max)) 1 ≡ answer.Value (int 5) }
+    ensures at_the_end { answer_at (counting false (n 9223372036854775806) max) 2
+        ≡ answer.Value (int 2) }
+    ensures at_the_least { answer_at (counting true (expr.Int (negsuc 9223372036854775806)) min) 2
+        ≡ answer.Value (int 2) }
+    ensures by_the_greatest { answer_at (summing false (n 5) (n 9) (Some max)) 1
+        ≡ answer.Value (int 5) }
     ensures assigned { answer_at assigning_its_variable 3 ≡ answer.Value (int 60) }
     ensures continued { answer_at odd_numbers 9 ≡ answer.Value (int 25) }
     ensures bound { answer_at moving_its_bound 2 ≡ answer.Value (int 12) }
-    ensures null_first { answer_at (summing false expr.Null by_zero None) 0 ≡ answer.Fault (class (codes "22004")) }
-    ensures null_last { answer_at (summing false (n 1) expr.Null (Some by_zero)) 0 ≡ answer.Fault (class (codes "22004")) }
-    ensures null_step { answer_at (summing false (n 4) (n 1) (Some expr.Null)) 0 ≡ answer.Fault (class (codes "22004")) }
-    ensures zero_step { answer_at (summing false (n 4) (n 1) (Some (n 0))) 0 ≡ answer.Fault (class (codes "22023")) }
-    ensures fault_first { answer_at (summing false by_zero expr.Null None) 0 ≡ answer.Fault (class (codes "22012")) }
+    ensures null_first { answer_at (summing false expr.Null by_zero None) 0
+        ≡ answer.Fault (class (codes "22004")) }
+    ensures null_last { answer_at (summing false (n 1) expr.Null (Some by_zero)) 0
+        ≡ answer.Fault (class (codes "22004")) }
+    ensures null_step { answer_at (summing false (n 4) (n 1) (Some expr.Null)) 0
+        ≡ answer.Fault (class (codes "22004")) }
+    ensures zero_step { answer_at (summing false (n 4) (n 1) (Some (n 0))) 0
+        ≡ answer.Fault (class (codes "22023")) }
+    ensures fault_first { answer_at (summing false by_zero expr.Null None) 0
+        ≡ answer.Fault (class (codes "22012")) }
 {}
 
 /// IF, CASE, EXIT and CONTINUE take a condition only where it is true; a CASE without a match and without ELSE raises 20000.
@@ -76,7 +84,8 @@ pub fn a_condition_is_taken_where_it_is_true()
     ensures first { answer_at (deciding (expr.Bool true) by_zero) 0 ≡ answer.Value (int 1) }
     ensures second { answer_at (deciding expr.Null (expr.Bool true)) 0 ≡ answer.Value (int 2) }
     ensures otherwise { answer_at (deciding expr.Null (expr.Bool false)) 0 ≡ answer.Value (int 3) }
-    ensures fault { answer_at (deciding (expr.Bool false) by_zero) 0 ≡ answer.Fault (class (codes "22012")) }
+    ensures fault { answer_at (deciding (expr.Bool false) by_zero) 0
+        ≡ answer.Fault (class (codes "22012")) }
     ensures no_else { answer_at going_on 0 ≡ answer.Value (int 2) }
     ensures case { answer_at (choosing (expr.Bool true)) 0 ≡ answer.Value (int 1) }
     ensures case_null { answer_at (choosing expr.Null) 0 ≡ answer.Value (int 2) }
@@ -92,11 +101,15 @@ pub fn blocks_have_their_variables()
     ensures leaves_the_loop { answer_at leaving_the_loop 1 ≡ answer.Value (int 2) }
     ensures slots { answer_at skipping 0 ≡ answer.Value (int 8) }
     ensures again { answer_at entering_again 3 ≡ answer.Value (int 3) }
-    ensures not_null { called strict_slot (false ∷ true ∷ []) [] (int 1) 0 ≡ answer.Fault (class (codes "22004")) }
+    ensures not_null { called strict_slot (false ∷ true ∷ []) [] (int 1) 0
+        ≡ answer.Fault (class (codes "22004")) }
     ensures nullable { called strict_slot [] [] (int 1) 0 ≡ answer.Value (int 1) }
-    ensures null_default { called (starting_as expr.Null) (false ∷ true ∷ []) [] (int 1) 0 ≡ answer.Fault (class (codes "22004")) }
-    ensures value_first { called (starting_as by_zero) (false ∷ true ∷ []) [] (int 1) 0 ≡ answer.Fault (class (codes "22012")) }
-    ensures default { called (starting_as (n 5)) (false ∷ true ∷ []) [] (int 1) 0 ≡ answer.Value (int 1) }
+    ensures null_default { called (starting_as expr.Null) (false ∷ true ∷ []) [] (int 1) 0
+        ≡ answer.Fault (class (codes "22004")) }
+    ensures value_first { called (starting_as by_zero) (false ∷ true ∷ []) [] (int 1) 0
+        ≡ answer.Fault (class (codes "22012")) }
+    ensures default { called (starting_as (n 5)) (false ∷ true ∷ []) [] (int 1) 0
+        ≡ answer.Value (int 1) }
 {}
 
 /// A function that falls off its end raises 2F005, RAISE raises P0001 or the class that is written, and a STRICT function doesn't run where an
@@ -112,11 +125,17 @@ pub fn a_function_ends_as_its_body_does()
 /// SELECT INTO sets its targets from the first row, from left to right, or to NULL where there is none. With STRICT there is exactly one row.
 /// The manual: 43.5.3. P0002 is no_data_found, and P0003 too_many_rows.
 pub fn select_into_sets_its_targets()
-    ensures selected { called (selecting true) [] ((int 7 ∷ []) ∷ []) (int 1) 0 ≡ answer.Value (int 7) }
+    ensures selected { called (selecting true) [] ((int 7 ∷ []) ∷ []) (int 1) 0
+        ≡ answer.Value (int 7) }
     ensures no_row { called (selecting false) [] [] (int 1) 0 ≡ answer.Value val.Null }
-    ensures no_row_strict { called (selecting true) [] [] (int 1) 0 ≡ answer.Fault (class (codes "P0002")) }
-    ensures two_rows { called (selecting true) [] ((int 7 ∷ []) ∷ (int 8 ∷ []) ∷ []) (int 1) 0 ≡ answer.Fault (class (codes "P0003")) }
-    ensures first_of_two { called (selecting false) [] ((int 7 ∷ []) ∷ (int 8 ∷ []) ∷ []) (int 1) 0 ≡ answer.Value (int 7) }
-    ensures in_order { called selecting_two [] ((int 4 ∷ int 2 ∷ []) ∷ []) (int 1) 0 ≡ answer.Value (int 42) }
-    ensures not_null { called selecting_two (false ∷ true ∷ []) ((int 4 ∷ val.Null ∷ []) ∷ []) (int 1) 0 ≡ answer.Fault (class (codes "22004")) }
+    ensures no_row_strict { called (selecting true) [] [] (int 1) 0
+        ≡ answer.Fault (class (codes "P0002")) }
+    ensures two_rows { called (selecting true) [] ((int 7 ∷ []) ∷ (int 8 ∷ []) ∷ []) (int 1) 0
+        ≡ answer.Fault (class (codes "P0003")) }
+    ensures first_of_two { called (selecting false) [] ((int 7 ∷ []) ∷ (int 8 ∷ []) ∷ []) (int 1) 0
+        ≡ answer.Value (int 7) }
+    ensures in_order { called selecting_two [] ((int 4 ∷ int 2 ∷ []) ∷ []) (int 1) 0
+        ≡ answer.Value (int 42) }
+    ensures not_null { called selecting_two (false ∷ true ∷ []) ((int 4 ∷ val.Null ∷ []) ∷ [])
+        (int 1) 0 ≡ answer.Fault (class (codes "22004")) }
 {}

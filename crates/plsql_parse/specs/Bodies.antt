@@ -12,10 +12,38 @@ use Rattle.away_trees.specs.declared.statements.Raised.TheVariants as r
 use Rattle.away_trees.specs.declared.statements.Stmt.{Stmt}
 use Rattle.away_trees.specs.declared.statements.Stmt.TheVariants as s
 use Rattle.away_grammar.specs.Terminals.{Terminal, mark, name}
-use Rattle.away_grammar.specs.FunctionGrammar.{decl, decls, default, statement, statements, branch, elsifs, whens, otherwise}
-use Rattle.away_grammar.specs.FunctionGrammar.{condition, block, repeated, kind, step, body, opens_loop}
+use Rattle.away_grammar.specs.FunctionGrammar.{
+  decl,
+  decls,
+  default,
+  statement,
+  statements,
+  branch,
+  elsifs,
+  whens,
+  otherwise,
+}
+use Rattle.away_grammar.specs.FunctionGrammar.{
+  condition,
+  block,
+  repeated,
+  kind,
+  step,
+  body,
+  opens_loop,
+}
 use Rattle.sql_text.specs.Plans.{done, fail, take, eat, look, read, want, expect}
-use Rattle.plsql_parse.specs.Sorts.{part, PartPlan, expression, a_name, a_type, maybe_name, eat_word, string_in, is_name}
+use Rattle.plsql_parse.specs.Sorts.{
+  part,
+  PartPlan,
+  expression,
+  a_name,
+  a_type,
+  maybe_name,
+  eat_word,
+  string_in,
+  is_name,
+}
 
 -- ---- what stands next
 

@@ -43,7 +43,8 @@ FileRead outer inner (Err NoMemory) = Unit {0}
 -- why no token lists are read from bytes
 abbrev pub RefusesLists : List ℕ → ReadRefusal → Type 0
 RefusesLists bytes refusal.NotText = ¬ (IsText bytes)
-RefusesLists bytes (refusal.Token offset) = IsText bytes × ((outer : List Lexeme) × ((inner : List Lexeme) × LexesFile bytes outer inner (Some offset)))
+RefusesLists bytes (refusal.Token offset) = IsText bytes
+    × ((outer : List Lexeme) × ((inner : List Lexeme) × LexesFile bytes outer inner (Some offset)))
 RefusesLists bytes (refusal.Limit which found) =
     (which ≡ limit.Nesting) × ((outer : List Lexeme) × ((inner : List Lexeme) × HasLists bytes outer inner found)) × (most_nesting < found)
 RefusesLists bytes refusal.NoMemory = Unit {0}

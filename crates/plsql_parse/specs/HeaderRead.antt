@@ -3,7 +3,16 @@ use Rattle.std.specs.Prelude.{◌≡◌, ℕ, Bool, true, false, List, Result, O
 use Rattle.away_grammar.specs.declared.grammar.Attribute.{Attribute}
 use Rattle.away_trees.specs.declared.statements.Function.{Function}
 use Rattle.away_trees.specs.declared.statements.Stmt.{Stmt}
-use Rattle.away_grammar.specs.FunctionGrammar.{function, is_language, is_body, is_volatility, is_null_input, is_leakproof, is_parallel, is_cost}
+use Rattle.away_grammar.specs.FunctionGrammar.{
+  function,
+  is_language,
+  is_body,
+  is_volatility,
+  is_null_input,
+  is_leakproof,
+  is_parallel,
+  is_cost,
+}
 use Rattle.away_grammar.specs.Terminals.{Terminal}
 use Rattle.sql_text.specs.Plans.{Gives, tail}
 use Rattle.sql_text.specs.declared.refusal.Refusal.{Refusal}

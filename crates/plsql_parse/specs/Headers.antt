@@ -1,5 +1,19 @@
 -- How the reader of what stands around a function's body descends.
-use Rattle.std.specs.Prelude.{ℕ, Bool, true, false, if◌then◌else◌, List, [], ◌∷◌, Option, Some, None, codes, bytes_eq}
+use Rattle.std.specs.Prelude.{
+  ℕ,
+  Bool,
+  true,
+  false,
+  if◌then◌else◌,
+  List,
+  [],
+  ◌∷◌,
+  Option,
+  Some,
+  None,
+  codes,
+  bytes_eq,
+}
 use Rattle.std.specs.List.{list_any}
 use Rattle.away_grammar.specs.declared.grammar.Mark.{Mark}
 use Rattle.away_grammar.specs.declared.grammar.Mark.TheVariants as m
@@ -9,9 +23,31 @@ use Rattle.away_values.specs.declared.types.Ty.{Ty}
 use Rattle.away_trees.specs.declared.statements.Stmt.{Stmt}
 use Rattle.away_trees.specs.declared.statements.Function.{Function}
 use Rattle.away_grammar.specs.Terminals.{Terminal, mark, name}
-use Rattle.away_grammar.specs.FunctionGrammar.{parameter, parameters, signature, attribute_of, attributes, function, may_stand, makes_strict, one_word, may_run}
+use Rattle.away_grammar.specs.FunctionGrammar.{
+  parameter,
+  parameters,
+  signature,
+  attribute_of,
+  attributes,
+  function,
+  may_stand,
+  makes_strict,
+  one_word,
+  may_run,
+}
 use Rattle.sql_text.specs.Plans.{done, fail, take, eat, look, read, want, expect}
-use Rattle.plsql_parse.specs.Sorts.{part, PartPlan, a_name, a_type, eat_word, expect_word, schema_qualified_name, string_in, quote_in, integer_in}
+use Rattle.plsql_parse.specs.Sorts.{
+  part,
+  PartPlan,
+  a_name,
+  a_type,
+  eat_word,
+  expect_word,
+  schema_qualified_name,
+  string_in,
+  quote_in,
+  integer_in,
+}
 
 -- ---- parameters
 

@@ -1,7 +1,27 @@
 -- The plan of each sort.
 use Rattle.std.specs.Prelude.{List, [], Some}
-use Rattle.away_grammar.specs.FunctionGrammar.{Part, decl, decls, default, statement, statements, branch, elsifs, whens}
-use Rattle.away_grammar.specs.FunctionGrammar.{otherwise, condition, block, repeated, kind, step, body, parameter, parameters}
+use Rattle.away_grammar.specs.FunctionGrammar.{
+  Part,
+  decl,
+  decls,
+  default,
+  statement,
+  statements,
+  branch,
+  elsifs,
+  whens,
+}
+use Rattle.away_grammar.specs.FunctionGrammar.{
+  otherwise,
+  condition,
+  block,
+  repeated,
+  kind,
+  step,
+  body,
+  parameter,
+  parameters,
+}
 use Rattle.away_grammar.specs.FunctionGrammar.{signature, attribute_of, attributes, function}
 use Rattle.away_trees.specs.declared.statements.Stmt.{Stmt}
 use Rattle.away_trees.specs.declared.statements.Function.{Function}
@@ -10,10 +30,31 @@ use Rattle.away_grammar.specs.Tokens.{Lexeme}
 use Rattle.sql_text.specs.Plans.{Plan, Runs}
 use Rattle.sql_text.specs.Descent as descent
 use Rattle.plsql_parse.specs.Sorts.{AnySort, sql, part, AnyTree, PartPlan, lifted}
-use Rattle.plsql_parse.specs.Bodies.{default_plan, decl_plan, decls_plan, statement_plan, statements_plan, branch_plan}
-use Rattle.plsql_parse.specs.Bodies.{elsifs_plan, whens_plan, otherwise_plan, condition_plan, block_plan, repeated_plan}
+use Rattle.plsql_parse.specs.Bodies.{
+  default_plan,
+  decl_plan,
+  decls_plan,
+  statement_plan,
+  statements_plan,
+  branch_plan,
+}
+use Rattle.plsql_parse.specs.Bodies.{
+  elsifs_plan,
+  whens_plan,
+  otherwise_plan,
+  condition_plan,
+  block_plan,
+  repeated_plan,
+}
 use Rattle.plsql_parse.specs.Bodies.{kind_plan, step_plan, body_plan}
-use Rattle.plsql_parse.specs.Headers.{parameter_plan, parameters_plan, signature_plan, attribute_plan, attributes_plan, function_plan}
+use Rattle.plsql_parse.specs.Headers.{
+  parameter_plan,
+  parameters_plan,
+  signature_plan,
+  attribute_plan,
+  attributes_plan,
+  function_plan,
+}
 
 abbrev pub part_plan : (p : Part) → PartPlan p
 part_plan decl = decl_plan

@@ -12,7 +12,14 @@ use Rattle.away_grammar.specs.Tokens.{Lexeme}
 use Rattle.away_lex.specs.declared.refusals.LimitKind.{LimitKind}
 use Rattle.away_lex.specs.declared.refusals.LimitKind.TheVariants as limit
 use Rattle.away_lex.specs.declared.refusals.ReadRefusal.{ReadRefusal}
-use Rattle.away_lex.specs.declared.refusals.ReadRefusal.TheVariants.{NotText, Token, NoTree, Outside, Limit, NoMemory}
+use Rattle.away_lex.specs.declared.refusals.ReadRefusal.TheVariants.{
+  NotText,
+  Token,
+  NoTree,
+  Outside,
+  Limit,
+  NoMemory,
+}
 use Rattle.away_trees.specs.Limits.{variables, loops, most_nodes, most_variables, most_loops}
 
 -- ---- limits
@@ -23,13 +30,15 @@ most_nesting = 64
 
 -- ---- tokens
 
--- The bytes are a text with these two lists of tokens and no bad one, and the body's list nests so deep.
+-- The bytes are a text with these two lists of tokens and no bad one, and the body's list nests so
+-- deep.
 pub record HasLists (bytes : List ℕ) (outer inner : List Lexeme) (nesting : ℕ) : Type 0 where
   pub text : IsText bytes
   pub lists_are : LexesFile bytes outer inner None
   pub nesting_is : IsNesting inner nesting
 
--- The bytes are a text with these two lists of tokens and no bad one, and the body's list nests no deeper than is read.
+-- The bytes are a text with these two lists of tokens and no bad one, and the body's list nests no
+-- deeper than is read.
 abbrev pub HasFewTokens : List ℕ → List Lexeme → List Lexeme → Type 0
 HasFewTokens bytes outer inner = (nesting : ℕ) × HasLists bytes outer inner nesting × (nesting ≤ most_nesting)
 
@@ -54,7 +63,8 @@ CountExceeds f limit.Nodes found = (found ≡ nodes f) × (most_nodes < found)
 CountExceeds f limit.Variables found = (nodes f ≤ most_nodes) × (found ≡ variables f) × (most_variables < found)
 CountExceeds f limit.Loops found = (nodes f ≤ most_nodes) × (variables f ≤ most_variables) × (found ≡ loops f) × (most_loops < found)
 
--- The nesting of the body's list exceeds its limit, or a count of the function that the bytes read as does.
+-- The nesting of the body's list exceeds its limit, or a count of the function that the bytes read
+-- as does.
 abbrev pub Exceeds : LimitKind → List ℕ → ℕ → Type 0
 Exceeds limit.Nesting bytes found = ((outer : List Lexeme) × ((inner : List Lexeme) × HasLists bytes outer inner found)) × (most_nesting < found)
 Exceeds which bytes found = MayBeRead bytes × ((f : Function) × ReadsFunction bytes f × CountExceeds f which found)

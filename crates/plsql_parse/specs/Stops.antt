@@ -3,8 +3,27 @@ use Rattle.std.specs.Prelude.{◌≡◌, Bool, true, false, List, []}
 use Rattle.away_grammar.specs.declared.grammar.Mark.{Mark}
 use Rattle.away_grammar.specs.declared.grammar.Mark.TheVariants as m
 use Rattle.away_grammar.specs.Terminals.{Terminal}
-use Rattle.away_grammar.specs.FunctionGrammar.{Part, decls, default, statements, branch, elsifs, whens, otherwise, condition}
-use Rattle.away_grammar.specs.FunctionGrammar.{block, repeated, kind, step, body, parameters, attributes, function}
+use Rattle.away_grammar.specs.FunctionGrammar.{
+  Part,
+  decls,
+  default,
+  statements,
+  branch,
+  elsifs,
+  whens,
+  otherwise,
+  condition,
+}
+use Rattle.away_grammar.specs.FunctionGrammar.{
+  block,
+  repeated,
+  kind,
+  step,
+  body,
+  parameters,
+  attributes,
+  function,
+}
 use Rattle.sql_text.specs.Plans.{Begins}
 use Rattle.plsql_parse.specs.Sorts.{is_name}
 use Rattle.plsql_parse.specs.Bodies.{next, closes}

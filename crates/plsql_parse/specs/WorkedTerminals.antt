@@ -47,8 +47,8 @@ collatz_body =
     ∷ w (codes "steps") ∷ y (codes "+") ∷ i (codes "1") ∷ y (codes ";") ∷ w (codes "END") ∷ w (codes "LOOP") ∷ y (codes ";") ∷ w (codes "RETURN")
     ∷ w (codes "steps") ∷ y (codes ";") ∷ w (codes "END") ∷ y (codes ";") ∷ []
 
--- CREATE OR REPLACE FUNCTION public.walk(lim bigint) RETURNS bigint AS $$ $$ LANGUAGE 'plpgsql' STABLE CALLED ON NULL INPUT
--- NOT LEAKPROOF PARALLEL SAFE COST 100
+-- CREATE OR REPLACE FUNCTION public.walk(lim bigint) RETURNS bigint AS $$ $$ LANGUAGE 'plpgsql'
+-- STABLE CALLED ON NULL INPUT NOT LEAKPROOF PARALLEL SAFE COST 100
 abbrev pub walk_outer : List Terminal
 walk_outer =
     w (codes "CREATE") ∷ w (codes "OR") ∷ w (codes "REPLACE") ∷ w (codes "FUNCTION") ∷ w (codes "public") ∷ y (codes ".") ∷ w (codes "walk")
@@ -123,8 +123,11 @@ many_statements = s.Block (Some (codes "top"))
     ∷ record { name = codes "b"; ty = ty.Text; constant = false; not_null = false; default = None } ∷ [])
     (s.Nothing
     ∷ s.Block None [] (s.Assign (codes "b") None (e.Str (codes "x")) ∷ []) None
-    ∷ s.Cases (record { test = a; body = s.Return (e.Int (pos 1)) ∷ [] } ∷ record { test = b; body = [] } ∷ []) (Some (s.Raise (r.Message (codes "no")) ∷ []))
-    ∷ s.If (record { test = a; body = [] } ∷ record { test = b; body = s.Raise (r.State (codes "22012")) ∷ [] } ∷ record { test = a; body = [] } ∷ []) None
+    ∷ s.Cases (record { test = a; body = s.Return (e.Int (pos 1)) ∷ [] }
+    ∷ record { test = b; body = [] } ∷ []) (Some (s.Raise (r.Message (codes "no")) ∷ []))
+    ∷ s.If (record { test = a; body = [] }
+    ∷ record { test = b; body = s.Raise (r.State (codes "22012")) ∷ [] }
+    ∷ record { test = a; body = [] } ∷ []) None
     ∷ s.Loop (Some (codes "inner")) k.Plain (s.Continue (Some (codes "inner")) None ∷ s.Exit None (Some a) ∷ []) (Some (codes "inner"))
     ∷ s.Loop None (k.Count (codes "k") true a (e.Int (pos 1)) (Some (e.Int (pos 2)))) [] None
     ∷ s.Loop None (k.While (e.Cases ((a, b) ∷ []) None)) [] None

@@ -23,7 +23,8 @@ use std::alloc::Global;
 
 /// All attributes up to a `;` or the end.
 pub fn attributes_of(alloc: Global, tokens: &mut Cursor<'_>) -> Result<Items<Attribute>, Refusal>
-    ensures found { Gives AnyTree any_plan (part attributes) attributes_plan tokens.old result tokens.new }
+    ensures found { Gives AnyTree any_plan
+        (part attributes) attributes_plan tokens.old result tokens.new }
     ensures shrinks { length tokens.new ≤ length tokens.old }
 {
     let mut found = Items::new(alloc);
@@ -41,7 +42,8 @@ fn are_over(tokens: &Cursor<'_>) -> bool
 }
 
 fn attribute_of(alloc: Global, tokens: &mut Cursor<'_>) -> Result<Attribute, Refusal>
-    ensures found { Gives AnyTree any_plan (part an_attribute) attribute_plan tokens.old result tokens.new }
+    ensures found { Gives AnyTree any_plan
+        (part an_attribute) attribute_plan tokens.old result tokens.new }
     ensures shorter { IfOk result (λ _. length tokens.new < length tokens.old) }
     ensures shrinks { length tokens.new ≤ length tokens.old }
 {
@@ -58,7 +60,9 @@ fn attribute_of(alloc: Global, tokens: &mut Cursor<'_>) -> Result<Attribute, Ref
 
 /// The attribute that this word begins, from what stands behind it.
 fn named_attribute(alloc: Global, tokens: &mut Cursor<'_>, word: &str) -> Result<Attribute, Refusal>
-    ensures found { Gives AnyTree any_plan (part an_attribute) (word_with (folded word.now) (grammar.one_word (folded word.now))) tokens.old result tokens.new }
+    ensures found { Gives AnyTree any_plan (part an_attribute)
+        (word_with (folded word.now)
+        (grammar.one_word (folded word.now))) tokens.old result tokens.new }
     ensures shrinks { length tokens.new ≤ length tokens.old }
 {
     match one_word(word) {
@@ -93,7 +97,8 @@ fn longer_attribute(
     tokens: &mut Cursor<'_>,
     word: &str,
 ) -> Result<Attribute, Refusal>
-    ensures found { Gives AnyTree any_plan (part an_attribute) (word_plan (folded word.now)) tokens.old result tokens.new }
+    ensures found { Gives AnyTree any_plan (part an_attribute)
+        (word_plan (folded word.now)) tokens.old result tokens.new }
     ensures shrinks { length tokens.new ≤ length tokens.old }
 {
     if is_word(word, "language") {
@@ -114,7 +119,8 @@ fn longer_attribute(
 
 /// Behind LANGUAGE.
 fn language(alloc: Global, tokens: &mut Cursor<'_>) -> Result<Attribute, Refusal>
-    ensures found { Gives AnyTree any_plan (part an_attribute) language_plan tokens.old result tokens.new }
+    ensures found { Gives AnyTree any_plan
+        (part an_attribute) language_plan tokens.old result tokens.new }
     ensures shrinks { length tokens.new ≤ length tokens.old }
 {
     if eat_word(tokens, "plpgsql") {
@@ -130,7 +136,8 @@ fn language(alloc: Global, tokens: &mut Cursor<'_>) -> Result<Attribute, Refusal
 
 /// ON NULL INPUT.
 fn null_input(tokens: &mut Cursor<'_>, strict: bool) -> Result<Attribute, Refusal>
-    ensures found { Gives AnyTree any_plan (part an_attribute) (null_input_plan strict) tokens.old result tokens.new }
+    ensures found { Gives AnyTree any_plan (part an_attribute)
+        (null_input_plan strict) tokens.old result tokens.new }
     ensures shrinks { length tokens.new ≤ length tokens.old }
 {
     tokens.expect(Mark::On)?;
@@ -141,7 +148,8 @@ fn null_input(tokens: &mut Cursor<'_>, strict: bool) -> Result<Attribute, Refusa
 
 /// Behind PARALLEL.
 fn parallel(alloc: Global, tokens: &mut Cursor<'_>) -> Result<Attribute, Refusal>
-    ensures found { Gives AnyTree any_plan (part an_attribute) parallel_plan tokens.old result tokens.new }
+    ensures found { Gives AnyTree any_plan
+        (part an_attribute) parallel_plan tokens.old result tokens.new }
     ensures shrinks { length tokens.new ≤ length tokens.old }
 {
     let kind = tokens.name(alloc)?;
@@ -161,7 +169,8 @@ fn may_run(kind: &Name) -> bool
 
 /// Behind COST.
 fn cost(tokens: &mut Cursor<'_>) -> Result<Attribute, Refusal>
-    ensures found { Gives AnyTree any_plan (part an_attribute) cost_plan tokens.old result tokens.new }
+    ensures found { Gives AnyTree any_plan
+        (part an_attribute) cost_plan tokens.old result tokens.new }
     ensures shrinks { length tokens.new ≤ length tokens.old }
 {
     if takes_integer(tokens) {
@@ -182,7 +191,8 @@ fn takes_integer(tokens: &mut Cursor<'_>) -> bool
 
 /// The attribute that this mark begins, from what stands behind it.
 fn marked_attribute(tokens: &mut Cursor<'_>, mark: Mark) -> Result<Attribute, Refusal>
-    ensures found { Gives AnyTree any_plan (part an_attribute) (attribute_mark_plan mark) tokens.old result tokens.new }
+    ensures found { Gives AnyTree any_plan (part an_attribute)
+        (attribute_mark_plan mark) tokens.old result tokens.new }
     ensures shrinks { length tokens.new ≤ length tokens.old }
 {
     match mark {
@@ -198,7 +208,8 @@ fn marked_attribute(tokens: &mut Cursor<'_>, mark: Mark) -> Result<Attribute, Re
 
 /// Behind AS.
 fn body(tokens: &mut Cursor<'_>) -> Result<Attribute, Refusal>
-    ensures found { Gives AnyTree any_plan (part an_attribute) (attribute_mark_plan Mark.As) tokens.old result tokens.new }
+    ensures found { Gives AnyTree any_plan (part an_attribute)
+        (attribute_mark_plan Mark.As) tokens.old result tokens.new }
     ensures shrinks { length tokens.new ≤ length tokens.old }
 {
     if takes_quote(tokens) {

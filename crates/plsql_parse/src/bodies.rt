@@ -34,7 +34,8 @@ fn outermost(
     tokens: &mut Cursor<'_>,
     label: Option<Name>,
 ) -> Result<Boxed<Stmt>, Refusal>
-    ensures found { Gives AnyTree any_plan (part body) (outermost_plan label) tokens.old result tokens.new }
+    ensures found { Gives AnyTree any_plan (part body)
+        (outermost_plan label) tokens.old result tokens.new }
     ensures shrinks { length tokens.new ≤ length tokens.old }
 {
     let found = block(alloc, tokens, label)?;

@@ -19,7 +19,8 @@ impl Counts {
     fn plus(self, variables: u64, loops: u64) -> Option<Counts>
         ensures variables { IfSome result (λ sum. sum.variables ≡ self.variables + variables) }
         ensures loops { IfSome result (λ sum. sum.loops ≡ self.loops + loops) }
-        ensures full { IfNone result (2 ^ 64 ≤ (self.variables + variables) + (self.loops + loops)) }
+        ensures full { IfNone result
+            (2 ^ 64 ≤ (self.variables + variables) + (self.loops + loops)) }
     {
         Some(Counts {
             variables: self.variables.checked_add(variables)?,
@@ -41,9 +42,11 @@ fn for_loops(kind: &LoopKind) -> u64
 #[cycle(count)]
 #[tactic(auto, using(crate::proofs::CountLemmas::count_rules))]
 fn with_statement(before: Counts, s: &Stmt) -> Option<Counts>
-    ensures variables { IfSome result (λ sum. sum.variables ≡ before.variables + spec.variables_of s.now) }
+    ensures variables { IfSome result
+        (λ sum. sum.variables ≡ before.variables + spec.variables_of s.now) }
     ensures loops { IfSome result (λ sum. sum.loops ≡ before.loops + spec.loops_of s.now) }
-    ensures full { IfNone result (2 ^ 64 ≤ (before.variables + spec.variables_of s.now) + (before.loops + spec.loops_of s.now)) }
+    ensures full { IfNone result (2 ^ 64 ≤ (before.variables + spec.variables_of s.now)
+        + (before.loops + spec.loops_of s.now)) }
 {
     match s {
         Stmt::Block { decls, body, .. } => {
@@ -73,9 +76,12 @@ fn with_statement(before: Counts, s: &Stmt) -> Option<Counts>
 #[cycle(count)]
 #[tactic(auto, using(crate::proofs::CountLemmas::count_rules))]
 fn with_statements(before: Counts, list: &[Stmt]) -> Option<Counts>
-    ensures variables { IfSome result (λ sum. sum.variables ≡ before.variables + sum_by spec.variables_of list.now) }
-    ensures loops { IfSome result (λ sum. sum.loops ≡ before.loops + sum_by spec.loops_of list.now) }
-    ensures full { IfNone result (2 ^ 64 ≤ (before.variables + sum_by spec.variables_of list.now) + (before.loops + sum_by spec.loops_of list.now)) }
+    ensures variables { IfSome result
+        (λ sum. sum.variables ≡ before.variables + sum_by spec.variables_of list.now) }
+    ensures loops { IfSome result
+        (λ sum. sum.loops ≡ before.loops + sum_by spec.loops_of list.now) }
+    ensures full { IfNone result (2 ^ 64 ≤ (before.variables + sum_by spec.variables_of list.now)
+        + (before.loops + sum_by spec.loops_of list.now)) }
 {
     let mut counts = before;
     for i in 0..list.len() {
@@ -87,9 +93,13 @@ fn with_statements(before: Counts, list: &[Stmt]) -> Option<Counts>
 #[cycle(count)]
 #[tactic(auto, using(crate::proofs::CountLemmas::count_rules))]
 fn with_arms(before: Counts, list: &[Arm]) -> Option<Counts>
-    ensures variables { IfSome result (λ sum. sum.variables ≡ before.variables + sum_by spec.variables_of_arm list.now) }
-    ensures loops { IfSome result (λ sum. sum.loops ≡ before.loops + sum_by spec.loops_of_arm list.now) }
-    ensures full { IfNone result (2 ^ 64 ≤ (before.variables + sum_by spec.variables_of_arm list.now) + (before.loops + sum_by spec.loops_of_arm list.now)) }
+    ensures variables { IfSome result
+        (λ sum. sum.variables ≡ before.variables + sum_by spec.variables_of_arm list.now) }
+    ensures loops { IfSome result
+        (λ sum. sum.loops ≡ before.loops + sum_by spec.loops_of_arm list.now) }
+    ensures full { IfNone result
+        (2 ^ 64 ≤ (before.variables + sum_by spec.variables_of_arm list.now)
+        + (before.loops + sum_by spec.loops_of_arm list.now)) }
 {
     let mut counts = before;
     for i in 0..list.len() {

@@ -46,7 +46,8 @@ fn type_and_value(
     name: Name,
     constant: bool,
 ) -> Result<Decl, Refusal>
-    ensures found { Gives AnyTree any_plan (part decl) (typed_plan name constant) tokens.old result tokens.new }
+    ensures found { Gives AnyTree any_plan (part decl)
+        (typed_plan name constant) tokens.old result tokens.new }
     ensures shrinks { length tokens.new ≤ length tokens.old }
 {
     let ty = tokens.type_name()?;
@@ -66,7 +67,8 @@ fn value_and_end(
     ty: Ty,
     not_null: bool,
 ) -> Result<Decl, Refusal>
-    ensures found { Gives AnyTree any_plan (part decl) (valued_plan name constant ty not_null) tokens.old result tokens.new }
+    ensures found { Gives AnyTree any_plan (part decl)
+        (valued_plan name constant ty not_null) tokens.old result tokens.new }
     ensures shrinks { length tokens.new ≤ length tokens.old }
 {
     let default = default_of(alloc, tokens)?;
@@ -82,7 +84,8 @@ fn value_and_end(
 
 /// The value behind `:=`, `=` or DEFAULT, if one of them stands next.
 fn default_of(alloc: Global, tokens: &mut Cursor<'_>) -> Result<Option<Boxed<Expr>>, Refusal>
-    ensures found { Gives AnyTree any_plan (part default) default_plan tokens.old result tokens.new }
+    ensures found { Gives AnyTree any_plan
+        (part default) default_plan tokens.old result tokens.new }
     ensures shrinks { length tokens.new ≤ length tokens.old }
 {
     if tokens.eat(Mark::Assign) {
@@ -101,7 +104,8 @@ fn default_expression(
     alloc: Global,
     tokens: &mut Cursor<'_>,
 ) -> Result<Option<Boxed<Expr>>, Refusal>
-    ensures found { Gives AnyTree any_plan (part default) default_value tokens.old result tokens.new }
+    ensures found { Gives AnyTree any_plan
+        (part default) default_value tokens.old result tokens.new }
     ensures shrinks { length tokens.new ≤ length tokens.old }
 {
     Ok(Some(value_of(alloc, tokens)?))

@@ -67,7 +67,8 @@ fn behind_create(alloc: Global, tokens: &mut Cursor<'_>) -> Result<Header, Refus
 
 /// The name, perhaps behind `public.`, and what stands behind it.
 fn schema_qualified(alloc: Global, tokens: &mut Cursor<'_>) -> Result<Header, Refusal>
-    ensures found { HeaderRead (λ inside. schema_qualified_name (named_plan inside)) tokens.old result tokens.new }
+    ensures found { HeaderRead
+        (λ inside. schema_qualified_name (named_plan inside)) tokens.old result tokens.new }
     ensures shrinks { length tokens.new ≤ length tokens.old }
 {
     let first = tokens.name(alloc)?;
@@ -105,7 +106,8 @@ fn behind_name(alloc: Global, tokens: &mut Cursor<'_>, name: Name) -> Result<Hea
 
 /// The parameters with their parentheses.
 fn signature_of(alloc: Global, tokens: &mut Cursor<'_>) -> Result<Items<(Name, Ty)>, Refusal>
-    ensures found { Gives AnyTree any_plan (part signature) signature_plan tokens.old result tokens.new }
+    ensures found { Gives AnyTree any_plan
+        (part signature) signature_plan tokens.old result tokens.new }
     ensures shrinks { length tokens.new ≤ length tokens.old }
 {
     tokens.expect(Mark::Open)?;
@@ -119,7 +121,8 @@ fn signature_of(alloc: Global, tokens: &mut Cursor<'_>) -> Result<Items<(Name, T
 
 /// One or more parameters with commas between them.
 fn parameters_of(alloc: Global, tokens: &mut Cursor<'_>) -> Result<Items<(Name, Ty)>, Refusal>
-    ensures found { Gives AnyTree any_plan (part parameters) parameters_plan tokens.old result tokens.new }
+    ensures found { Gives AnyTree any_plan
+        (part parameters) parameters_plan tokens.old result tokens.new }
     ensures shrinks { length tokens.new ≤ length tokens.old }
 {
     let mut found = Items::new(alloc);
@@ -132,7 +135,8 @@ fn parameters_of(alloc: Global, tokens: &mut Cursor<'_>) -> Result<Items<(Name, 
 }
 
 fn parameter_of(alloc: Global, tokens: &mut Cursor<'_>) -> Result<(Name, Ty), Refusal>
-    ensures found { Gives AnyTree any_plan (part parameter) parameter_plan tokens.old result tokens.new }
+    ensures found { Gives AnyTree any_plan
+        (part parameter) parameter_plan tokens.old result tokens.new }
     ensures shrinks { length tokens.new ≤ length tokens.old }
 {
     tokens.eat(Mark::In);

@@ -24,14 +24,16 @@ pub fn what_a_plan_gives_is_read()
 
 /// Where the grammar reads a tree of a part, and what stands behind it ends the part, the part's plan gives that tree.
 pub fn what_is_read_is_given()
-    ensures { (p : Part) (ts : List Terminal) (x : PartTree p) (rest : List Terminal) → ReadsPart p ts x rest
+    ensures { (p : Part) (ts : List Terminal) (x : PartTree p) (rest : List Terminal)
+        → ReadsPart p ts x rest
         → StopsPart p rest → Runs AnyTree any_plan (part p) (part_plan p) ts (Some (x, rest)) }
 {}
 
 /// Where the part's plan gives no tree, the grammar reads none that ends where the part may end.
 pub fn what_is_not_given_is_not_read()
     ensures { (p : Part) (ts : List Terminal) (x : PartTree p) (rest : List Terminal)
-        → Runs AnyTree any_plan (part p) (part_plan p) ts None → ReadsPart p ts x rest → StopsPart p rest → ⊥ }
+        → Runs AnyTree any_plan (part p) (part_plan p) ts None → ReadsPart p ts x rest
+        → StopsPart p rest → ⊥ }
 {}
 
 /// Among the plans of functions the plan of a sort of SQL gives what it gives in SQL.
@@ -42,7 +44,8 @@ pub fn plans_of_sql_give_the_same()
 
 /// The terminals of a part have one tree, and the part has one end that ends it.
 pub fn terminals_have_one_tree()
-    ensures { (p : Part) (ts : List Terminal) (x y : PartTree p) (rest other : List Terminal) → ReadsPart p ts x rest
+    ensures { (p : Part) (ts : List Terminal) (x y : PartTree p) (rest other : List Terminal)
+        → ReadsPart p ts x rest
         → StopsPart p rest → ReadsPart p ts y other → StopsPart p other
         → (x ≡ y) × (rest ≡ other) }
 {}
@@ -54,18 +57,24 @@ pub fn a_file_is_one_function()
 
 /// A file whose tokens are there reads as the function that the plans give of its two lists, where they give one and nothing is left.
 pub fn a_file_reads_as_the_plans_give()
-    ensures { (z : List ℕ) (outer inner : List Lexeme) (f : Function) → LexesFile z outer inner None → ReadsFunction z f ↔ FileGives outer inner f }
+    ensures { (z : List ℕ) (outer inner : List Lexeme) (f : Function) → LexesFile z outer inner None
+        → ReadsFunction z f ↔ FileGives outer inner f }
 {}
 
 /// A loop may open behind WHILE and a condition, unless the condition's last terminal is an END.
 pub fn a_condition_ends_with_no_end()
-    ensures { (ts : List Terminal) (x : Expr) (rest : List Terminal) → Reads (at Or) ts x (mark Loop ∷ rest)
-        → (opens_loop ts ≡ false) ↔ ((before : List Terminal) × (ts ≡ before ++ mark End ∷ mark Loop ∷ rest)) }
+    ensures { (ts : List Terminal) (x : Expr) (rest : List Terminal)
+        → Reads (at Or) ts x (mark Loop ∷ rest)
+        → (opens_loop ts ≡ false) ↔
+        ((before : List Terminal) × (ts ≡ before ++ mark End ∷ mark Loop ∷ rest)) }
 {}
 
 /// And behind the bounds of FOR and the step, unless the last terminal there is an END.
 pub fn a_range_ends_with_no_end()
-    ensures { (ts : List Terminal) (first : Expr) (after : List Terminal) (last : Expr) (middle : List Terminal) (x : Option Expr) (rest : List Terminal)
-        → Reads (at Or) ts first (mark Dots ∷ after) → Reads (at Or) after last middle → ReadsPart step middle x (mark Loop ∷ rest)
-        → (opens_loop ts ≡ false) ↔ ((before : List Terminal) × (ts ≡ before ++ mark End ∷ mark Loop ∷ rest)) }
+    ensures { (ts : List Terminal) (first : Expr) (after : List Terminal) (last : Expr)
+        (middle : List Terminal) (x : Option Expr) (rest : List Terminal)
+        → Reads (at Or) ts first (mark Dots ∷ after) → Reads (at Or) after last middle
+        → ReadsPart step middle x (mark Loop ∷ rest)
+        → (opens_loop ts ≡ false) ↔
+        ((before : List Terminal) × (ts ≡ before ++ mark End ∷ mark Loop ∷ rest)) }
 {}

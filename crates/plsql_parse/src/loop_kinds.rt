@@ -53,7 +53,8 @@ fn count_loop(
     name: Name,
     reverse: bool,
 ) -> Result<Boxed<LoopKind>, Refusal>
-    ensures found { Gives AnyTree any_plan (part kind) (counted_plan name reverse) tokens.old result tokens.new }
+    ensures found { Gives AnyTree any_plan (part kind)
+        (counted_plan name reverse) tokens.old result tokens.new }
     ensures shrinks { length tokens.new ≤ length tokens.old }
 {
     if !sees_loop(tokens) {

@@ -73,7 +73,8 @@ const OUTSIDE: [&str; 58] = [
 pub fn outside_word<'a>(outer: &[Token<'a>], inner: &[Token<'a>]) -> Option<Token<'a>>
     requires outer { AreSpelled (map seen outer.now) }
     requires inner { AreSpelled (map seen inner.now) }
-    ensures value { option_map seen result ≡ spec.outside_word (map seen outer.now) (map seen inner.now) }
+    ensures value { option_map seen result ≡ spec.outside_word (map seen outer.now)
+        (map seen inner.now) }
     ensures spelled { IfSome result (λ word. IsNameText word.text.now) }
 {
     match first_outside(outer) {

@@ -31,7 +31,8 @@ const MOST_LOOPS: u64 = 64;
 
 /// The function that a whole file makes (PostgreSQL manual, CREATE FUNCTION).
 pub fn read_function(alloc: Global, bytes: &[u8]) -> Result<Function, ReadRefusal>
-    ensures ok { IfOk result (λ f. MayBeRead bytes.now × ReadsFunction bytes.now f × KeepsLimits f) }
+    ensures ok { IfOk result (λ f. MayBeRead bytes.now × ReadsFunction bytes.now f
+        × KeepsLimits f) }
     ensures err { IfErr result (Refuses bytes.now) }
 {
     let lists = lists_of(alloc, bytes)?;
@@ -45,7 +46,8 @@ pub fn read_function(alloc: Global, bytes: &[u8]) -> Result<Function, ReadRefusa
 
 /// The token lists of bytes that are a text, where the body's nests no deeper than is read.
 fn lists_of<'a>(alloc: Global, bytes: &'a [u8]) -> Result<FunctionTokens<'a>, ReadRefusal>
-    ensures ok { IfOk result (λ lists. HasFewTokens bytes.now (map seen lists.outer.items) (map seen lists.body.items)) }
+    ensures ok { IfOk result (λ lists. HasFewTokens bytes.now (map seen lists.outer.items)
+        (map seen lists.body.items)) }
     ensures err { IfErr result (RefusesLists bytes.now) }
 {
     let Some(text) = as_text(bytes) else {

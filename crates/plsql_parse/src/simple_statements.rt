@@ -25,7 +25,8 @@ pub(crate) fn assignment_statement(
     tokens: &mut Cursor<'_>,
     name: Name,
 ) -> Result<Stmt, Refusal>
-    ensures found { Gives AnyTree any_plan (part statement) (assigned_plan name) tokens.old result tokens.new }
+    ensures found { Gives AnyTree any_plan (part statement)
+        (assigned_plan name) tokens.old result tokens.new }
     ensures shrinks { length tokens.new ≤ length tokens.old }
 {
     if tokens.eat(Mark::Assign) {
@@ -37,7 +38,8 @@ pub(crate) fn assignment_statement(
 
 /// The value that is assigned.
 fn assigned_value(alloc: Global, tokens: &mut Cursor<'_>, name: Name) -> Result<Stmt, Refusal>
-    ensures found { Gives AnyTree any_plan (part statement) (value_plan name) tokens.old result tokens.new }
+    ensures found { Gives AnyTree any_plan (part statement)
+        (value_plan name) tokens.old result tokens.new }
     ensures shrinks { length tokens.new ≤ length tokens.old }
 {
     let value = value_of(alloc, tokens)?;
@@ -47,7 +49,8 @@ fn assigned_value(alloc: Global, tokens: &mut Cursor<'_>, name: Name) -> Result<
 
 /// The `;` behind NULL.
 pub(crate) fn null_statement(tokens: &mut Cursor<'_>) -> Result<Stmt, Refusal>
-    ensures found { Gives AnyTree any_plan (part statement) (marked_plan Null) tokens.old result tokens.new }
+    ensures found { Gives AnyTree any_plan (part statement)
+        (marked_plan Null) tokens.old result tokens.new }
     ensures shrinks { length tokens.new ≤ length tokens.old }
 {
     tokens.expect(Mark::Semicolon)?;
@@ -56,7 +59,8 @@ pub(crate) fn null_statement(tokens: &mut Cursor<'_>) -> Result<Stmt, Refusal>
 
 /// The value behind RETURN.
 pub(crate) fn return_statement(alloc: Global, tokens: &mut Cursor<'_>) -> Result<Stmt, Refusal>
-    ensures found { Gives AnyTree any_plan (part statement) (marked_plan Return) tokens.old result tokens.new }
+    ensures found { Gives AnyTree any_plan (part statement)
+        (marked_plan Return) tokens.old result tokens.new }
     ensures shrinks { length tokens.new ≤ length tokens.old }
 {
     let value = value_of(alloc, tokens)?;
@@ -66,7 +70,8 @@ pub(crate) fn return_statement(alloc: Global, tokens: &mut Cursor<'_>) -> Result
 
 /// What stands behind EXIT.
 pub(crate) fn exit_statement(alloc: Global, tokens: &mut Cursor<'_>) -> Result<Stmt, Refusal>
-    ensures found { Gives AnyTree any_plan (part statement) (leaving_plan made.Exit) tokens.old result tokens.new }
+    ensures found { Gives AnyTree any_plan (part statement)
+        (leaving_plan made.Exit) tokens.old result tokens.new }
     ensures shrinks { length tokens.new ≤ length tokens.old }
 {
     let label = tokens.perhaps_name(alloc)?;
@@ -77,7 +82,8 @@ pub(crate) fn exit_statement(alloc: Global, tokens: &mut Cursor<'_>) -> Result<S
 
 /// What stands behind CONTINUE.
 pub(crate) fn continue_statement(alloc: Global, tokens: &mut Cursor<'_>) -> Result<Stmt, Refusal>
-    ensures found { Gives AnyTree any_plan (part statement) (leaving_plan made.Continue) tokens.old result tokens.new }
+    ensures found { Gives AnyTree any_plan (part statement)
+        (leaving_plan made.Continue) tokens.old result tokens.new }
     ensures shrinks { length tokens.new ≤ length tokens.old }
 {
     let label = tokens.perhaps_name(alloc)?;
@@ -88,7 +94,8 @@ pub(crate) fn continue_statement(alloc: Global, tokens: &mut Cursor<'_>) -> Resu
 
 /// The condition behind WHEN, if it stands there.
 fn condition_of(alloc: Global, tokens: &mut Cursor<'_>) -> Result<Option<Boxed<Expr>>, Refusal>
-    ensures found { Gives AnyTree any_plan (part condition) condition_plan tokens.old result tokens.new }
+    ensures found { Gives AnyTree any_plan
+        (part condition) condition_plan tokens.old result tokens.new }
     ensures shrinks { length tokens.new ≤ length tokens.old }
 {
     if tokens.eat(Mark::When) {
@@ -100,7 +107,8 @@ fn condition_of(alloc: Global, tokens: &mut Cursor<'_>) -> Result<Option<Boxed<E
 
 /// What stands behind RAISE: a message, or a SQLSTATE.
 pub(crate) fn raise_statement(alloc: Global, tokens: &mut Cursor<'_>) -> Result<Stmt, Refusal>
-    ensures found { Gives AnyTree any_plan (part statement) raise_plan tokens.old result tokens.new }
+    ensures found { Gives AnyTree any_plan
+        (part statement) raise_plan tokens.old result tokens.new }
     ensures shrinks { length tokens.new ≤ length tokens.old }
 {
     eat_word(tokens, "exception");

@@ -34,7 +34,8 @@ use std::alloc::Global;
 /// Statements, up to a mark that ends them.
 #[cycle(reader)]
 fn statements_of(alloc: Global, tokens: &mut Cursor<'_>) -> Result<Items<Stmt>, Refusal>
-    ensures found { Gives AnyTree any_plan (part statements) statements_plan tokens.old result tokens.new }
+    ensures found { Gives AnyTree any_plan
+        (part statements) statements_plan tokens.old result tokens.new }
     ensures shrinks { length tokens.new ≤ length tokens.old }
 {
     let mut found = Items::new(alloc);
@@ -46,7 +47,8 @@ fn statements_of(alloc: Global, tokens: &mut Cursor<'_>) -> Result<Items<Stmt>, 
 
 #[cycle(reader)]
 fn statement_of(alloc: Global, tokens: &mut Cursor<'_>) -> Result<Stmt, Refusal>
-    ensures found { Gives AnyTree any_plan (part statement) statement_plan tokens.old result tokens.new }
+    ensures found { Gives AnyTree any_plan
+        (part statement) statement_plan tokens.old result tokens.new }
     ensures shrinks { length tokens.new ≤ length tokens.old }
     ensures shorter { IfOk result (λ _. length tokens.new < length tokens.old) }
 {
@@ -75,7 +77,8 @@ fn statement_of(alloc: Global, tokens: &mut Cursor<'_>) -> Result<Stmt, Refusal>
 /// A block or a loop behind its label.
 #[cycle(reader)]
 fn labelled(alloc: Global, tokens: &mut Cursor<'_>, label: Option<Name>) -> Result<Stmt, Refusal>
-    ensures found { Gives AnyTree any_plan (part statement) (labelled_plan label) tokens.old result tokens.new }
+    ensures found { Gives AnyTree any_plan (part statement)
+        (labelled_plan label) tokens.old result tokens.new }
     ensures shrinks { length tokens.new ≤ length tokens.old }
     ensures shorter { IfOk result (λ _. length tokens.new < length tokens.old) }
 {
@@ -93,7 +96,8 @@ fn labelled(alloc: Global, tokens: &mut Cursor<'_>, label: Option<Name>) -> Resu
 /// What a reserved word begins, behind it.
 #[cycle(reader)]
 fn marked(alloc: Global, tokens: &mut Cursor<'_>, mark: Mark) -> Result<Stmt, Refusal>
-    ensures found { Gives AnyTree any_plan (part statement) (marked_plan mark) tokens.old result tokens.new }
+    ensures found { Gives AnyTree any_plan (part statement)
+        (marked_plan mark) tokens.old result tokens.new }
     ensures shrinks { length tokens.new ≤ length tokens.old }
 {
     match mark {
@@ -123,7 +127,8 @@ fn if_of(alloc: Global, tokens: &mut Cursor<'_>) -> Result<Stmt, Refusal>
 /// WHEN and the arms behind CASE, ELSE if it stands there, and END CASE.
 #[cycle(reader)]
 fn case_of(alloc: Global, tokens: &mut Cursor<'_>) -> Result<Stmt, Refusal>
-    ensures found { Gives AnyTree any_plan (part statement) cases_plan tokens.old result tokens.new }
+    ensures found { Gives AnyTree any_plan
+        (part statement) cases_plan tokens.old result tokens.new }
     ensures shrinks { length tokens.new ≤ length tokens.old }
 {
     tokens.expect(Mark::When)?;
@@ -160,8 +165,10 @@ fn elsif_arms(alloc: Global, tokens: &mut Cursor<'_>) -> Result<Items<Arm>, Refu
 
 /// Takes ELSIF or ELSEIF, if one of them stands next.
 fn eat_elsif(tokens: &mut Cursor<'_>) -> bool
-    ensures yes { OnTrue result ((tokens.old ≡ mark Elsif ∷ tokens.new) ⊎ ((tokens.old ≡ mark Elseif ∷ tokens.new) × ¬ (Begins tokens.old Elsif))) }
-    ensures no { OnFalse result ((tokens.new ≡ tokens.old) × ¬ (Begins tokens.old Elsif) × ¬ (Begins tokens.old Elseif)) }
+    ensures yes { OnTrue result ((tokens.old ≡ mark Elsif ∷ tokens.new)
+        ⊎ ((tokens.old ≡ mark Elseif ∷ tokens.new) × ¬ (Begins tokens.old Elsif))) }
+    ensures no { OnFalse result ((tokens.new ≡ tokens.old) × ¬ (Begins tokens.old Elsif)
+        × ¬ (Begins tokens.old Elseif)) }
     ensures shrinks { length tokens.new ≤ length tokens.old }
     ensures shorter { OnTrue result (length tokens.new < length tokens.old) }
 {
@@ -207,7 +214,8 @@ fn new_arm(test: Boxed<Expr>, body: Items<Stmt>) -> Arm
 /// The statements behind ELSE, if it stands there.
 #[cycle(reader)]
 fn otherwise(alloc: Global, tokens: &mut Cursor<'_>) -> Result<Option<Items<Stmt>>, Refusal>
-    ensures found { Gives AnyTree any_plan (part grammar.otherwise) otherwise_plan tokens.old result tokens.new }
+    ensures found { Gives AnyTree any_plan
+        (part grammar.otherwise) otherwise_plan tokens.old result tokens.new }
     ensures shrinks { length tokens.new ≤ length tokens.old }
 {
     if tokens.eat(Mark::Else) {
@@ -224,7 +232,8 @@ pub(crate) fn block(
     tokens: &mut Cursor<'_>,
     label: Option<Name>,
 ) -> Result<Boxed<Stmt>, Refusal>
-    ensures found { Gives AnyTree any_plan (part (grammar.block label)) (block_plan label) tokens.old result tokens.new }
+    ensures found { Gives AnyTree any_plan (part (grammar.block label))
+        (block_plan label) tokens.old result tokens.new }
     ensures shrinks { length tokens.new ≤ length tokens.old }
     ensures shorter { IfOk result (λ _. length tokens.new < length tokens.old) }
 {
@@ -245,7 +254,8 @@ fn begun(
     label: Option<Name>,
     decls: Items<Decl>,
 ) -> Result<Boxed<Stmt>, Refusal>
-    ensures found { Gives AnyTree any_plan (part (grammar.block label)) (begun_plan label decls) tokens.old result tokens.new }
+    ensures found { Gives AnyTree any_plan (part (grammar.block label))
+        (begun_plan label decls) tokens.old result tokens.new }
     ensures shrinks { length tokens.new ≤ length tokens.old }
 {
     let body = statements_of(alloc, tokens)?;
@@ -277,7 +287,8 @@ fn repeated(
     tokens: &mut Cursor<'_>,
     label: Option<Name>,
 ) -> Result<Boxed<Stmt>, Refusal>
-    ensures found { Gives AnyTree any_plan (part (grammar.repeated label)) (repeated_plan label) tokens.old result tokens.new }
+    ensures found { Gives AnyTree any_plan (part (grammar.repeated label))
+        (repeated_plan label) tokens.old result tokens.new }
     ensures shrinks { length tokens.new ≤ length tokens.old }
     ensures shorter { IfOk result (λ _. length tokens.new < length tokens.old) }
 {
@@ -294,7 +305,8 @@ fn repeating(
     label: Option<Name>,
     kind: Boxed<LoopKind>,
 ) -> Result<Boxed<Stmt>, Refusal>
-    ensures found { Gives AnyTree any_plan (part (grammar.repeated label)) (repeating_plan label kind) tokens.old result tokens.new }
+    ensures found { Gives AnyTree any_plan (part (grammar.repeated label))
+        (repeating_plan label kind) tokens.old result tokens.new }
     ensures shrinks { length tokens.new ≤ length tokens.old }
 {
     let body = statements_of(alloc, tokens)?;

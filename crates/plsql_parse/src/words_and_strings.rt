@@ -13,8 +13,10 @@ use std::alloc::Global;
 
 /// Takes the name that is this word, in any case, if it stands next.
 pub(crate) fn eat_word(tokens: &mut Cursor<'_>, word: &str) -> bool
-    ensures yes { OnTrue result ((begins_word (folded word.now) tokens.old ≡ true) × (tokens.new ≡ tail tokens.old)) }
-    ensures no { OnFalse result ((begins_word (folded word.now) tokens.old ≡ false) × (tokens.new ≡ tokens.old)) }
+    ensures yes { OnTrue result ((begins_word (folded word.now) tokens.old ≡ true)
+        × (tokens.new ≡ tail tokens.old)) }
+    ensures no { OnFalse result ((begins_word (folded word.now) tokens.old ≡ false)
+        × (tokens.new ≡ tokens.old)) }
     ensures shrinks { length tokens.new ≤ length tokens.old }
     ensures shorter { OnTrue result (length tokens.new < length tokens.old) }
 {

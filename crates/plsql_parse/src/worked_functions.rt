@@ -9,12 +9,14 @@ ghost use Rattle.plsql_parse.specs.WorkedTerminals.{collatz_body, collatz_outer,
 
 /// The two lists of terminals of a function with a WHILE loop and an IF read as its tree.
 pub fn a_function_with_while_reads()
-    ensures { ReadsPart body collatz_body collatz.body [] × ReadsPart (function collatz.body) collatz_outer collatz [] }
+    ensures { ReadsPart body collatz_body collatz.body []
+        × ReadsPart (function collatz.body) collatz_outer collatz [] }
 {}
 
 /// So do those of a function with labels, FOR loops, EXIT and a query, and with many attributes.
 pub fn a_function_with_for_reads()
-    ensures { ReadsPart body walk_body walk.body [] × ReadsPart (function walk.body) walk_outer walk [] }
+    ensures { ReadsPart body walk_body walk.body []
+        × ReadsPart (function walk.body) walk_outer walk [] }
 {}
 
 /// A body with statements of every other kind reads as its tree.

@@ -1,5 +1,22 @@
 -- What the rest of a run answers, by the stack.
-use Rattle.std.specs.Prelude.{◌≡◌, ◌+◌, ◌*◌, sum_by, ℕ, List, [], ◌∷◌, map, Option, Some, None, option_map, Result, Ok, Err}
+use Rattle.std.specs.Prelude.{
+  ◌≡◌,
+  ◌+◌,
+  ◌*◌,
+  sum_by,
+  ℕ,
+  List,
+  [],
+  ◌∷◌,
+  map,
+  Option,
+  Some,
+  None,
+  option_map,
+  Result,
+  Ok,
+  Err,
+}
 use Rattle.away_values.specs.declared.values.Value.{Value}
 use Rattle.away_values.specs.declared.errors.OpError.{OpError}
 use Rattle.away_values.specs.declared.errors.OpError.TheVariants as error
@@ -9,8 +26,32 @@ use Rattle.away_trees.specs.declared.statements.Arm.{Arm}
 use Rattle.away_trees.specs.declared.statements.Stmt.{Stmt}
 use Rattle.away_trees.specs.StatementAlgebra.{branch_of}
 use Rattle.away_trees.specs.Count.{nodes_of}
-use Rattle.plsql_meaning.specs.Outcomes.{Env, Outcome, normal, exits, continues, returns, faults, Done, done, Step, and_then, close}
-use Rattle.plsql_meaning.specs.Loops.{Turning, taken, Verdict, again, leave, finished, turning, always, while, counts}
+use Rattle.plsql_meaning.specs.Outcomes.{
+  Env,
+  Outcome,
+  normal,
+  exits,
+  continues,
+  returns,
+  faults,
+  Done,
+  done,
+  Step,
+  and_then,
+  close,
+}
+use Rattle.plsql_meaning.specs.Loops.{
+  Turning,
+  taken,
+  Verdict,
+  again,
+  leave,
+  finished,
+  turning,
+  always,
+  while,
+  counts,
+}
 use Rattle.plsql_meaning.specs.Statements.{Setting, in_arms, in_else, in_row, meanings, running}
 use Rattle.plsql_meaning.specs.Functions.{answer_of}
 use Rattle.plsql_run.specs.Places.{ListPosition}
@@ -63,7 +104,8 @@ module _ (set : Setting) where
   unwound [] d = d
   unwound (f ∷ fs) d = resumed f (unwound fs d)
 
-  -- A part of a run, of which `whole n` is how the run ends with n turns left: it went on with this stack and these variables, or ended the run.
+  -- A part of a run, of which `whole n` is how the run ends with n turns left: it went on with this
+  -- stack and these variables, or ended the run.
   abbrev pub Goes : (ℕ → Done) → List Frame → Env → Result Signal OpError → Type 0
   Goes whole stack env (Ok (signal.Ends w)) = (n : ℕ) → unwound stack (done (outcome w) env n) ≡ whole n
   Goes whole stack env (Ok (signal.Returns v)) = (n : ℕ) → (whole n).outcome ≡ returns v

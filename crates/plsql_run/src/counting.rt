@@ -41,7 +41,8 @@ fn bound(
 }
 
 fn positive(v: Value) -> Result<Value, OpError>
-    ensures { (env : List Value) → Passes (λ go. meaning.judged (is_true (compare cmp.Le v (val.Int (pos 0)))) v go) env result }
+    ensures { (env : List Value) → Passes
+        (λ go. meaning.judged (is_true (compare cmp.Le v (val.Int (pos 0)))) v go) env result }
 {
     if is_true(&compare(CmpOp::Le, &v, &Value::Int(0))) {
         return Err(OpError::Class(sqlstate::INVALID_PARAMETER_VALUE));
@@ -79,7 +80,8 @@ pub(crate) fn enter_count<'a>(
 ) -> Result<Signal<'a>, OpError>
     ensures runs { (name : List ℕ) → let set = meant setting.now
         in GoesOn set stack.old
-        (λ n. meaning.loop set (kind.Count name reverse first.now last.now by.now) label.now var (body_of set body.entry) env.old n)
+        (λ n. meaning.loop set (kind.Count name reverse first.now last.now by.now) label.now var
+        (body_of set body.entry) env.old n)
         stack.new env.new result }
     ensures ends { IfEnds result (stack.new ≡ stack.old) }
 {

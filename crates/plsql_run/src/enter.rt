@@ -38,9 +38,11 @@ fn enter_block<'a>(
 ) -> Result<Signal<'a>, OpError>
     requires { at + length decls.now < 2 ^ 64 }
     ensures runs { let set = meant setting.now
-        in GoesOn set stack.old (λ n. close label.now (and_then (meaning.declare set decls.now at env.old n)
+        in GoesOn set stack.old (λ n. close label.now
+        (and_then (meaning.declare set decls.now at env.old n)
         (body_of set body.entry))) stack.new env.new result }
-    ensures ends { IfEnds result (load stack.new ≡ load stack.old + (2 + 3 * sum_by nodes_of body.entry.list)) }
+    ensures ends { IfEnds result
+        (load stack.new ≡ load stack.old + (2 + 3 * sum_by nodes_of body.entry.list)) }
 {
     declare(alloc, setting, env, decls, at)?;
     stack.push(Frame::Block(label))?;
@@ -50,8 +52,10 @@ fn enter_block<'a>(
 
 /// Statements begin.
 fn enter_list<'a>(stack: &mut Items<Frame<'a>>, list: Stretch<'a>) -> Result<Signal<'a>, OpError>
-    ensures runs { (set : Meant) (env : Env) → GoesOn set stack.old (λ n. body_of set list.entry env n) stack.new env result }
-    ensures ends { IfEnds result (load stack.new ≡ load stack.old + (1 + 3 * sum_by nodes_of list.entry.list)) }
+    ensures runs { (set : Meant) (env : Env)
+        → GoesOn set stack.old (λ n. body_of set list.entry env n) stack.new env result }
+    ensures ends { IfEnds result
+        (load stack.new ≡ load stack.old + (1 + 3 * sum_by nodes_of list.entry.list)) }
 {
     stack.push(Frame::Rest(list))?;
     Ok(Signal::Ends(Way::Normal))
@@ -67,8 +71,10 @@ fn enter_else<'a>(
 ) -> Result<Signal<'a>, OpError>
     requires few { at + slots_of_else other.now < 2 ^ 64 }
     requires laid { layouts.now ≡ layouts_of_else other.now }
-    ensures runs { (set : Meant) (env : Env) → GoesOn set stack.old (λ n. else_run set other.now missing at env n) stack.new env result }
-    ensures ends { IfEnds result (load stack.new ≤ load stack.old + (1 + 3 * nodes_of_else other.now)) }
+    ensures runs { (set : Meant) (env : Env) → GoesOn set stack.old
+        (λ n. else_run set other.now missing at env n) stack.new env result }
+    ensures ends { IfEnds result
+        (load stack.new ≤ load stack.old + (1 + 3 * nodes_of_else other.now)) }
 {
     match other {
         Some(body) => enter_list(
@@ -101,8 +107,10 @@ fn enter_arms<'a>(
     requires few { at + (sum_by slots_of_arm arms.now + slots_of_else other.now) < 2 ^ 64 }
     requires arms_laid { (out-Layout layout.now).inside ≡ arm_layouts arms.now }
     requires else_laid { (out-Layout layout.now).other ≡ layouts_of_else other.now }
-    ensures runs { let set = meant setting.now in GoesOn set stack.old (λ n. arms_run set arms.now other.now missing at env.now n) stack.new env.now result }
-    ensures ends { IfEnds result (load stack.new ≤ load stack.old + (1 + 3 * (sum_by nodes_of_arm arms.now + nodes_of_else other.now))) }
+    ensures runs { let set = meant setting.now in GoesOn set stack.old
+        (λ n. arms_run set arms.now other.now missing at env.now n) stack.new env.now result }
+    ensures ends { IfEnds result (load stack.new ≤ load stack.old
+        + (1 + 3 * (sum_by nodes_of_arm arms.now + nodes_of_else other.now))) }
 {
     let layouts = layout.inside.as_slice();
     let mut next = at;
@@ -140,7 +148,8 @@ fn enter_loop<'a>(
     requires few { at + (meaning.kind_vars kind.now + sum_by slots_of list.now) < 2 ^ 64 }
     requires laid { layouts.now ≡ layouts_of list.now }
     ensures runs { let set = meant setting.now
-        in GoesOn set stack.old (λ n. meaning.loop set kind.now label.now at (meaning.in_row (meaning.meanings set list.now)
+        in GoesOn set stack.old (λ n. meaning.loop set kind.now label.now at
+        (meaning.in_row (meaning.meanings set list.now)
         (meaning.body_at kind.now at)) env.old n) stack.new env.new result }
     ensures ends { IfEnds result (stack.new ≡ stack.old) }
 {
@@ -193,7 +202,8 @@ pub(crate) fn enter<'a>(
 ) -> Result<Signal<'a>, OpError>
     requires few { at + slots_of s.now < 2 ^ 64 }
     requires laid { layout.now ≡ layout_of s.now }
-    ensures runs { let set = meant setting.now in GoesOn set stack.old (λ n. (meaning.meaning set s.now).run at env.old n) stack.new env.new result }
+    ensures runs { let set = meant setting.now in GoesOn set stack.old
+        (λ n. (meaning.meaning set s.now).run at env.old n) stack.new env.new result }
     ensures ends { IfEnds result (load stack.new < load stack.old + 3 * nodes_of s.now) }
 {
     match s {

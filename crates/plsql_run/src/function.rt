@@ -36,7 +36,8 @@ fn start<'a>(
 ) -> Result<Signal<'a>, OpError>
     requires few { at + slots_of body.now < 2 ^ 64 }
     requires laid { layout.now ≡ layout_of body.now }
-    ensures runs { let set = meant setting.now in GoesOn set stack.old (λ n. (meaning set body.now).run at env.old n) stack.new env.new result }
+    ensures runs { let set = meant setting.now in GoesOn set stack.old
+        (λ n. (meaning set body.now).run at env.old n) stack.new env.new result }
     ensures ends { IfEnds result (stack.new ≡ []) }
 {
     match enter(alloc, setting, stack, env, body, layout, at)? {
@@ -153,7 +154,8 @@ pub fn run_function(
     args: &[Value],
     bound: u64,
 ) -> Result<Answer, NoMemory>
-    ensures { IfOk result (λ a. a ≡ function_answer (over (rows_of_tables tables.now.list) (not_nulls f.now.slots)) f.now.function args.now bound) }
+    ensures { IfOk result (λ a. a ≡ function_answer (over (rows_of_tables tables.now.list)
+        (not_nulls f.now.slots)) f.now.function args.now bound) }
 {
     let setting = Setting::new(tables, f.slots.as_slice());
     run_over(alloc, &setting, &f.function, args, bound)

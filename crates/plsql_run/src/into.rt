@@ -50,7 +50,8 @@ fn put_all(
     targets: &[(Name, Option<u32>)],
     row: &[Value],
 ) -> Result<(), OpError>
-    ensures { Does (meaning.put_all (meant setting.now) targets.now row.now) env.old env.new result }
+    ensures { Does (meaning.put_all
+        (meant setting.now) targets.now row.now) env.old env.new result }
 {
     for i in 0..targets.len() {
         let v = value_at(alloc, row, i)?;
@@ -67,7 +68,8 @@ pub(crate) fn select_into<'a>(
     targets: &[(Name, Option<u32>)],
     query: &Select,
 ) -> Result<Signal<'a>, OpError>
-    ensures { Ended (λ env n. meaning.into (meant setting.now) strict targets.now ((meant setting.now).rows query.now env) env n) env.old env.new result }
+    ensures { Ended (λ env n. meaning.into (meant setting.now) strict targets.now
+        ((meant setting.now).rows query.now env) env n) env.old env.new result }
 {
     let rows = setting.rows(alloc, query, env)?;
     let rows = rows.as_slice();

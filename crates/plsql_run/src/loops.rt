@@ -47,7 +47,8 @@ fn begin<'a>(
     body: Stretch<'a>,
 ) -> Result<Signal<'a>, OpError>
     ensures runs { (set : Meant) (env : Env)
-        → GoesOn set stack.old (λ n. spec.taken env n (λ e m. resumed set behind.entry (body_of set body.entry e m))) stack.new env result }
+        → GoesOn set stack.old (λ n. spec.taken env n
+        (λ e m. resumed set behind.entry (body_of set body.entry e m))) stack.new env result }
     ensures turn { IfEnds result ⊥ }
 {
     stack.push(behind)?;
@@ -62,7 +63,8 @@ pub(crate) fn begin_plain<'a>(
     body: Stretch<'a>,
 ) -> Result<Signal<'a>, OpError>
     ensures runs { (set : Meant) (env : Env)
-        → GoesOn set stack.old (λ n. spec.turning spec.always label.now (body_of set body.entry) tt env n) stack.new env result }
+        → GoesOn set stack.old (λ n. spec.turning spec.always label.now
+        (body_of set body.entry) tt env n) stack.new env result }
     ensures ends { IfEnds result (stack.new ≡ stack.old) }
 {
     let first = body.again();
@@ -80,7 +82,8 @@ pub(crate) fn begin_while<'a>(
     body: Stretch<'a>,
 ) -> Result<Signal<'a>, OpError>
     ensures runs { let set = meant setting.now
-        in GoesOn set stack.old (λ n. spec.turning (spec.while (set.value test.now)) label.now (body_of set body.entry) tt env.now n) stack.new env.now result }
+        in GoesOn set stack.old (λ n. spec.turning (spec.while (set.value test.now)) label.now
+        (body_of set body.entry) tt env.now n) stack.new env.now result }
     ensures ends { IfEnds result (stack.new ≡ stack.old) }
 {
     let v = setting.value(alloc, test, env)?;
@@ -109,7 +112,8 @@ pub(crate) fn begin_count<'a>(
     counter: Value,
     counting: Counting<'a>,
 ) -> Result<Signal<'a>, OpError>
-    ensures runs { (set : Meant) → GoesOn set stack.old (λ n. count_run set counting.entry counter env.old n) stack.new env.new result }
+    ensures runs { (set : Meant) → GoesOn set stack.old
+        (λ n. count_run set counting.entry counter env.old n) stack.new env.new result }
     ensures ends { IfEnds result (stack.new ≡ stack.old) }
 {
     if !is_true(&reaches(counting.reverse, &counter, &counting.last)) {
@@ -145,7 +149,8 @@ fn counted(reverse: bool, counter: &Value, step: &Value) -> Result<Value, Class>
 
 /// The counter of the next turn, or nothing where it would leave the range of bigint.
 fn next_count(reverse: bool, counter: &Value, step: &Value) -> Result<Option<Value>, Class>
-    ensures { result ≡ spec.advanced (spec.leaves reverse step.now counter.now) (spec.counted reverse counter.now step.now) }
+    ensures { result ≡ spec.advanced (spec.leaves reverse step.now counter.now)
+        (spec.counted reverse counter.now step.now) }
 {
     let end = leaves(reverse, step, counter)?;
     if is_true(&end) {
@@ -162,7 +167,8 @@ pub(crate) fn resume_count<'a>(
     counter: Value,
     counting: Counting<'a>,
 ) -> Result<Signal<'a>, OpError>
-    ensures runs { (set : Meant) → GoesOn set stack.old (λ n. spec.moved ((count_of counting.entry).next counter)
+    ensures runs { (set : Meant)
+        → GoesOn set stack.old (λ n. spec.moved ((count_of counting.entry).next counter)
         (count_run set counting.entry) env.old n) stack.new env.new result }
     ensures ends { IfEnds result (stack.new ≡ stack.old) }
 {

@@ -23,8 +23,10 @@ fn run_next<'a>(
     env: &mut Items<Value>,
     place: Stretch<'a>,
 ) -> Result<Signal<'a>, OpError>
-    ensures runs { let set = meant setting.now in GoesOn set stack.old (λ n. body_of set place.entry env.old n) stack.new env.new result }
-    ensures ends { IfEnds result (load stack.new < load stack.old + (1 + 3 * sum_by nodes_of place.entry.list)) }
+    ensures runs { let set = meant setting.now in GoesOn set stack.old
+        (λ n. body_of set place.entry env.old n) stack.new env.new result }
+    ensures ends { IfEnds result
+        (load stack.new < load stack.old + (1 + 3 * sum_by nodes_of place.entry.list)) }
 {
     let at = place.at;
     let layouts = place.layouts;
@@ -70,7 +72,8 @@ fn resume<'a>(
     way: Way<'a>,
 ) -> Result<Signal<'a>, OpError>
     ensures runs { let set = meant setting.now
-        in GoesOn set stack.old (λ n. resumed set frame.entry (done (outcome way.entry) env.old n)) stack.new env.new result }
+        in GoesOn set stack.old (λ n. resumed set frame.entry
+        (done (outcome way.entry) env.old n)) stack.new env.new result }
     ensures ends { IfEnds result (load stack.new < load stack.old + cost frame.entry) }
 {
     match frame {
@@ -103,7 +106,8 @@ pub(crate) fn run_until_turn<'a>(
     env: &mut Items<Value>,
     way: Way<'a>,
 ) -> Result<Signal<'a>, OpError>
-    ensures runs { let set = meant setting.now in GoesOn set stack.old (λ n. done (outcome way.entry) env.old n) stack.new env.new result }
+    ensures runs { let set = meant setting.now in GoesOn set stack.old
+        (λ n. done (outcome way.entry) env.old n) stack.new env.new result }
     ensures ends { IfEnds result (stack.new ≡ []) }
 {
     let mut way = way;

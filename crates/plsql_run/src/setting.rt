@@ -33,7 +33,10 @@ impl<'a> Setting<'a> {
     ghost use Rattle.sql_meaning.specs.AtBound.{rows_of_tables};
 
     pub(crate) fn new(tables: &'a Tables, slots: &'a [Slot]) -> Setting<'a>
-        ensures { result ≡ record { tables = rows_of_tables tables.now.list; not_null = not_nulls slots.now } }
+        ensures { result ≡ record {
+          tables = rows_of_tables tables.now.list;
+          not_null = not_nulls slots.now;
+        } }
     {
         Setting { tables, slots }
     }

@@ -24,7 +24,8 @@ pub(crate) fn assign<'a>(
     slot: Option<u32>,
     e: &Expr,
 ) -> Result<Signal<'a>, OpError>
-    ensures { Ended (λ env n. meaning.assign (meant setting.now) slot ((meant setting.now).value e.now env) env n) env.old env.new result }
+    ensures { Ended (λ env n. meaning.assign (meant setting.now) slot
+        ((meant setting.now).value e.now env) env n) env.old env.new result }
 {
     match slot {
         None => Ok(Signal::Ends(Way::Normal)),
@@ -44,7 +45,8 @@ pub(crate) fn jump<'a>(
     when: &Option<Expr>,
     way: Way<'a>,
 ) -> Result<Signal<'a>, OpError>
-    ensures { Ended (meaning.jump (meant setting.now) when.now (outcome way.entry)) env.now env.now result }
+    ensures { Ended (meaning.jump (meant setting.now) when.now
+        (outcome way.entry)) env.now env.now result }
 {
     match when {
         None => Ok(Signal::Ends(way)),
@@ -65,7 +67,8 @@ pub(crate) fn give<'a>(
     env: &Items<Value>,
     e: &Expr,
 ) -> Result<Signal<'a>, OpError>
-    ensures { Ended (λ env n. meaning.give ((meant setting.now).value e.now env) env n) env.now env.now result }
+    ensures { Ended (λ env n. meaning.give
+        ((meant setting.now).value e.now env) env n) env.now env.now result }
 {
     Ok(Signal::Returns(setting.value(alloc, e, env)?))
 }
@@ -90,7 +93,8 @@ pub(crate) fn raise<'a>(
     raised: &Raised,
     env: &Items<Value>,
 ) -> Result<Signal<'a>, OpError>
-    ensures { Ended (λ env n. done (faults (meaning.class_of raised.now)) env n) env.now env.now result }
+    ensures { Ended (λ env n.
+        done (faults (meaning.class_of raised.now)) env n) env.now env.now result }
 {
     let class = raised_class(alloc, raised)?;
     Err(OpError::Class(class))

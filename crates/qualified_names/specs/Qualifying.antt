@@ -1,5 +1,6 @@
--- A query whose columns stand by their places, with names again: each column is the alias of its item, a point and its own name, and a table stands by
--- its name alone. A tree is a function of the items in sight.
+-- A query whose columns stand by their places, with names again: each column is the alias of its
+-- item, a point and its own name, and a table stands by its name alone. A tree is a function of the
+-- items in sight.
 use Rattle.std.specs.Prelude.{List, [], ◌∷◌, ◌++◌, map, fold, drop, Option, None, option_map}
 use Rattle.away_trees.specs.declared.queries.Expr.{Expr}
 use Rattle.away_trees.specs.declared.queries.Expr.TheVariants as expr
@@ -10,9 +11,24 @@ use Rattle.away_trees.specs.declared.queries.Key.{Key}
 use Rattle.away_trees.specs.declared.queries.Select.{Select}
 use Rattle.away_trees.specs.declared.queries.Recursive.{Recursive}
 use Rattle.away_trees.specs.declared.queries.Query.{Query}
-use Rattle.away_trees.specs.declared.queries.Expr.TheOpen.{Expr-F, Source-F, FromItem-F, Item-F, Key-F, Select-F, Recursive-F, Query-F}
+use Rattle.away_trees.specs.declared.queries.Expr.TheOpen.{
+  Expr-F,
+  Source-F,
+  FromItem-F,
+  Item-F,
+  Key-F,
+  Select-F,
+  Recursive-F,
+  Query-F,
+}
 use Rattle.away_trees.specs.declared.queries.Expr.TheOpen as ex
-use Rattle.away_trees.specs.declared.queries.Expr.TheViews.{roll-Item, roll-Key, roll-Select, roll-Recursive, roll-Query}
+use Rattle.away_trees.specs.declared.queries.Expr.TheViews.{
+  roll-Item,
+  roll-Key,
+  roll-Select,
+  roll-Recursive,
+  roll-Query,
+}
 use Rattle.away_trees.specs.Algebra.{Algebra}
 use Rattle.away_names.specs.declared.note.Shown.{Shown}
 use Rattle.away_names.specs.declared.note.Column.{Column}
@@ -85,8 +101,8 @@ term (ex.Exists q) s = expr.Exists (q s).it
 
 -- ---- FROM
 
--- A table has no list of columns: behind the digits of its place the list holds their names. The columns of a subquery have the names of the list, or
--- else the query's own.
+-- A table has no list of columns: behind the digits of its place the list holds their names. The
+-- columns of a subquery have the names of the list, or else the query's own.
 abbrev pub rows : Layer Source-F → Rows
 rows (ex.Table name) columns s level = record { source = source.Table name; columns = []; names = plain_names (drop 1 columns) }
 rows (ex.Sub q lateral) columns s level = of_query lateral columns (q (before lateral level ∷ s))
@@ -124,7 +140,8 @@ select_of from list filter order limit =
 
 -- the list, the condition, the keys and LIMIT see the items of FROM
 abbrev pub over : Layer Select-F → Sight → List FromItem → Shown Select
-over x s from = select_of from (listed (map (λ i. i s) x.list)) (option_map (λ e. e s) x.filter) (map (λ k. k s) x.order) (option_map (λ e. e s) x.limit)
+over x s from = select_of from (listed (map (λ i. i s) x.list)) (option_map (λ e. e s) x.filter)
+    (map (λ k. k s) x.order) (option_map (λ e. e s) x.limit)
 
 abbrev pub listing : Layer Select-F → Listing
 listing x s = let from = framed s x.from in over x (from.seen ∷ s) from.items

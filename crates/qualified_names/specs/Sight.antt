@@ -25,7 +25,8 @@ holder s c = option_and_then (λ level. slice_get level c.item) (slice_get s c.l
 abbrev pub name_at : Seen → ℕ → Option Name
 name_at o i = option_and_then (λ n. n) (slice_get o.columns i)
 
--- a column by the alias of its item and its own name; one that nothing in sight has, or that has no name, stays as it is
+-- a column by the alias of its item and its own name; one that nothing in sight has, or that has no
+-- name, stays as it is
 abbrev pub called : Name → Col → Option Name → Expr
 called alias c None = expr.Column c
 called alias c (Some n) = expr.Dotted alias n

@@ -18,7 +18,14 @@ use Rattle.away_names.specs.declared.note.Part.{Part}
 use Rattle.away_names.specs.declared.note.Origin.{Origin}
 use Rattle.away_names.specs.Lookups.{Name, Level}
 use Rattle.qualified_names.specs.Sight.{Sight}
-use Rattle.qualified_names.specs.Qualifying.{qualifying, with_part, no_part, listed, select_of, united}
+use Rattle.qualified_names.specs.Qualifying.{
+  qualifying,
+  with_part,
+  no_part,
+  listed,
+  select_of,
+  united,
+}
 
 unfoldable pub qualified_expr : Expr → Sight → Expr
 qualified_expr e = algebra.expr_of qualifying e

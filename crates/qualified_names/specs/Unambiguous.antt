@@ -1,6 +1,23 @@
--- A resolved query in which names are unambiguous: each column is read back at its place by the alias of its item and its own name, the aliases of a select
--- differ, and each table's name stands for the columns that its item lists.
-use Rattle.std.specs.Prelude.{◌≡◌, ℕ, ℤ, Bool, true, false, List, [], ◌∷◌, ◌++◌, map, Option, Some, None, is_some}
+-- A resolved query in which names are unambiguous: each column is read back at its place by the
+-- alias of its item and its own name, the aliases of a select differ, and each table's name stands
+-- for the columns that its item lists.
+use Rattle.std.specs.Prelude.{
+  ◌≡◌,
+  ℕ,
+  ℤ,
+  Bool,
+  true,
+  false,
+  List,
+  [],
+  ◌∷◌,
+  ◌++◌,
+  map,
+  Option,
+  Some,
+  None,
+  is_some,
+}
 use Rattle.away_values.specs.declared.types.Ty.{Ty}
 use Rattle.away_values.specs.declared.operators.ChainOp.{ChainOp}
 use Rattle.away_values.specs.declared.operators.CmpOp.{CmpOp}
@@ -16,7 +33,16 @@ use Rattle.away_trees.specs.declared.queries.Select.{Select}
 use Rattle.away_trees.specs.declared.queries.Recursive.{Recursive}
 use Rattle.away_trees.specs.declared.queries.Query.{Query}
 use Rattle.away_trees.specs.declared.schemas.Schema.{Schema}
-use Rattle.away_trees.specs.declared.queries.Expr.TheViews.{out-FromItem, out-Recursive, out-Query, roll-Item, roll-FromItem, roll-Key, roll-Select, roll-Query}
+use Rattle.away_trees.specs.declared.queries.Expr.TheViews.{
+  out-FromItem,
+  out-Recursive,
+  out-Query,
+  roll-Item,
+  roll-FromItem,
+  roll-Key,
+  roll-Select,
+  roll-Query,
+}
 use Rattle.away_names.specs.Functions.{function}
 use Rattle.away_names.specs.Lookups.{Name, Level, Scope, inside, column_qualified, has_double}
 use Rattle.away_names.specs.Naming.{before}
@@ -83,7 +109,8 @@ pub data IsClear : (n : Sort) → Scope → Tree n → Type 0 where
   no_value : {s : Scope} → IsClear values s []
   one_value : {s : Scope} {x : Expr} {es : List Expr} → IsClear value s x → IsClear values s es → IsClear values s (x ∷ es)
   no_link : {s : Scope} → IsClear links s []
-  one_link : {s : Scope} {x : Expr} {ls : List (ChainOp × Expr)} (op : ChainOp) → IsClear value s x → IsClear links s ls → IsClear links s ((op, x) ∷ ls)
+  one_link : {s : Scope} {x : Expr} {ls : List (ChainOp × Expr)} (op : ChainOp) → IsClear value s x
+      → IsClear links s ls → IsClear links s ((op, x) ∷ ls)
   no_arm : {s : Scope} → IsClear arms s []
   one_arm : {s : Scope} {x y : Expr} {as_ : List (Expr × Expr)}
       → IsClear value s x → IsClear value s y → IsClear arms s as_ → IsClear arms s ((x, y) ∷ as_)

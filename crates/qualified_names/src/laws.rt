@@ -21,14 +21,18 @@ pub fn worked_queries_have_names()
 
 /// Where names are unambiguous, a query with names again stands for the query by places that it was, and breaks no rule of names.
 pub fn what_is_named_again_is_read_as_it_was()
-    ensures query { (schema : Schema) (q : Query) → IsClearFile schema q → (file schema (qualified q)).query ≡ q }
-    ensures unbroken { (schema : Schema) (q : Query) → IsClearFile schema q → (file schema (qualified q)).note.least ≡ None }
+    ensures query { (schema : Schema) (q : Query) → IsClearFile schema q
+        → (file schema (qualified q)).query ≡ q }
+    ensures unbroken { (schema : Schema) (q : Query) → IsClearFile schema q
+        → (file schema (qualified q)).note.least ≡ None }
 {}
 
 /// A column that a name stands for, alone or behind an alias, is called by the alias of its item and that name, and is found by them again.
 pub fn what_is_found_is_found_by_its_alias()
-    ensures named { (n : Name) (s : Sight) (hit : Hit) → column_named n s ≡ Some hit → (a : Name) × (reference s hit.column ≡ expr.Dotted a n)
+    ensures named { (n : Name) (s : Sight) (hit : Hit) → column_named n s ≡ Some hit
+        → (a : Name) × (reference s hit.column ≡ expr.Dotted a n)
         × (column_qualified a n s ≡ Some (record { column = hit.column; many = false })) }
-    ensures qualified { (a n : Name) (s : Sight) (hit : Hit) → column_qualified a n s ≡ Some hit → (reference s hit.column ≡ expr.Dotted a n)
+    ensures qualified { (a n : Name) (s : Sight) (hit : Hit) → column_qualified a n s ≡ Some hit
+        → (reference s hit.column ≡ expr.Dotted a n)
         × (hit.many ≡ false) }
 {}

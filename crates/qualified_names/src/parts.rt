@@ -38,7 +38,11 @@ fn behind_first(names: &[Name]) -> &[Name]
 
 /// A table, whose list of columns has the digits of its place and then their names.
 pub(crate) fn table(alloc: Global, name: &Name, columns: &[Name]) -> Result<Origin, NoMemory>
-    ensures { IfOk result (λ o. o ≡ record { source = source.Table name.now; columns = []; names = plain_names (drop 1 columns.now) }) }
+    ensures { IfOk result (λ o. o ≡ record {
+      source = source.Table name.now;
+      columns = [];
+      names = plain_names (drop 1 columns.now);
+    }) }
 {
     let names = plain_names(alloc, behind_first(columns))?;
     Ok(Origin {

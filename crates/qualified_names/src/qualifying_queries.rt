@@ -54,7 +54,8 @@ fn qualified_with(
     r: &Option<Recursive>,
     s: &Sight<'_>,
 ) -> Result<Option<Recursive>, NoMemory>
-    ensures { IfOk result (λ x. x ≡ option_map (λ r. spec.qualified_recursive r (sight s.now)) r.now) }
+    ensures { IfOk result (λ x. x
+        ≡ option_map (λ r. spec.qualified_recursive r (sight s.now)) r.now) }
 {
     match r {
         None => Ok(None),
@@ -124,7 +125,8 @@ fn qualified_over(
     from: Items<FromItem>,
     s: &Sight<'_>,
 ) -> Result<Shown<Select>, NoMemory>
-    ensures { IfOk result (λ x. x ≡ spec.qualified_over (out-Select select.now) (sight s.now) from) }
+    ensures { IfOk result (λ x. x ≡ spec.qualified_over (out-Select select.now)
+        (sight s.now) from) }
 {
     let Shown { it: list, names } = qualified_items(alloc, select.list.as_slice(), s)?;
     let filter = qualified_maybe(alloc, &select.filter, s)?;
@@ -232,7 +234,8 @@ fn qualified_source(
     s: &Sight<'_>,
     level: &Items<Seen>,
 ) -> Result<Origin, NoMemory>
-    ensures { IfOk result (λ x. x ≡ spec.qualified_source source.now columns.now (sight s.now) level.now) }
+    ensures { IfOk result (λ x. x ≡ spec.qualified_source source.now columns.now
+        (sight s.now) level.now) }
 {
     match source {
         Source::Table(name) => table(alloc, name, columns),
@@ -252,7 +255,8 @@ fn qualified_beside(
     s: &Sight<'_>,
     level: &Items<Seen>,
 ) -> Result<Shown<Query>, NoMemory>
-    ensures { IfOk result (λ x. x ≡ spec.qualified_shown q.now (before lateral level.now ∷ sight s.now)) }
+    ensures { IfOk result (λ x. x
+        ≡ spec.qualified_shown q.now (before lateral level.now ∷ sight s.now)) }
 {
     let empty = Items::new(alloc);
     let levels = nested(alloc, before(lateral, level, &empty), s.levels)?;

@@ -1,5 +1,6 @@
--- Worked functions of type bigint without parameters, over the table t, and the least rule that each breaks: each rule broken once by a small text and
--- kept by its nearest neighbour, and the lesser of two that are broken at once.
+-- Worked functions of type bigint without parameters, over the table t, and the least rule that
+-- each breaks: each rule broken once by a small text and kept by its nearest neighbour, and the
+-- lesser of two that are broken at once.
 use Rattle.std.specs.Prelude.{ℕ, true, false, List, [], ◌∷◌, Option, Some, None, option_map, codes}
 use Rattle.away_values.specs.declared.types.Ty.TheVariants as ty
 use Rattle.away_trees.specs.declared.queries.Expr.{Expr}
@@ -12,7 +13,20 @@ use Rattle.away_names.specs.declared.rule.Rule.{Rule}
 use Rattle.away_names.specs.declared.rule.Rule.TheVariants as rule
 use Rattle.away_types.specs.declared.finding.Finding.{Finding}
 use Rattle.away_types.specs.FunctionChecks.{function_note}
-use Rattle.rule_tests.specs.Pieces.{Row, schema, n, named, k, t_k, called, count, sum_of, max_of, as_bigint, plus}
+use Rattle.rule_tests.specs.Pieces.{
+  Row,
+  schema,
+  n,
+  named,
+  k,
+  t_k,
+  called,
+  count,
+  sum_of,
+  max_of,
+  as_bigint,
+  plus,
+}
 use Rattle.rule_tests.specs.Pieces.{one, scalar, from, from_t, var, declared, block, loop, counting}
 
 abbrev pub of_body : Stmt → Function
@@ -154,7 +168,8 @@ nodes =
     -- RETURN TRUE before it breaks a greater rule
     ∷ (block [] (stmt.Return (expr.Bool true) ∷ return_y ∷ []), 2)
     ∷ (block [] (stmt.Return (expr.Bool true) ∷ return_1 ∷ stmt.Return (expr.Bool true) ∷ []), 1)
-    -- DECLARE x bigint; BEGIN IF TRUE THEN RETURN 1; ELSE RETURN y; END IF; END: a declaration, an arm and an ELSE are nodes
+    -- DECLARE x bigint; BEGIN IF TRUE THEN RETURN 1; ELSE RETURN y; END IF; END: a declaration, an
+    -- arm and an ELSE are nodes
     ∷ (block (var (codes "x") ty.Bigint ∷ []) (stmt.If (record { test = expr.Bool true; body = return_1 ∷ [] } ∷ []) (Some (return_y ∷ [])) ∷ []), 6)
     -- the test of the second arm is told by that arm
     ∷ (block [] (stmt.If (record { test = expr.Bool true; body = return_1 ∷ [] } ∷ record { test = n 1; body = [] } ∷ []) None ∷ []), 4)

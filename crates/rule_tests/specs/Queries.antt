@@ -12,8 +12,34 @@ use Rattle.away_names.specs.Schemas.{schema_note}
 use Rattle.away_names.specs.declared.rule.Rule.{Rule}
 use Rattle.away_names.specs.declared.rule.Rule.TheVariants as rule
 use Rattle.away_types.specs.CheckedQueries.{query_note}
-use Rattle.rule_tests.specs.Pieces.{Name, Row, schema, column, t, n, named, k, count, sum_of, as_bigint, null_text, plus, concat}
-use Rattle.rule_tests.specs.Pieces.{item, from, from_r, sub, select, query, one, from_t, ordered, with_recursive}
+use Rattle.rule_tests.specs.Pieces.{
+  Name,
+  Row,
+  schema,
+  column,
+  t,
+  n,
+  named,
+  k,
+  count,
+  sum_of,
+  as_bigint,
+  null_text,
+  plus,
+  concat,
+}
+use Rattle.rule_tests.specs.Pieces.{
+  item,
+  from,
+  from_r,
+  sub,
+  select,
+  query,
+  one,
+  from_t,
+  ordered,
+  with_recursive,
+}
 
 abbrev pub broken : Row Query → Option Rule
 broken row = (query_note schema row.0).least
@@ -96,7 +122,12 @@ recursions =
     -- the first term does
     ∷ (of_terms (codes "i" ∷ []) (of_r r_i) (of_r r_i), Some rule.Recursion)
     -- twice
-    ∷ (of_terms (codes "i" ∷ []) one_row (select (r_i ∷ []) (from (codes "r") ∷ sub false (codes "u") [] (query (of_r (n 1) ∷ [])) ∷ [])), Some rule.Recursion)
+    ∷ (
+      of_terms (codes "i" ∷ []) one_row
+          (select (r_i ∷ []) (from (codes "r") ∷ sub false (codes "u") [] (query (of_r (n 1) ∷ []))
+          ∷ [])),
+      Some rule.Recursion,
+    )
     -- two names for one column, and one name twice
     ∷ (of_terms (codes "i" ∷ codes "j" ∷ []) one_row (of_r r_i), Some rule.Recursion)
     ∷ (of_terms (codes "i" ∷ codes "i" ∷ []) (select (n 1 ∷ n 2 ∷ []) []) (select (n 1 ∷ n 2 ∷ []) from_r), Some rule.Duplicates)
@@ -113,7 +144,16 @@ abbrev pub schemas : List (Row Schema)
 schemas =
     (record { tables = t ∷ t ∷ [] }, Some rule.Duplicates)
     ∷ (schema, None)
-    ∷ (record { tables = record { name = codes "t"; columns = column (codes "k") ty.Bigint ∷ column (codes "k") ty.Text ∷ [] } ∷ [] }, Some rule.Duplicates)
+    ∷ (
+      record {
+        tables = record {
+          name = codes "t";
+          columns = column (codes "k") ty.Bigint
+              ∷ column (codes "k") ty.Text ∷ [];
+        } ∷ [];
+      },
+      Some rule.Duplicates,
+    )
     ∷ (record { tables = record { name = codes "away_t"; columns = column (codes "k") ty.Bigint ∷ [] } ∷ [] }, Some rule.Reserved)
     ∷ []
 

@@ -1,4 +1,5 @@
--- What a query breaks beside what it breaks where all of its rows are asked for: the rule on answers.
+-- What a query breaks beside what it breaks where all of its rows are asked for: the rule on
+-- answers.
 use Rattle.std.specs.Prelude.{not, Option, Some, None, if◌then◌else◌}
 use Rattle.away_names.specs.declared.rule.Rule.{Rule}
 use Rattle.away_names.specs.declared.rule.Rule.TheVariants as rule

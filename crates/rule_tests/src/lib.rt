@@ -1,5 +1,5 @@
-//! Trees that are copied, queries and schemas that are judged by the rules, and cases of the demonstration. A crate of its own, so that they load what they
-//! look at and prove none of it again.
+//! Trees that are copied, queries and schemas that are judged by the rules, and cases of the demonstration. A crate of its own, so that they load
+//! what they look at and prove none of it again.
 #![tactic(auto)]
 
 #[cfg(test)]

@@ -20,10 +20,12 @@ pub fn the_first_statement_is_told()
 /// The same of the rules on queries.
 pub fn queries_break_their_rules()
     ensures selects { map queries.broken queries.selects ≡ map queries.wanted queries.selects }
-    ensures recursions { map queries.broken queries.recursions ≡ map queries.wanted queries.recursions }
+    ensures recursions { map queries.broken queries.recursions
+        ≡ map queries.wanted queries.recursions }
 {}
 
 /// The same of the rules on schemas.
 pub fn schemas_break_their_rules()
-    ensures { map queries.schema_broken queries.schemas ≡ map queries.schema_wanted queries.schemas }
+    ensures { map queries.schema_broken queries.schemas
+        ≡ map queries.schema_wanted queries.schemas }
 {}

@@ -1,5 +1,22 @@
 -- The rows of a recursive table that the condition of a query's only select keeps.
-use Rattle.std.specs.Prelude.{◌≡◌, ℕ, Bool, true, false, ◌==◌, ◌&&◌, List, [], ◌∷◌, ◌++◌, Option, Some, None, Ok, Err}
+use Rattle.std.specs.Prelude.{
+  ◌≡◌,
+  ℕ,
+  Bool,
+  true,
+  false,
+  ◌==◌,
+  ◌&&◌,
+  List,
+  [],
+  ◌∷◌,
+  ◌++◌,
+  Option,
+  Some,
+  None,
+  Ok,
+  Err,
+}
 use Rattle.away_values.specs.declared.values.Class.{Class}
 use Rattle.away_values.specs.declared.values.Value.{Value}
 use Rattle.away_trees.specs.declared.queries.Expr.{Expr}
@@ -34,7 +51,9 @@ stands_alone n _ = false
 
 -- its FROM is the table at place n alone, and all else in it reads only tables before that one
 unfoldable pub is_suited : ℕ → Select → Bool
-is_suited n s = stands_alone n (out-Select s).from && (all_items n (out-Select s).list && (optional_within n (out-Select s).filter && (all_keys n (out-Select s).order && optional_within n (out-Select s).limit)))
+is_suited n s = stands_alone n (out-Select s).from &&
+    (all_items n (out-Select s).list && (optional_within n (out-Select s).filter &&
+    (all_keys n (out-Select s).order && optional_within n (out-Select s).limit)))
 
 -- a query has one select, which is suited and has this condition
 pub record IsFilter (q : Query) (n : ℕ) (e : Expr) : Type 0 where

@@ -1,5 +1,21 @@
 -- The least bound at which a query has an answer.
-use Rattle.std.specs.Prelude.{◌≡◌, ◌≢◌, ℕ, zero, suc, ◌≤◌, ◌<◌, List, [], ◌∷◌, Option, Some, None, Ok, Err}
+use Rattle.std.specs.Prelude.{
+  ◌≡◌,
+  ◌≢◌,
+  ℕ,
+  zero,
+  suc,
+  ◌≤◌,
+  ◌<◌,
+  List,
+  [],
+  ◌∷◌,
+  Option,
+  Some,
+  None,
+  Ok,
+  Err,
+}
 use Rattle.away_values.specs.declared.values.Value.{Value}
 use Rattle.away_values.specs.declared.values.Answer.TheVariants as answer
 use Rattle.away_trees.specs.declared.queries.Query.{Query}
@@ -20,8 +36,8 @@ abbrev pub IsLength : Query → List Rows → List Value → ℕ → Option ℕ 
 IsLength q tables args bound None = sql q tables args bound ≡ answer.More
 IsLength q tables args bound (Some k) = IsLeastBound q tables args bound k
 
--- how many working tables follow the first one up to one that is empty or faults, where `used` have done so and
--- at most `left` more may
+-- how many working tables follow the first one up to one that is empty or faults, where `used` have
+-- done so and at most `left` more may
 unfoldable pub ended_after : (Rows → Or Rows) → ℕ → ℕ → Or Rows → Option ℕ
 ended_after step left used (Err c) = Some used
 ended_after step left used (Ok []) = Some used

@@ -8,9 +8,26 @@ use Rattle.away_trees.specs.declared.queries.Item.{Item}
 use Rattle.away_trees.specs.declared.queries.Key.{Key}
 use Rattle.away_trees.specs.declared.queries.Query.{Query}
 use Rattle.away_trees.specs.declared.queries.Select.{Select}
-use Rattle.away_trees.specs.declared.queries.Expr.TheOpen.{Expr-F, Source-F, FromItem-F, Item-F, Key-F, Select-F, Recursive-F, Query-F}
+use Rattle.away_trees.specs.declared.queries.Expr.TheOpen.{
+  Expr-F,
+  Source-F,
+  FromItem-F,
+  Item-F,
+  Key-F,
+  Select-F,
+  Recursive-F,
+  Query-F,
+}
 use Rattle.away_trees.specs.declared.queries.Expr.TheOpen as ex
-use Rattle.away_trees.specs.Algebra.{Algebra, expr_of, item_of, key_of, from_of, select_of, query_of}
+use Rattle.away_trees.specs.Algebra.{
+  Algebra,
+  expr_of,
+  item_of,
+  key_of,
+  from_of,
+  select_of,
+  query_of,
+}
 use Rattle.sql_meaning.specs.Selects.{place_of}
 
 -- a source, by its item's list of columns

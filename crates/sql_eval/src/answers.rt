@@ -23,7 +23,8 @@ pub fn rows(
     args: &[Value],
     bound: u64,
 ) -> Result<Option<Items<Items<Value>>>, OpError>
-    ensures { Answers (turned (rows_of_query_at q.now (rows_of_tables tables.now.list) args.now bound)) result }
+    ensures { Answers (turned
+        (rows_of_query_at q.now (rows_of_tables tables.now.list) args.now bound)) result }
 {
     rows_at(alloc, q, tables, args, bound)
 }

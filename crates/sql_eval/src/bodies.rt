@@ -35,7 +35,8 @@ pub fn rows_in_body(
     env: &[Value],
     tables: &Tables,
 ) -> Result<Items<Items<Value>>, OpError>
-    ensures { Answers (rows_of_select s.now (body (rows_of_tables tables.now.list) env.now)) result }
+    ensures { Answers (rows_of_select s.now
+        (body (rows_of_tables tables.now.list) env.now)) result }
 {
     let scope = Scope::at(env, &[], &[], tables.list.as_slice());
     select(alloc, s, &scope)

@@ -30,7 +30,8 @@ pub fn eval_expr(
     frames: &Frames,
     tables: &Tables,
 ) -> Result<Value, OpError>
-    ensures { Answers (value e.now (context env.now args.now frames.now.levels tables.now.list)) result }
+    ensures { Answers (value e.now
+        (context env.now args.now frames.now.levels tables.now.list)) result }
 {
     let levels = lend_levels(alloc, frames.levels.as_slice())?;
     eval_levels(alloc, e, env, args, levels, tables.list.as_slice())

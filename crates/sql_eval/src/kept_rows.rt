@@ -47,7 +47,8 @@ fn flags_at<'a>(
     tables: &'a [Table],
     args: &'a [Value],
 ) -> Result<Items<Value>, OpError>
-    ensures { Gives (each_of (value_at (outermost (rows_of_tables tables.now) args.now) test.now) frames.now) result }
+    ensures { Gives (each_of (value_at
+        (outermost (rows_of_tables tables.now) args.now) test.now) frames.now) result }
 {
     let scope = Scope::outermost(tables, None, args);
     let outside = scope.outside(&[]);
@@ -68,7 +69,8 @@ fn flags_over<'a>(
     tables: &'a [Table],
     args: &'a [Value],
 ) -> Result<Items<Value>, OpError>
-    ensures { Gives (each_of (value_at (outermost (rows_of_tables tables.now) args.now) test.now) frames.entry) result }
+    ensures { Gives (each_of (value_at
+        (outermost (rows_of_tables tables.now) args.now) test.now) frames.entry) result }
 {
     flags_at(alloc, test, frames.as_slice(), tables, args)
 }
@@ -82,7 +84,8 @@ fn flags_of<'a>(
     tables: &'a [Table],
     args: &'a [Value],
 ) -> Result<Items<Value>, OpError>
-    ensures { Gives (each_of (row_test test.now (rows_of_tables tables.now) args.now) rows.now) result }
+    ensures { Gives (each_of (row_test test.now
+        (rows_of_tables tables.now) args.now) rows.now) result }
 {
     let lent = lent_rows(alloc, rows)?;
     let frames = beside_rows(alloc, &[], lent.as_slice())?;
@@ -101,7 +104,8 @@ fn keep_further(
     held: Option<Class>,
 ) -> Result<Option<Class>, NoMemory>
     ensures { IfOk result (λ h. held_or h kept.new.list
-        ≡ kept_further test.now (rows_of_tables tables.now) args.now (held_or held kept.old.list) now.now.list) }
+        ≡ kept_further test.now (rows_of_tables tables.now) args.now
+        (held_or held kept.old.list) now.now.list) }
 {
     if let Some(class) = held {
         return Ok(Some(class));

@@ -35,7 +35,8 @@ fn recursive_length(
     args: &[Value],
     bound: u64,
 ) -> Result<Option<u64>, NoMemory>
-    ensures { IfOk result (λ k. k ≡ length_within r.now (rows_of_tables tables.now) args.now bound) }
+    ensures { IfOk result (λ k. k
+        ≡ length_within r.now (rows_of_tables tables.now) args.now bound) }
 {
     let mut now = match first_term(alloc, r, tables, args) {
         Ok(rows) => rows,

@@ -28,7 +28,8 @@ pub fn run_rows(
     args: &[Value],
     bound: u64,
 ) -> Result<RowsAnswer, NoMemory>
-    ensures { IfOk result (λ a. a ≡ rows_answered (rows_of_query_at q.now (rows_of_tables tables.now.list) args.now bound)) }
+    ensures { IfOk result (λ a. a ≡ rows_answered
+        (rows_of_query_at q.now (rows_of_tables tables.now.list) args.now bound)) }
 {
     match rows_at(alloc, q, tables, args, bound) {
         Ok(None) => Ok(RowsAnswer::More),

@@ -31,7 +31,8 @@ pub(crate) fn place(columns: &[Name]) -> Option<usize>
 
 #[tactic(auto, using(crate::proofs::Digits::digit_rules))]
 fn number(digits: &[u8]) -> Option<usize>
-    ensures { MatchOption result (2 ^ 64 ≤ digits_value 10 digits.now) (λ n. n ≡ digits_value 10 digits.now) }
+    ensures { MatchOption result (2 ^ 64 ≤ digits_value 10 digits.now)
+        (λ n. n ≡ digits_value 10 digits.now) }
 {
     let mut n: usize = 0;
     for d in digits {

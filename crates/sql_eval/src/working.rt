@@ -24,7 +24,8 @@ pub(crate) fn first_term<'a>(
     tables: &'a [Table],
     args: &'a [Value],
 ) -> Result<Items<Items<Value>>, OpError>
-    ensures { Gives (joined_of (select_rows (outermost (rows_of_tables tables.now) args.now)) (out-Recursive r.now).first) result }
+    ensures { Gives (joined_of (select_rows (outermost (rows_of_tables tables.now) args.now))
+        (out-Recursive r.now).first) result }
 {
     let scope = Scope::outermost(tables, None, args);
     union(alloc, r.first.as_slice(), &scope)
@@ -38,7 +39,9 @@ pub(crate) fn second_term<'a>(
     now: &'a [Items<Value>],
     args: &'a [Value],
 ) -> Result<Items<Items<Value>>, OpError>
-    ensures { Gives (select_rows (outermost (with_table (rows_of_tables tables.now) now.now) args.now) (out-Recursive r.now).second) result }
+    ensures { Gives (select_rows
+        (outermost (with_table (rows_of_tables tables.now) now.now) args.now)
+        (out-Recursive r.now).second) result }
 {
     let scope = Scope::outermost(tables, Some(now), args);
     select(alloc, &r.second, &scope)
@@ -78,7 +81,8 @@ fn over_table<'a>(
     table: Option<&'a [Items<Value>]>,
     args: &'a [Value],
 ) -> Result<Items<Items<Value>>, OpError>
-    ensures { Gives (query_rows (outermost (tables_of tables.now table.entry) args.now) q.now) result }
+    ensures { Gives (query_rows
+        (outermost (tables_of tables.now table.entry) args.now) q.now) result }
 {
     let scope = Scope::outermost(tables, table, args);
     query(alloc, q, &scope)
@@ -132,7 +136,8 @@ fn rows_over_kept(
     args: &[Value],
     bound: u64,
 ) -> Result<Option<Items<Items<Value>>>, OpError>
-    ensures { Gives (over_kept q.now test.now r.now (rows_of_tables tables.now) args.now bound) result }
+    ensures { Gives (over_kept q.now test.now r.now
+        (rows_of_tables tables.now) args.now bound) result }
 {
     let found = kept_rows(alloc, r, test, tables, args, bound)?;
     rows_of_found(alloc, q, tables, found, args)

@@ -12,8 +12,9 @@ Rows = List (List Value)
 abbrev pub Frame : Type 0
 Frame = List (List Value)
 
--- The variables of the function, the parameters of the query, the row of FROM of each enclosing select (the innermost first), the rows of the
--- tables by their places, and the rows that aggregates go over.
+-- The variables of the function, the parameters of the query, the row of FROM of each enclosing
+-- select (the innermost first), the rows of the tables by their places, and the rows that
+-- aggregates go over.
 pub record Context : Type 0 where
   pub env : List Value
   pub args : List Value
@@ -38,7 +39,8 @@ argument args (suc i) = at args i
 abbrev pub inside : Frame → Context → Context
 inside frame cx = record cx { frames = frame ∷ cx.frames; group = [] }
 
--- in the list of a select with aggregates: no row of its own FROM is seen there, and the aggregates go over the rows that WHERE kept
+-- in the list of a select with aggregates: no row of its own FROM is seen there, and the aggregates
+-- go over the rows that WHERE kept
 abbrev pub over : List Frame → Context → Context
 over rows cx = record cx { frames = [] ∷ cx.frames; group = rows }
 

@@ -6,7 +6,8 @@ use Rattle.away_values.specs.declared.values.Value.TheVariants as val
 use Rattle.away_values.specs.declared.operators.CmpOp.TheVariants as cmp
 use Rattle.away_values.specs.Operators.{compare, conjunction, is_true, is_null}
 
--- true where a comparison is true, otherwise NULL where one is NULL, otherwise false (PostgreSQL manual, Row and Array Comparisons)
+-- true where a comparison is true, otherwise NULL where one is NULL, otherwise false (PostgreSQL
+-- manual, Row and Array Comparisons)
 abbrev pub is_among : Value → List Value → Value
 is_among v ws =
     if list_any (λ w. is_true (compare cmp.Eq v w)) ws then val.Bool true

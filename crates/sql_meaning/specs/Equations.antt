@@ -1,4 +1,5 @@
--- Words for the equations of the meaning: what stands in a struct of the trees, and the meanings of its parts.
+-- Words for the equations of the meaning: what stands in a struct of the trees, and the meanings of
+-- its parts.
 use Rattle.std.specs.Prelude.{ℕ, List, map, Option, option_map, not, filter}
 use Rattle.away_values.specs.declared.values.Value.{Value}
 use Rattle.away_trees.specs.declared.queries.Expr.{Expr}

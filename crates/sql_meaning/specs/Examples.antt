@@ -1,5 +1,21 @@
 -- Small trees, written out, whose meanings the checker computes.
-use Rattle.std.specs.Prelude.{ℕ, Bool, false, ℤ, pos, negsuc, List, [], ◌∷◌, map, Option, Some, None, codes, Err}
+use Rattle.std.specs.Prelude.{
+  ℕ,
+  Bool,
+  false,
+  ℤ,
+  pos,
+  negsuc,
+  List,
+  [],
+  ◌∷◌,
+  map,
+  Option,
+  Some,
+  None,
+  codes,
+  Err,
+}
 use Rattle.away_values.specs.declared.types.Ty.TheVariants as ty
 use Rattle.away_values.specs.declared.values.Value.{Value}
 use Rattle.away_values.specs.declared.values.Value.TheVariants as val
@@ -11,7 +27,12 @@ use Rattle.away_trees.specs.declared.queries.Expr.{Expr}
 use Rattle.away_trees.specs.declared.queries.Expr.TheVariants as expr
 use Rattle.away_trees.specs.declared.queries.FromItem.{FromItem}
 use Rattle.away_trees.specs.declared.queries.Query.{Query}
-use Rattle.away_trees.specs.declared.queries.Expr.TheViews.{roll-Key, roll-Select, roll-Recursive, roll-Query}
+use Rattle.away_trees.specs.declared.queries.Expr.TheViews.{
+  roll-Key,
+  roll-Select,
+  roll-Recursive,
+  roll-Query,
+}
 use Rattle.away_values.specs.Results.{Or, class}
 use Rattle.sql_meaning.specs.Context.{Rows, outermost}
 use Rattle.sql_meaning.specs.Meaning.{value, rows_of_query}
@@ -97,7 +118,8 @@ first_path =
     query_with (48 ∷ []) (ty.Bigint ∷ ty.Bigint
     ∷ []) ty.Bigint (placed_at ty.Bigint slot_at (chain_of (expr.Slot 0) (chain.Int op.Add) (chain_of (expr.Slot 1) (chain.Int op.Mul) (n 2))))
 
--- WITH RECURSIVE t(i) AS (SELECT first UNION ALL SELECT next FROM t WHERE t.i < 5) SELECT CAST(sum(t.i) AS bigint), CAST(NULL AS text) FROM t
+-- WITH RECURSIVE t(i) AS (SELECT first UNION ALL SELECT next FROM t WHERE t.i < 5) SELECT
+-- CAST(sum(t.i) AS bigint), CAST(NULL AS text) FROM t
 abbrev pub recursive : Expr → Expr → Query
 recursive first next =
     roll-Query (record {
@@ -145,7 +167,8 @@ exists filter = expr.Exists (whole (by_zero ∷ []) filter [] None)
 abbrev pub summed : Query
 summed = whole (expr.Cast (call (codes "sum") (col 0 0 0)) ty.Bigint ∷ []) None [] None
 
--- SELECT count(*), count(t.k), min(t.k), max(t.k), CAST(sum(t.k) AS bigint), bool_and(t.k > 2), bool_or(t.k > 2) FROM t
+-- SELECT count(*), count(t.k), min(t.k), max(t.k), CAST(sum(t.k) AS bigint), bool_and(t.k > 2),
+-- bool_or(t.k > 2) FROM t
 abbrev pub aggregated : Query
 aggregated =
     let big : Expr = expr.Compare cmp.Gt (col 0 0 0) (n 2) in

@@ -1,5 +1,22 @@
 -- What an expression means, by the meanings of its parts.
-use Rattle.std.specs.Prelude.{ℕ, Bool, true, false, not, ◌||◌, if◌then◌else◌, pos, List, map, length, filter, Option, Some, None, Ok}
+use Rattle.std.specs.Prelude.{
+  ℕ,
+  Bool,
+  true,
+  false,
+  not,
+  ◌||◌,
+  if◌then◌else◌,
+  pos,
+  List,
+  map,
+  length,
+  filter,
+  Option,
+  Some,
+  None,
+  Ok,
+}
 use Rattle.std.specs.List.{list_any}
 use Rattle.away_values.specs.declared.values.Value.{Value}
 use Rattle.away_values.specs.declared.values.Value.TheVariants as val
@@ -7,12 +24,29 @@ use Rattle.away_values.specs.declared.operators.ChainOp.{ChainOp}
 use Rattle.away_trees.specs.declared.queries.Expr.TheOpen.{Expr-F}
 use Rattle.away_trees.specs.declared.queries.Expr.TheOpen as ex
 use Rattle.away_values.specs.Results.{Or, and_then, mapped, each, each_joined}
-use Rattle.away_values.specs.Operators.{negated, small, compare, is_null, negation, negation_if, passes, cast}
+use Rattle.away_values.specs.Operators.{
+  negated,
+  small,
+  compare,
+  is_null,
+  negation,
+  negation_if,
+  passes,
+  cast,
+}
 use Rattle.sql_meaning.specs.Context.{Rows, Frame, Context, at, column, argument, at_row}
 use Rattle.sql_meaning.specs.Parts.{chained, between, among, chosen, first_known, only, has_row}
-use Rattle.sql_meaning.specs.Functions.{Function, Coalesce, function, is_aggregate, aggregate, scalar}
+use Rattle.sql_meaning.specs.Functions.{
+  Function,
+  Coalesce,
+  function,
+  is_aggregate,
+  aggregate,
+  scalar,
+}
 
--- An expression: whether an aggregate stands in it outside its subqueries, and its value or its fault where it stands.
+-- An expression: whether an aggregate stands in it outside its subqueries, and its value or its
+-- fault where it stands.
 pub record ExprMeaning : Type 0 where
   pub aggregates : Bool
   pub value : Context → Or Value
@@ -73,13 +107,14 @@ other_aggregates (Some e) = e.aggregates
 
 -- ---- calls
 
--- An aggregate: its argument at each row of the group in their order, and then over the values that aren't NULL. (PostgreSQL manual, Aggregate
--- Expressions.)
+-- An aggregate: its argument at each row of the group in their order, and then over the values that
+-- aren't NULL. (PostgreSQL manual, Aggregate Expressions.)
 abbrev pub over_group : Function → List ExprMeaning → Context → Or Value
 over_group f es cx =
     and_then (each_joined (λ frame. values (at_row frame cx) es) cx.group) (λ vs. aggregate f (filter (λ v. not (is_null v)) vs))
 
--- COALESCE stops at its first value that isn't NULL; the other functions take all values, from left to right.
+-- COALESCE stops at its first value that isn't NULL; the other functions take all values, from left
+-- to right.
 abbrev pub called : Function → List ExprMeaning → Context → Or Value
 called Coalesce es cx = first_known (answers cx es)
 called f es cx = if is_aggregate f then over_group f es cx else and_then (values cx es) (scalar f)
@@ -93,8 +128,9 @@ ExprLayer = Expr-F ExprMeaning SourceMeaning FromMeaning ExprMeaning KeyMeaning 
 abbrev pub constant : Value → ExprMeaning
 constant v = record { aggregates = false; value = λ cx. Ok v }
 
--- The value of an expression: its operands from left to right, where the first fault is the result. Names stand in no checked tree. (PostgreSQL
--- manual, Value Expressions, and the sections named above. The order is our own: the manual leaves it open.)
+-- The value of an expression: its operands from left to right, where the first fault is the result.
+-- Names stand in no checked tree. (PostgreSQL manual, Value Expressions, and the sections named
+-- above. The order is our own: the manual leaves it open.)
 abbrev pub expr_meaning : ExprLayer → ExprMeaning
 expr_meaning (ex.Int n) = constant (val.Int n)
 expr_meaning (ex.Str t) = constant (val.Text t)
@@ -111,7 +147,11 @@ expr_meaning (ex.Not e) = record { aggregates = e.aggregates; value = λ cx. map
 expr_meaning (ex.Is e test negative) =
     record { aggregates = e.aggregates; value = λ cx. mapped (λ v. negation_if negative (val.Bool (passes test v))) (e.value cx) }
 expr_meaning (ex.Chain e links) =
-    record { aggregates = e.aggregates || list_any (λ l. l.1.aggregates) links; value = λ cx. and_then (e.value cx) (chained (link_answers cx links)) }
+    record {
+      aggregates = e.aggregates || list_any (λ l. l.1.aggregates) links;
+      value = λ cx.
+          and_then (e.value cx) (chained (link_answers cx links));
+    }
 expr_meaning (ex.Compare op a b) =
     record { aggregates = a.aggregates || b.aggregates; value = λ cx. and_then (a.value cx) (λ v. mapped (compare op v) (b.value cx)) }
 expr_meaning (ex.Between negative e low high) =

@@ -1,5 +1,21 @@
 -- The functions and the aggregates that a call may name.
-use Rattle.std.specs.Prelude.{ℕ, Bool, true, false, if◌then◌else◌, pos, ◌+ℤ◌, List, [], ◌∷◌, length, fold, Ok, codes, bytes_eq}
+use Rattle.std.specs.Prelude.{
+  ℕ,
+  Bool,
+  true,
+  false,
+  if◌then◌else◌,
+  pos,
+  ◌+ℤ◌,
+  List,
+  [],
+  ◌∷◌,
+  length,
+  fold,
+  Ok,
+  codes,
+  bytes_eq,
+}
 use Rattle.std.specs.List.{list_any, list_all}
 use Rattle.away_values.specs.declared.values.Value.{Value}
 use Rattle.away_values.specs.declared.values.Value.TheVariants as val
@@ -41,9 +57,10 @@ abbrev pub in_range : Value → Or Value
 in_range (val.Int n) = ranged n
 in_range v = Ok v
 
--- Over the values that aren't NULL: their number, the least, the greatest, the sum, whether all are true, whether one is. All but the number
--- are NULL over no value. (PostgreSQL manual, Aggregate Functions. That a sum which leaves 64 bits on the way and comes back is no fault, and that
--- its type is bigint, are our own.)
+-- Over the values that aren't NULL: their number, the least, the greatest, the sum, whether all are
+-- true, whether one is. All but the number are NULL over no value. (PostgreSQL manual, Aggregate
+-- Functions. That a sum which leaves 64 bits on the way and comes back is no fault, and that its
+-- type is bigint, are our own.)
 abbrev pub aggregate : Function → List Value → Or Value
 aggregate Count vs = Ok (val.Int (pos (length vs)))
 aggregate Min vs = Ok (fold (extreme false) val.Null vs)
@@ -55,8 +72,8 @@ aggregate BoolOr [] = Ok val.Null
 aggregate BoolOr (v ∷ vs) = Ok (val.Bool (list_any is_true (v ∷ vs)))
 aggregate _ vs = Ok val.Null
 
--- Of values that are all there: `length`, `substr`, GREATEST and LEAST. (PostgreSQL manual, String Functions and Operators; Conditional
--- Expressions.)
+-- Of values that are all there: `length`, `substr`, GREATEST and LEAST. (PostgreSQL manual, String
+-- Functions and Operators; Conditional Expressions.)
 abbrev pub scalar : Function → List Value → Or Value
 scalar Length vs = Ok (length_of (at vs 0))
 scalar Substr vs = substr (at vs 0) (at vs 1) (at vs 2)

@@ -1,5 +1,20 @@
--- What a call gives whose meaning is known, and the meanings of the parts of a node, as words that proofs look into by their equations alone.
-use Rattle.std.specs.Prelude.{Bool, false, if◌then◌else◌, List, [], ◌∷◌, ◌++◌, map, Option, Some, None, Ok, Result}
+-- What a call gives whose meaning is known, and the meanings of the parts of a node, as words that
+-- proofs look into by their equations alone.
+use Rattle.std.specs.Prelude.{
+  Bool,
+  false,
+  if◌then◌else◌,
+  List,
+  [],
+  ◌∷◌,
+  ◌++◌,
+  map,
+  Option,
+  Some,
+  None,
+  Ok,
+  Result,
+}
 use Rattle.away_values.specs.declared.values.Value.{Value}
 use Rattle.away_values.specs.declared.values.Value.TheVariants as val
 use Rattle.away_values.specs.declared.errors.OpError.{OpError}

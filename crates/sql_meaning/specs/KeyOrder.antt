@@ -1,5 +1,6 @@
--- A total order of all values: NULL last, else by kind, numbers, truth values (false first), texts by code point. On the
--- values of one type it is the order of the operators. (PostgreSQL manual, Sorting Rows. That values of several types are in an order too is our own.)
+-- A total order of all values: NULL last, else by kind, numbers, truth values (false first), texts
+-- by code point. On the values of one type it is the order of the operators. (PostgreSQL manual,
+-- Sorting Rows. That values of several types are in an order too is our own.)
 use Rattle.std.specs.Prelude.{ℕ, ℤ, pos, Bool, true, false, not, ◌&&◌, ◌||◌, List, [], ◌∷◌, drop}
 use Rattle.std.specs.Ordering.{nat_cmp, int_cmp, ordering_then}
 use Rattle.std.specs.Cmp.Lexicographic.{slice_cmp}
@@ -44,7 +45,8 @@ abbrev pub keys_cmp : List Bool → List Value → List Value → Ordering
 keys_cmp [] as_ bs = Equal
 keys_cmp (d ∷ ds) as_ bs = ordering_then (directed d (at as_ 0) (at bs 0)) (keys_cmp ds (drop 1 as_) (drop 1 bs))
 
--- what the manual says of two values of one type: NULL comes last where ascending and first where descending (PostgreSQL manual, Sorting Rows)
+-- what the manual says of two values of one type: NULL comes last where ascending and first where
+-- descending (PostgreSQL manual, Sorting Rows)
 abbrev pub precedes : Bool → Value → Value → Bool
 precedes false a b = less a b || (not (is_null a) && is_null b)
 precedes true a b = less b a || (is_null a && not (is_null b))

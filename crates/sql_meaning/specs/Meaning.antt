@@ -1,4 +1,5 @@
--- What trees mean: the value of an expression, the rows of a FROM item, of a select and of a query's selects.
+-- What trees mean: the value of an expression, the rows of a FROM item, of a select and of a
+-- query's selects.
 use Rattle.std.specs.Prelude.{Bool, [], None, Ok}
 use Rattle.away_values.specs.declared.values.Value.{Value}
 use Rattle.away_values.specs.declared.values.Value.TheVariants as val
@@ -9,8 +10,26 @@ use Rattle.away_trees.specs.declared.queries.Query.{Query}
 use Rattle.away_values.specs.Results.{Or}
 use Rattle.away_trees.specs.Algebra.{Algebra, expr_of, from_of, select_of, query_of}
 use Rattle.sql_meaning.specs.Context.{Rows, Frame, Context}
-use Rattle.sql_meaning.specs.Expressions.{ExprMeaning, SourceMeaning, FromMeaning, SelectMeaning, KeyMeaning, RecursiveMeaning, QueryMeaning, constant, expr_meaning}
-use Rattle.sql_meaning.specs.Selects.{source_meaning, from_meaning, item_meaning, key_meaning, select_meaning, recursive_meaning, query_meaning}
+use Rattle.sql_meaning.specs.Expressions.{
+  ExprMeaning,
+  SourceMeaning,
+  FromMeaning,
+  SelectMeaning,
+  KeyMeaning,
+  RecursiveMeaning,
+  QueryMeaning,
+  constant,
+  expr_meaning,
+}
+use Rattle.sql_meaning.specs.Selects.{
+  source_meaning,
+  from_meaning,
+  item_meaning,
+  key_meaning,
+  select_meaning,
+  recursive_meaning,
+  query_meaning,
+}
 
 -- the recursion over the trees, with one step for each kind of node
 abbrev pub meaning : Algebra

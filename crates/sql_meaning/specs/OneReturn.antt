@@ -1,4 +1,5 @@
--- A function whose body is one RETURN, and that every query which is its template but for names is equivalent to it.
+-- A function whose body is one RETURN, and that every query which is its template but for names is
+-- equivalent to it.
 use Rattle.std.specs.Prelude.{◌≡◌, ℕ, ◌^◌, ◌<◌, true, false, List, [], length, nat_lt, Ok, Err}
 use Rattle.away_values.specs.declared.types.Ty.{Ty}
 use Rattle.away_values.specs.declared.values.Value.{Value}
@@ -23,13 +24,13 @@ abbrev pub returned : Or Value → Answer
 returned (Ok v) = answer.Value v
 returned (Err c) = answer.Fault c
 
--- The value of the expression over the arguments, or its fault. It has no loop, so that any number of turns serves. (PostgreSQL manual, PL/pgSQL:
--- RETURN.)
+-- The value of the expression over the arguments, or its fault. It has no loop, so that any number
+-- of turns serves. (PostgreSQL manual, PL/pgSQL: RETURN.)
 abbrev pub answer_of_return : Expr → FunctionAnswer
 answer_of_return e tables args turns = returned (value e (body tables args))
 
--- An expression of a function over so many tables: it reads the function's parameters and those tables, and no aggregate stands outside a
--- select's list.
+-- An expression of a function over so many tables: it reads the function's parameters and those
+-- tables, and no aggregate stands outside a select's list.
 pub record IsSource (tables params : ℕ) (e : Expr) : Type 0 where
   pub reads_own : fits (λ i. nat_lt i params) 0 tables e ≡ true
   pub single : has_aggregate e ≡ false

@@ -1,5 +1,21 @@
 -- What it is that rows stand in an order which keeps ties as they were.
-use Rattle.std.specs.Prelude.{◌≡◌, ℕ, Bool, true, false, not, ◌&&◌, List, [], ◌∷◌, map, filter, length, zip, Ok}
+use Rattle.std.specs.Prelude.{
+  ◌≡◌,
+  ℕ,
+  Bool,
+  true,
+  false,
+  not,
+  ◌&&◌,
+  List,
+  [],
+  ◌∷◌,
+  map,
+  filter,
+  length,
+  zip,
+  Ok,
+}
 use Rattle.std.specs.List.{AllByRecursion}
 use Rattle.away_values.specs.declared.values.Value.{Value}
 use Rattle.away_values.specs.Results.{Or, each, mapped}
@@ -15,7 +31,8 @@ Keyed = List Value × List Value
 abbrev pub Before : Type 0
 Before = List Value → List Value → Bool
 
--- no two come before each other, and what comes before neither of two that are in order doesn't come between
+-- no two come before each other, and what comes before neither of two that are in order doesn't
+-- come between
 pub record IsOrder (before : Before) : Type 0 where
   pub never_both : (a b : List Value) → before a b ≡ true → before b a ≡ false
   pub passes_on : (a b c : List Value) → before b a ≡ false → before c b ≡ false → before c a ≡ false
@@ -34,7 +51,8 @@ abbrev pub keyed : Context → List KeyMeaning → List Frame → Rows → Or (L
 keyed cx keys frames rows =
     each (λ x. mapped (λ ks. (ks, x.1)) (each (λ (s : KeyMeaning). s.value (inside x.0 cx)) keys)) (zip frames rows)
 
--- These are the same rows, none comes before one that stands earlier, and rows with equal keys stand as they stood.
+-- These are the same rows, none comes before one that stands earlier, and rows with equal keys
+-- stand as they stood.
 pub record IsSorted (before : Before) (old new : List Keyed) : Type 0 where
   pub same : (test : Keyed → Bool) → length (filter test new) ≡ length (filter test old)
   pub in_order : InOrder before new

@@ -1,4 +1,5 @@
--- An expression with others in place of its slots and literals, and so a function's expression as a query has it.
+-- An expression with others in place of its slots and literals, and so a function's expression as a
+-- query has it.
 use Rattle.std.specs.Prelude.{ℕ, suc, ◌+◌, [], map, None, option_map}
 use Rattle.away_values.specs.declared.types.Ty.{Ty}
 use Rattle.away_values.specs.declared.types.Ty.TheVariants as ty
@@ -13,9 +14,25 @@ use Rattle.away_trees.specs.declared.queries.Key.{Key}
 use Rattle.away_trees.specs.declared.queries.Select.{Select}
 use Rattle.away_trees.specs.declared.queries.Recursive.{Recursive}
 use Rattle.away_trees.specs.declared.queries.Query.{Query}
-use Rattle.away_trees.specs.declared.queries.Expr.TheOpen.{Expr-F, Source-F, FromItem-F, Item-F, Key-F, Select-F, Recursive-F, Query-F}
+use Rattle.away_trees.specs.declared.queries.Expr.TheOpen.{
+  Expr-F,
+  Source-F,
+  FromItem-F,
+  Item-F,
+  Key-F,
+  Select-F,
+  Recursive-F,
+  Query-F,
+}
 use Rattle.away_trees.specs.declared.queries.Expr.TheOpen as ex
-use Rattle.away_trees.specs.declared.queries.Expr.TheViews.{roll-Item, roll-FromItem, roll-Key, roll-Select, roll-Recursive, roll-Query}
+use Rattle.away_trees.specs.declared.queries.Expr.TheViews.{
+  roll-Item,
+  roll-FromItem,
+  roll-Key,
+  roll-Select,
+  roll-Recursive,
+  roll-Query,
+}
 use Rattle.away_trees.specs.Algebra.{Algebra, expr_of}
 
 -- a tree by the number of the expression's own selects that enclose the place
@@ -121,7 +138,8 @@ column_of ref d i = expr.Column (further d (ref i))
 abbrev pub with_cast : Ty → Expr → Expr
 with_cast t e = expr.Cast e t
 
--- Each slot is a column, `ref i` where the expression stands, and each literal has the cast to its type. The literal NULL stands as it is.
+-- Each slot is a column, `ref i` where the expression stands, and each literal has the cast to its
+-- type. The literal NULL stands as it is.
 abbrev pub placed : (ℕ → Col) → Expr → Expr
 placed ref e = replaced (column_of ref) with_cast 0 e
 

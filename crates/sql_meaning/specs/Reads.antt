@@ -1,14 +1,44 @@
--- What an expression reads from outside itself, in the order of its text, a select's list before its FROM.
-use Rattle.std.specs.Prelude.{ℕ, suc, Bool, false, not, ◌==◌, nat_lt, if◌then◌else◌, List, [], ◌∷◌, ◌++◌, filter, flat_map, filter_map, Option, Some, None}
+-- What an expression reads from outside itself, in the order of its text, a select's list before
+-- its FROM.
+use Rattle.std.specs.Prelude.{
+  ℕ,
+  suc,
+  Bool,
+  false,
+  not,
+  ◌==◌,
+  nat_lt,
+  if◌then◌else◌,
+  List,
+  [],
+  ◌∷◌,
+  ◌++◌,
+  filter,
+  flat_map,
+  filter_map,
+  Option,
+  Some,
+  None,
+}
 use Rattle.std.specs.List.{list_all}
 use Rattle.away_trees.specs.declared.queries.Col.{Col}
 use Rattle.away_trees.specs.declared.queries.Expr.{Expr}
-use Rattle.away_trees.specs.declared.queries.Expr.TheOpen.{Expr-F, Source-F, FromItem-F, Item-F, Key-F, Select-F, Recursive-F, Query-F}
+use Rattle.away_trees.specs.declared.queries.Expr.TheOpen.{
+  Expr-F,
+  Source-F,
+  FromItem-F,
+  Item-F,
+  Key-F,
+  Select-F,
+  Recursive-F,
+  Query-F,
+}
 use Rattle.away_trees.specs.declared.queries.Expr.TheOpen as ex
 use Rattle.away_trees.specs.Algebra.{Algebra, expr_of}
 use Rattle.sql_meaning.specs.Selects.{place_of}
 
--- a variable of the function, a parameter, a table by its place, or a column of a select that encloses the expression
+-- a variable of the function, a parameter, a table by its place, or a column of a select that
+-- encloses the expression
 pub data Read : Type 0 where
   Slot : ℕ → Read
   Param : ℕ → Read
@@ -69,7 +99,8 @@ abbrev pub key_reads : Key-F Reads SourceReads Reads Reads Reads Reads Reads Rea
 key_reads k = k.expr
 
 abbrev pub select_reads : Select-F Reads SourceReads Reads Reads Reads Reads Reads Reads → Reads
-select_reads s d = of_list (suc d) s.list ++ (of_list (suc d) s.from ++ (of_option (suc d) s.filter ++ (of_list (suc d) s.order ++ of_option (suc d) s.limit)))
+select_reads s d = of_list (suc d) s.list ++ (of_list (suc d) s.from
+    ++ (of_option (suc d) s.filter ++ (of_list (suc d) s.order ++ of_option (suc d) s.limit)))
 
 abbrev pub recursive_reads : Recursive-F Reads SourceReads Reads Reads Reads Reads Reads Reads → Reads
 recursive_reads r d = of_list d r.first ++ r.second d

@@ -1,15 +1,32 @@
 -- The query of a function that is one RETURN: one label, and one column for each parameter.
 --
 -- WITH RECURSIVE r(go, fn, c0, .., res, err) AS (
---   SELECT TRUE, 1, CAST($1 AS t), .., NULL, NULL
---   UNION ALL
---   SELECT s.go, .., s.err
---   FROM r, LATERAL (SELECT FALSE, 0, NULL, .., v.v, NULL FROM LATERAL (SELECT TRUE WHERE r.fn = 1) AS k, LATERAL (SELECT e) AS v) AS s
---   WHERE r.go)
+-- SELECT TRUE, 1, CAST($1 AS t), .., NULL, NULL
+-- UNION ALL
+-- SELECT s.go, .., s.err
+-- FROM r, LATERAL (SELECT FALSE, 0, NULL, .., v.v, NULL FROM LATERAL (SELECT TRUE WHERE r.fn = 1)
+-- AS k, LATERAL (SELECT e) AS v) AS s
+-- WHERE r.go)
 -- SELECT r.res, r.err FROM r WHERE NOT r.go
 --
 -- where every literal has the cast to its type.
-use Rattle.std.specs.Prelude.{ℕ, zero, suc, true, false, pos, List, [], ◌∷◌, ◌++◌, map, length, Some, None, decimal}
+use Rattle.std.specs.Prelude.{
+  ℕ,
+  zero,
+  suc,
+  true,
+  false,
+  pos,
+  List,
+  [],
+  ◌∷◌,
+  ◌++◌,
+  map,
+  length,
+  Some,
+  None,
+  decimal,
+}
 use Rattle.away_values.specs.declared.types.Ty.{Ty}
 use Rattle.away_values.specs.declared.types.Ty.TheVariants as ty
 use Rattle.away_values.specs.declared.operators.CmpOp.TheVariants as cmp
@@ -20,7 +37,17 @@ use Rattle.away_trees.specs.declared.queries.FromItem.{FromItem}
 use Rattle.away_trees.specs.declared.queries.Select.{Select}
 use Rattle.away_trees.specs.declared.queries.Query.{Query}
 use Rattle.away_trees.specs.declared.queries.Expr.TheViews.{roll-Recursive, roll-Query}
-use Rattle.sql_meaning.specs.Trees.{col, cast_to, number, truth, null_of, lateral, table_by, select, one}
+use Rattle.sql_meaning.specs.Trees.{
+  col,
+  cast_to,
+  number,
+  truth,
+  null_of,
+  lateral,
+  table_by,
+  select,
+  one,
+}
 use Rattle.sql_meaning.specs.Placed.{placed_at}
 
 -- n numbers from `first` on
@@ -32,7 +59,8 @@ count_from first (suc n) = first ∷ count_from (suc first) n
 abbrev pub below : ℕ → List ℕ
 below = count_from 0
 
--- slot i as a column, seen from the item that has the function's expression: two selects out, behind the columns `go` and `fn`
+-- slot i as a column, seen from the item that has the function's expression: two selects out,
+-- behind the columns `go` and `fn`
 abbrev pub slot_at : ℕ → Col
 slot_at i = record { level = 2; item = 0; column = suc (suc i) }
 

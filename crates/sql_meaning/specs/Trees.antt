@@ -9,7 +9,12 @@ use Rattle.away_trees.specs.declared.queries.FromItem.{FromItem}
 use Rattle.away_trees.specs.declared.queries.Item.{Item}
 use Rattle.away_trees.specs.declared.queries.Select.{Select}
 use Rattle.away_trees.specs.declared.queries.Query.{Query}
-use Rattle.away_trees.specs.declared.queries.Expr.TheViews.{roll-FromItem, roll-Item, roll-Select, roll-Query}
+use Rattle.away_trees.specs.declared.queries.Expr.TheViews.{
+  roll-FromItem,
+  roll-Item,
+  roll-Select,
+  roll-Query,
+}
 
 -- a column: how many selects further out, of which item, at which place
 abbrev pub col : ℕ → ℕ → ℕ → Expr

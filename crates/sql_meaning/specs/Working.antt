@@ -1,5 +1,20 @@
 -- The working tables of a recursive query, and what it answers at a bound.
-use Rattle.std.specs.Prelude.{ℕ, zero, suc, if◌then◌else◌, List, [], ◌∷◌, ◌++◌, length, Option, Some, None, Ok, Err}
+use Rattle.std.specs.Prelude.{
+  ℕ,
+  zero,
+  suc,
+  if◌then◌else◌,
+  List,
+  [],
+  ◌∷◌,
+  ◌++◌,
+  length,
+  Option,
+  Some,
+  None,
+  Ok,
+  Err,
+}
 use Rattle.away_values.specs.declared.values.Value.{Value}
 use Rattle.away_values.specs.declared.values.Value.TheVariants as val
 use Rattle.away_values.specs.declared.values.Answer.{Answer}
@@ -24,8 +39,8 @@ with_table tables rows = tables ++ rows ∷ []
 abbrev pub next_rows : RecursiveMeaning → List Rows → List Value → Rows → Or Rows
 next_rows r tables args rows = r.second (outermost (with_table tables rows) args)
 
--- The working tables: the rows of the first term, and then those of the second term over the working table before. (PostgreSQL manual, WITH
--- Queries: Recursive Queries.)
+-- The working tables: the rows of the first term, and then those of the second term over the
+-- working table before. (PostgreSQL manual, WITH Queries: Recursive Queries.)
 abbrev pub working : RecursiveMeaning → List Rows → List Value → ℕ → Or Rows
 working r tables args zero = r.first (outermost tables args)
 working r tables args (suc i) = and_then (working r tables args i) (next_rows r tables args)
@@ -42,8 +57,9 @@ worked step k done (Ok []) = Some (Ok done)
 worked step zero done (Ok (row ∷ more)) = None
 worked step (suc k) done (Ok (row ∷ more)) = worked step k (done ++ row ∷ more) (step (row ∷ more))
 
--- The recursive table at a bound: the working tables up to the first empty one, the class of one that faults before, or None where none up to the
--- bound is either. (PostgreSQL manual, WITH Queries. The bound is our own.)
+-- The recursive table at a bound: the working tables up to the first empty one, the class of one
+-- that faults before, or None where none up to the bound is either. (PostgreSQL manual, WITH
+-- Queries. The bound is our own.)
 abbrev pub recursive_table : RecursiveMeaning → List Rows → List Value → ℕ → Bounded Rows
 recursive_table r tables args k = worked (next_rows r tables args) k [] (r.first (outermost tables args))
 
@@ -63,7 +79,8 @@ rows q = rows_with (query_of meaning q).recursive (query_of meaning q).rows
 
 -- ---- the answer
 
--- One row of a value and NULL is that value, one row of NULL and a class is that fault, and other rows are told by their number. (Our own.)
+-- One row of a value and NULL is that value, one row of NULL and a class is that fault, and other
+-- rows are told by their number. (Our own.)
 abbrev pub answer_of_rows : Rows → Answer
 answer_of_rows ((v ∷ val.Null ∷ []) ∷ []) = answer.Value v
 answer_of_rows ((val.Null ∷ val.Text t ∷ []) ∷ []) = if is_class t then answer.Fault (class t) else answer.Shape 1

@@ -37,8 +37,10 @@ pub fn only_the_slots_that_are_read_matter()
 
 /// The names of aliases, columns and tables mean nothing: trees that are the same without them have the same rows and the same answer.
 pub fn names_mean_nothing()
-    ensures rows { (q r : Query) (T : List Rows) (args : List Value) (k : ℕ) → bare q ≡ bare r → rows q T args k ≡ rows r T args k }
-    ensures answer { (q r : Query) (T : List Rows) (args : List Value) (k : ℕ) → bare q ≡ bare r → sql q T args k ≡ sql r T args k }
+    ensures rows { (q r : Query) (T : List Rows) (args : List Value) (k : ℕ) → bare q ≡ bare r
+        → rows q T args k ≡ rows r T args k }
+    ensures answer { (q r : Query) (T : List Rows) (args : List Value) (k : ℕ) → bare q ≡ bare r
+        → sql q T args k ≡ sql r T args k }
     ensures value { (e : Expr) (cx : Context) → value (bare_value e) cx ≡ value e cx }
 {}
 

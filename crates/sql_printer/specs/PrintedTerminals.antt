@@ -1,5 +1,22 @@
 -- What the printer's terminals are, and what it is to add some.
-use Rattle.std.specs.Prelude.{◌≡◌, ℕ, Bool, false, not, if◌then◌else◌, bytes_eq, List, [], ◌∷◌, ◌++◌, Option, Some, None, Result, OnOk}
+use Rattle.std.specs.Prelude.{
+  ◌≡◌,
+  ℕ,
+  Bool,
+  false,
+  not,
+  if◌then◌else◌,
+  bytes_eq,
+  List,
+  [],
+  ◌∷◌,
+  ◌++◌,
+  Option,
+  Some,
+  None,
+  Result,
+  OnOk,
+}
 use Rattle.away_values.specs.declared.errors.NoMemory.{NoMemory}
 use Rattle.away_grammar.specs.declared.grammar.Mark.TheVariants as m
 use Rattle.away_values.specs.declared.operators.ChainOp.{ChainOp}
@@ -9,7 +26,13 @@ use Rattle.away_grammar.specs.Terminals.{Terminal, mark, name, integer, string, 
 use Rattle.away_grammar.specs.Spacing.{is_glued}
 use Rattle.away_grammar.specs.Printing.{Printed, names_terminals, printed, spelled}
 use Rattle.sql_printer.specs.declared.terminal_list.PrintedTerminal as code
-use Rattle.sql_printer.specs.declared.terminal_list.PrintedTerminal.TheVariants.{Mark, Name, Integer, Text, Parameter}
+use Rattle.sql_printer.specs.declared.terminal_list.PrintedTerminal.TheVariants.{
+  Mark,
+  Name,
+  Integer,
+  Text,
+  Parameter,
+}
 
 -- what a terminal of the code is
 abbrev pub terminal_of : code.PrintedTerminal → Terminal

@@ -18,7 +18,8 @@ use std::alloc::Global;
 
 /// The text of the terminals.
 pub fn laid_out(alloc: Global, terminals: &[PrintedTerminal<'_>]) -> Result<String, NoMemory>
-    ensures { IfOk result (λ text. string_bytes text ≡ terminals_text (map terminal_of terminals.now)) }
+    ensures { IfOk result (λ text. string_bytes text
+        ≡ terminals_text (map terminal_of terminals.now)) }
 {
     let mut text = String::new(alloc);
     let mut before = None;
@@ -32,7 +33,8 @@ pub fn laid_out(alloc: Global, terminals: &[PrintedTerminal<'_>]) -> Result<Stri
 }
 
 fn push_space(text: &mut String, spaced: bool) -> Result<(), NoMemory>
-    ensures { OnOk result (string_bytes text.new ≡ string_bytes text.old ++ (if spaced then 32 ∷ [] else [])) }
+    ensures { OnOk result (string_bytes text.new ≡ string_bytes text.old
+        ++ (if spaced then 32 ∷ [] else [])) }
 {
     if spaced {
         text.push_str(" ")?;
@@ -45,7 +47,8 @@ fn push_terminal(
     text: &mut String,
     terminal: PrintedTerminal<'_>,
 ) -> Result<(), NoMemory>
-    ensures { OnOk result (string_bytes text.new ≡ string_bytes text.old ++ (spelled (terminal_of terminal.entry)).text) }
+    ensures { OnOk result (string_bytes text.new ≡ string_bytes text.old
+        ++ (spelled (terminal_of terminal.entry)).text) }
 {
     match terminal {
         PrintedTerminal::Mark(mark) => text.push_str(mark_text(mark))?,
@@ -59,7 +62,8 @@ fn push_terminal(
 
 /// Whether a space stands between what is before, if something is, and a terminal.
 fn is_spaced(before: Option<PrintedTerminal<'_>>, terminal: PrintedTerminal<'_>) -> bool
-    ensures { result ≡ spec.is_spaced (option_map terminal_of before.entry) (terminal_of terminal.entry) }
+    ensures { result ≡ spec.is_spaced (option_map terminal_of before.entry)
+        (terminal_of terminal.entry) }
 {
     match before {
         None => false,
@@ -68,14 +72,16 @@ fn is_spaced(before: Option<PrintedTerminal<'_>>, terminal: PrintedTerminal<'_>)
 }
 
 fn is_glued(before: PrintedTerminal<'_>, terminal: PrintedTerminal<'_>) -> bool
-    ensures { result ≡ glued reserved.calls (spelled (terminal_of before.entry)) (spelled (terminal_of terminal.entry)) }
+    ensures { result ≡ glued reserved.calls (spelled (terminal_of before.entry))
+        (spelled (terminal_of terminal.entry)) }
 {
     opens(before) || closes(terminal) || (calls(before) && is_opening(terminal))
 }
 
 /// Whether no space stands behind it.
 fn opens(terminal: PrintedTerminal<'_>) -> bool
-    ensures { result ≡ (is_one 40 (spelled (terminal_of terminal.entry)) || is_one 46 (spelled (terminal_of terminal.entry))) }
+    ensures { result ≡ (is_one 40 (spelled (terminal_of terminal.entry)) || is_one 46
+        (spelled (terminal_of terminal.entry))) }
 {
     matches!(terminal, PrintedTerminal::Mark(Mark::Open | Mark::Dot))
 }
@@ -83,7 +89,8 @@ fn opens(terminal: PrintedTerminal<'_>) -> bool
 /// Whether no space stands before it.
 fn closes(terminal: PrintedTerminal<'_>) -> bool
     ensures { result ≡ (is_one 41 (spelled (terminal_of terminal.entry))
-        || (is_one 44 (spelled (terminal_of terminal.entry)) || is_one 46 (spelled (terminal_of terminal.entry)))) }
+        || (is_one 44 (spelled (terminal_of terminal.entry)) || is_one 46
+        (spelled (terminal_of terminal.entry)))) }
 {
     matches!(
         terminal,
@@ -99,7 +106,8 @@ fn is_opening(terminal: PrintedTerminal<'_>) -> bool
 
 /// Whether it is a word that `(` follows without a space: one that isn't reserved, or that reads as a function's name.
 fn calls(terminal: PrintedTerminal<'_>) -> bool
-    ensures { result ≡ (is_word_kind (spelled (terminal_of terminal.entry)).kind && reserved.calls (spelled (terminal_of terminal.entry)).text) }
+    ensures { result ≡ (is_word_kind (spelled (terminal_of terminal.entry)).kind && reserved.calls
+        (spelled (terminal_of terminal.entry)).text) }
 {
     match terminal {
         PrintedTerminal::Mark(mark) => mark_calls(mark),
@@ -111,7 +119,8 @@ fn calls(terminal: PrintedTerminal<'_>) -> bool
 
 #[tactic(auto, unfolding(away_grammar::specs::Reserved::calls, away_grammar::specs::Reserved::is_reserved))]
 fn mark_calls(mark: Mark) -> bool
-    ensures { result ≡ (is_word_kind (mark_spelled mark).kind && reserved.calls (mark_spelled mark).text) }
+    ensures { result ≡ (is_word_kind (mark_spelled mark).kind && reserved.calls
+        (mark_spelled mark).text) }
 {
     matches!(
         mark,

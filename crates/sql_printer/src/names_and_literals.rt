@@ -18,7 +18,8 @@ use away_values::{IsTest, Name, NoMemory, Ty};
 
 /// Adds AS and a name.
 pub fn add_alias<'a>(terminals: &mut TerminalList<'a>, alias: &'a Name) -> Result<(), NoMemory>
-    ensures { Adds (terminal.mark m.As ∷ terminal.name alias.now ∷ []) terminals.old result terminals.new }
+    ensures { Adds (terminal.mark m.As ∷ terminal.name alias.now
+        ∷ []) terminals.old result terminals.new }
 {
     terminals.mark(Mark::As)?;
     terminals.name(alias)
@@ -88,7 +89,8 @@ pub fn add_qualified<'a>(
     alias: &'a Name,
     name: &'a Name,
 ) -> Result<(), NoMemory>
-    ensures { Adds (terminal.name alias.now ∷ terminal.mark m.Dot ∷ terminal.name name.now ∷ []) terminals.old result terminals.new }
+    ensures { Adds (terminal.name alias.now ∷ terminal.mark m.Dot ∷ terminal.name name.now
+        ∷ []) terminals.old result terminals.new }
 {
     terminals.name(alias)?;
     terminals.mark(Mark::Dot)?;
@@ -107,7 +109,8 @@ pub fn add_parameter(terminals: &mut TerminalList<'_>, number: u32, ty: Ty) -> R
 
 /// Adds the end of a CAST.
 pub fn add_type(terminals: &mut TerminalList<'_>, ty: Ty) -> Result<(), NoMemory>
-    ensures { Adds (terminal.mark m.As ∷ terminal.name (spec.type_name ty) ∷ terminal.mark m.Close ∷ []) terminals.old result terminals.new }
+    ensures { Adds (terminal.mark m.As ∷ terminal.name (spec.type_name ty) ∷ terminal.mark m.Close
+        ∷ []) terminals.old result terminals.new }
 {
     terminals.mark(Mark::As)?;
     terminals.known_name(type_name(ty))?;
@@ -120,7 +123,8 @@ pub fn add_test(
     test: IsTest,
     negative: bool,
 ) -> Result<(), NoMemory>
-    ensures { Adds (terminal.mark m.Is ∷ perhaps negative (terminal.mark m.Not) (terminal.mark (spec.test_mark test) ∷ [])) terminals.old result terminals.new }
+    ensures { Adds (terminal.mark m.Is ∷ perhaps negative (terminal.mark m.Not)
+        (terminal.mark (spec.test_mark test) ∷ [])) terminals.old result terminals.new }
 {
     terminals.mark(Mark::Is)?;
     terminals.mark_if(negative, Mark::Not)?;

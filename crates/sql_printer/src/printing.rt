@@ -32,7 +32,8 @@ use std::alloc::Global;
 /// text. What no text reads as, as a slot, prints as nothing.
 pub fn print_query(alloc: Global, query: &Query) -> Result<String, NoMemory>
     ensures text { IfOk result (λ text. string_bytes text ≡ query_text query.now) }
-    ensures reads { IfOk result (λ text. (ts : List Terminal) → AllWritable ts → Reads file ts query.now [] → ReadsQuery (string_bytes text) query.now) }
+    ensures reads { IfOk result (λ text. (ts : List Terminal) → AllWritable ts
+        → Reads file ts query.now [] → ReadsQuery (string_bytes text) query.now) }
 {
     let mut terminals = TerminalList::new(alloc);
     add_query(&mut terminals, query)?;
@@ -75,7 +76,8 @@ fn add_recursive<'a>(
 /// Adds the selects of the first term, with UNION ALL behind each.
 #[cycle(print)]
 fn add_terms<'a>(terminals: &mut TerminalList<'a>, selects: &'a [Select]) -> Result<(), NoMemory>
-    ensures { Adds (each_before (terminal.mark m.Union ∷ terminal.mark m.All ∷ []) (map (select_of printing) selects.now)) terminals.old result terminals.new }
+    ensures { Adds (each_before (terminal.mark m.Union ∷ terminal.mark m.All ∷ [])
+        (map (select_of printing) selects.now)) terminals.old result terminals.new }
 {
     for select in selects {
         add_select(terminals, select)?;
@@ -87,7 +89,8 @@ fn add_terms<'a>(terminals: &mut TerminalList<'a>, selects: &'a [Select]) -> Res
 
 #[cycle(print)]
 fn add_selects<'a>(terminals: &mut TerminalList<'a>, selects: &'a [Select]) -> Result<(), NoMemory>
-    ensures { Adds (spec.selects_terminals (map (select_of printing) selects.now)) terminals.old result terminals.new }
+    ensures { Adds (spec.selects_terminals
+        (map (select_of printing) selects.now)) terminals.old result terminals.new }
 {
     for (index, select) in selects.iter().enumerate() {
         terminals.mark_if(index > 0, Mark::Union)?;
@@ -111,7 +114,8 @@ fn add_select<'a>(terminals: &mut TerminalList<'a>, select: &'a Select) -> Resul
 
 #[cycle(print)]
 fn add_items<'a>(terminals: &mut TerminalList<'a>, items: &'a [Item]) -> Result<(), NoMemory>
-    ensures { Adds (spec.with_commas (map (item_of printing) items.now)) terminals.old result terminals.new }
+    ensures { Adds (spec.with_commas
+        (map (item_of printing) items.now)) terminals.old result terminals.new }
 {
     for (index, item) in items.iter().enumerate() {
         terminals.mark_if(index > 0, Mark::Comma)?;
@@ -133,7 +137,8 @@ fn add_item<'a>(terminals: &mut TerminalList<'a>, item: &'a Item) -> Result<(), 
 
 #[cycle(print)]
 fn add_from<'a>(terminals: &mut TerminalList<'a>, items: &'a [FromItem]) -> Result<(), NoMemory>
-    ensures { Adds (spec.from_terminals (map (from_of printing) items.now)) terminals.old result terminals.new }
+    ensures { Adds (spec.from_terminals
+        (map (from_of printing) items.now)) terminals.old result terminals.new }
 {
     terminals.mark_if(!items.is_empty(), Mark::From)?;
     for (index, item) in items.iter().enumerate() {
@@ -167,7 +172,8 @@ fn add_source<'a>(terminals: &mut TerminalList<'a>, source: &'a Source) -> Resul
 
 #[cycle(print)]
 fn add_where<'a>(terminals: &mut TerminalList<'a>, filter: &'a Option<Expr>) -> Result<(), NoMemory>
-    ensures { Adds (spec.where_terminals (option_map printed filter.now)) terminals.old result terminals.new }
+    ensures { Adds (spec.where_terminals
+        (option_map printed filter.now)) terminals.old result terminals.new }
 {
     match filter {
         None => Ok(()),
@@ -180,7 +186,8 @@ fn add_where<'a>(terminals: &mut TerminalList<'a>, filter: &'a Option<Expr>) -> 
 
 #[cycle(print)]
 fn add_order<'a>(terminals: &mut TerminalList<'a>, keys: &'a [Key]) -> Result<(), NoMemory>
-    ensures { Adds (spec.order_terminals (map (key_of printing) keys.now)) terminals.old result terminals.new }
+    ensures { Adds (spec.order_terminals
+        (map (key_of printing) keys.now)) terminals.old result terminals.new }
 {
     terminals.mark_if(!keys.is_empty(), Mark::Order)?;
     terminals.mark_if(!keys.is_empty(), Mark::By)?;
@@ -201,7 +208,8 @@ fn add_key<'a>(terminals: &mut TerminalList<'a>, key: &'a Key) -> Result<(), NoM
 
 #[cycle(print)]
 fn add_limit<'a>(terminals: &mut TerminalList<'a>, limit: &'a Option<Expr>) -> Result<(), NoMemory>
-    ensures { Adds (spec.limit_terminals (option_map printed limit.now)) terminals.old result terminals.new }
+    ensures { Adds (spec.limit_terminals
+        (option_map printed limit.now)) terminals.old result terminals.new }
 {
     match limit {
         None => Ok(()),
@@ -214,7 +222,8 @@ fn add_limit<'a>(terminals: &mut TerminalList<'a>, limit: &'a Option<Expr>) -> R
 
 #[cycle(print)]
 fn add_subquery<'a>(terminals: &mut TerminalList<'a>, query: &'a Query) -> Result<(), NoMemory>
-    ensures { Adds (terminal.mark m.Open ∷ (query_terminals query.now ++ terminal.mark m.Close ∷ [])) terminals.old result terminals.new }
+    ensures { Adds (terminal.mark m.Open ∷ (query_terminals query.now ++ terminal.mark m.Close
+        ∷ [])) terminals.old result terminals.new }
 {
     terminals.mark(Mark::Open)?;
     add_query(terminals, query)?;
@@ -321,7 +330,8 @@ fn add_links<'a>(
     level: Level,
     links: &'a [(ChainOp, Expr)],
 ) -> Result<(), NoMemory>
-    ensures { Adds (spec.links_terminals level (map link_printed links.now)) terminals.old result terminals.new }
+    ensures { Adds (spec.links_terminals level
+        (map link_printed links.now)) terminals.old result terminals.new }
 {
     for (op, operand) in links {
         terminals.mark(operator_mark(*op))?;
@@ -333,7 +343,8 @@ fn add_links<'a>(
 /// Adds expressions with commas between them, in parentheses.
 #[cycle(print)]
 fn add_list<'a>(terminals: &mut TerminalList<'a>, list: &'a [Expr]) -> Result<(), NoMemory>
-    ensures { Adds (terminal.mark m.Open ∷ (spec.list_terminals (map printed list.now) ++ terminal.mark m.Close ∷ [])) terminals.old result terminals.new }
+    ensures { Adds (terminal.mark m.Open ∷ (spec.list_terminals (map printed list.now)
+        ++ terminal.mark m.Close ∷ [])) terminals.old result terminals.new }
 {
     terminals.mark(Mark::Open)?;
     for (index, expr) in list.iter().enumerate() {
@@ -345,7 +356,8 @@ fn add_list<'a>(terminals: &mut TerminalList<'a>, list: &'a [Expr]) -> Result<()
 
 #[cycle(print)]
 fn add_arms<'a>(terminals: &mut TerminalList<'a>, arms: &'a [(Expr, Expr)]) -> Result<(), NoMemory>
-    ensures { Adds (spec.arms_terminals (map arm_printed arms.now)) terminals.old result terminals.new }
+    ensures { Adds (spec.arms_terminals
+        (map arm_printed arms.now)) terminals.old result terminals.new }
 {
     for (condition, value) in arms {
         terminals.mark(Mark::When)?;
@@ -361,7 +373,8 @@ fn add_else<'a>(
     terminals: &mut TerminalList<'a>,
     other: &'a Option<Boxed<Expr>>,
 ) -> Result<(), NoMemory>
-    ensures { Adds (spec.else_terminals (option_map printed other.now)) terminals.old result terminals.new }
+    ensures { Adds (spec.else_terminals
+        (option_map printed other.now)) terminals.old result terminals.new }
 {
     match other {
         None => Ok(()),

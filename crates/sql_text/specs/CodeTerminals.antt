@@ -1,7 +1,33 @@
 -- What the code's terminals and cursors mean.
-use Rattle.std.specs.Prelude.{◌≡◌, ◌<◌, ◌≤◌, ℕ, ◌^◌, pos, List, ◌∷◌, Option, Some, None, chars, Result, Ok, Err}
+use Rattle.std.specs.Prelude.{
+  ◌≡◌,
+  ◌<◌,
+  ◌≤◌,
+  ℕ,
+  ◌^◌,
+  pos,
+  List,
+  ◌∷◌,
+  Option,
+  Some,
+  None,
+  chars,
+  Result,
+  Ok,
+  Err,
+}
 use Rattle.std.specs.Borrow.{Bor}
-use Rattle.away_grammar.specs.Terminals.{Terminal, mark, name, integer, string, parameter, quote, undoubled, between_quotes}
+use Rattle.away_grammar.specs.Terminals.{
+  Terminal,
+  mark,
+  name,
+  integer,
+  string,
+  parameter,
+  quote,
+  undoubled,
+  between_quotes,
+}
 use Rattle.away_grammar.specs.Marks.{Entry}
 use Rattle.away_grammar.specs.Reserved.{folded}
 use Rattle.away_grammar.specs.Spellings.{IsNameText, IsString}
@@ -10,7 +36,14 @@ use Rattle.away_trees.specs.declared.queries.Expr.{Expr}
 use Rattle.away_trees.specs.declared.queries.Expr.TheVariants.{Int}
 use Rattle.sql_text.specs.Plans.{Begins, tail}
 use Rattle.sql_text.specs.declared.terminals.Terminal as code
-use Rattle.sql_text.specs.declared.terminals.Terminal.TheVariants.{Mark, Name, Integer, Text, Parameter, Quote}
+use Rattle.sql_text.specs.declared.terminals.Terminal.TheVariants.{
+  Mark,
+  Name,
+  Integer,
+  Text,
+  Parameter,
+  Quote,
+}
 use Rattle.sql_text.specs.declared.refusal.Refusal.{Refusal}
 use Rattle.sql_text.specs.declared.refusal.Refusal.TheVariants.{NoTree, NoMemory}
 

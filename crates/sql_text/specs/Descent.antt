@@ -1,5 +1,24 @@
 -- How the reader of expressions, queries and schemas descends: by what stands next, and never back.
-use Rattle.std.specs.Prelude.{ℕ, ◌^◌, ◌-◌, pos, negsuc, nat_lt, Bool, true, false, if◌then◌else◌, List, [], ◌∷◌, Option, Some, None, codes, bytes_eq}
+use Rattle.std.specs.Prelude.{
+  ℕ,
+  ◌^◌,
+  ◌-◌,
+  pos,
+  negsuc,
+  nat_lt,
+  Bool,
+  true,
+  false,
+  if◌then◌else◌,
+  List,
+  [],
+  ◌∷◌,
+  Option,
+  Some,
+  None,
+  codes,
+  bytes_eq,
+}
 use Rattle.away_grammar.specs.declared.grammar.Mark.{Mark}
 use Rattle.away_grammar.specs.declared.grammar.Mark.TheVariants as m
 use Rattle.away_grammar.specs.declared.grammar.Level.{Level}
@@ -15,13 +34,77 @@ use Rattle.away_trees.specs.declared.queries.Key.{Key}
 use Rattle.away_trees.specs.declared.queries.Select.{Select}
 use Rattle.away_trees.specs.declared.queries.Recursive.{Recursive}
 use Rattle.away_trees.specs.declared.queries.Query.{Query}
-use Rattle.away_trees.specs.declared.queries.Expr.TheViews.{roll-Item, roll-FromItem, roll-Key, roll-Select, roll-Recursive, roll-Query}
+use Rattle.away_trees.specs.declared.queries.Expr.TheViews.{
+  roll-Item,
+  roll-FromItem,
+  roll-Key,
+  roll-Select,
+  roll-Recursive,
+  roll-Query,
+}
 use Rattle.away_grammar.specs.Terminals.{Terminal, mark, name, integer, string, parameter}
-use Rattle.away_grammar.specs.Grammar.{Sort, at, links, list, arms, item, items, from_item, from_items, from_clause, where_clause}
-use Rattle.away_grammar.specs.Grammar.{key, keys, order_clause, limit_clause, select, selects, query, names, recursive, file}
-use Rattle.away_grammar.specs.Grammar.{column, columns, tables, Tree, literal_of, called, operands, chained, is_number, may_join}
-use Rattle.sql_text.specs.Plans.{Plan, done, fail, take, eat, look, read, with, want, perhaps_a, expect}
-use Rattle.sql_text.specs.TerminalKinds.{operator_in, comparison_in, test_in, name_in, type_in, parameter_in, is_least, is_select, is_with, is_typed_parameter}
+use Rattle.away_grammar.specs.Grammar.{
+  Sort,
+  at,
+  links,
+  list,
+  arms,
+  item,
+  items,
+  from_item,
+  from_items,
+  from_clause,
+  where_clause,
+}
+use Rattle.away_grammar.specs.Grammar.{
+  key,
+  keys,
+  order_clause,
+  limit_clause,
+  select,
+  selects,
+  query,
+  names,
+  recursive,
+  file,
+}
+use Rattle.away_grammar.specs.Grammar.{
+  column,
+  columns,
+  tables,
+  Tree,
+  literal_of,
+  called,
+  operands,
+  chained,
+  is_number,
+  may_join,
+}
+use Rattle.sql_text.specs.Plans.{
+  Plan,
+  done,
+  fail,
+  take,
+  eat,
+  look,
+  read,
+  with,
+  want,
+  perhaps_a,
+  expect,
+}
+use Rattle.sql_text.specs.TerminalKinds.{
+  operator_in,
+  comparison_in,
+  test_in,
+  name_in,
+  type_in,
+  parameter_in,
+  is_least,
+  is_select,
+  is_with,
+  is_typed_parameter,
+}
 
 -- a name, and then by it
 abbrev pub a_name : {S : Type 0} {T : S → Type 0} {n : S} → (List ℕ → Plan T n) → Plan T n
@@ -124,7 +207,9 @@ exists_plan = expect m.Open (read query (λ q. expect m.Close (done (e.Exists q)
 -- behind the arms of CASE
 abbrev pub cases_with : List (Expr × Expr) → Plan Tree (at l.Primary)
 cases_with [] = fail
-cases_with (a ∷ more) = eat m.Else (read (at l.Or) (λ x. expect m.End (done (e.Cases (a ∷ more) (Some x))))) (expect m.End (done (e.Cases (a ∷ more) None)))
+cases_with (a ∷ more) = eat m.Else
+    (read (at l.Or) (λ x. expect m.End (done (e.Cases (a ∷ more) (Some x)))))
+    (expect m.End (done (e.Cases (a ∷ more) None)))
 
 -- behind CASE
 abbrev pub case_plan : Plan Tree (at l.Primary)
@@ -220,7 +305,8 @@ key_with x descending = roll-Key (record { expr = x; descending = descending })
 
 abbrev pub key_plan : Plan Tree key
 key_plan =
-    read (at l.Or) (λ x. if is_number x then fail else eat m.Desc (done (key_with x true)) (eat m.Asc (done (key_with x false)) (done (key_with x false))))
+    read (at l.Or) (λ x. if is_number x then fail else eat m.Desc (done (key_with x true))
+    (eat m.Asc (done (key_with x false)) (done (key_with x false))))
 
 abbrev pub keys_plan : Plan Tree keys
 keys_plan = read key (λ x. eat m.Comma (read keys (λ xs. done (x ∷ xs))) (done (x ∷ [])))
@@ -237,7 +323,9 @@ select_with xs fs w ks n = roll-Select (record { list = xs; from = fs; filter = 
 abbrev pub select_plan : Plan Tree select
 select_plan =
     expect m.Select
-    (read items (λ xs. read from_clause (λ fs. read where_clause (λ w. read order_clause (λ ks. read limit_clause (λ n. done (select_with xs fs w ks n)))))))
+    (read items (λ xs. read from_clause
+    (λ fs. read where_clause (λ w. read order_clause
+    (λ ks. read limit_clause (λ n. done (select_with xs fs w ks n)))))))
 
 abbrev pub selects_plan : Plan Tree selects
 selects_plan = read select (λ s. eat m.Union (expect m.All (read selects (λ ss. done (s ∷ ss)))) (done (s ∷ [])))

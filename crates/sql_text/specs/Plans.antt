@@ -1,5 +1,20 @@
--- How a reader descends: what it does to read a tree of a sort, by what stands next. T says what the trees of each sort are.
-use Rattle.std.specs.Prelude.{◌≡◌, Bool, true, false, List, [], ◌∷◌, Option, Some, None, Result, Ok, Err}
+-- How a reader descends: what it does to read a tree of a sort, by what stands next. T says what
+-- the trees of each sort are.
+use Rattle.std.specs.Prelude.{
+  ◌≡◌,
+  Bool,
+  true,
+  false,
+  List,
+  [],
+  ◌∷◌,
+  Option,
+  Some,
+  None,
+  Result,
+  Ok,
+  Err,
+}
 use Rattle.away_grammar.specs.declared.grammar.Mark.{Mark}
 use Rattle.away_grammar.specs.Terminals.{Terminal, mark}
 use Rattle.sql_text.specs.declared.refusal.Refusal.{Refusal}

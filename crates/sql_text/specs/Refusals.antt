@@ -7,7 +7,14 @@ use Rattle.away_grammar.specs.Nesting.{IsNesting}
 use Rattle.away_grammar.specs.Texts.{IsText, IsExpression}
 use Rattle.away_lex.specs.declared.refusals.LimitKind.TheVariants as limit
 use Rattle.away_lex.specs.declared.refusals.ReadRefusal.{ReadRefusal}
-use Rattle.away_lex.specs.declared.refusals.ReadRefusal.TheVariants.{NotText, Token, NoTree, Outside, Limit, NoMemory}
+use Rattle.away_lex.specs.declared.refusals.ReadRefusal.TheVariants.{
+  NotText,
+  Token,
+  NoTree,
+  Outside,
+  Limit,
+  NoMemory,
+}
 
 -- the greatest nesting of tokens that is read
 abbrev pub most_nesting : ℕ
@@ -23,7 +30,8 @@ pub record HasTokens (bytes : List ℕ) (tokens : List Lexeme) (nesting : ℕ) :
 abbrev pub HasFewTokens : List ℕ → List Lexeme → Type 0
 HasFewTokens bytes tokens = (nesting : ℕ) × HasTokens bytes tokens nesting × (nesting ≤ most_nesting)
 
--- These are what the tokens are of bytes that are a text with no bad token and nest no deeper than is read.
+-- These are what the tokens are of bytes that are a text with no bad token and nest no deeper than
+-- is read.
 pub record HasTerminals (bytes : List ℕ) (terminals : List Terminal) : Type 0 where
   pub tokens : List Lexeme
   pub few : HasFewTokens bytes tokens
@@ -42,7 +50,8 @@ RefusesTokens bytes (Outside word) = ⊥
 RefusesTokens bytes (Limit which found) = (which ≡ limit.Nesting) × ((tokens : List Lexeme) × HasTokens bytes tokens found) × (most_nesting < found)
 RefusesTokens bytes NoMemory = Unit {0}
 
--- Why no tree is read from bytes, where the trees that they read as are these: the first of these reasons that holds.
+-- Why no tree is read from bytes, where the trees that they read as are these: the first of these
+-- reasons that holds.
 abbrev pub Refuses : {A : Type 0} → (A → Type 0) → List ℕ → ReadRefusal → Type 0
 Refuses {A = A} Trees bytes NoTree = MayBeRead bytes × ((tree : A) → ¬ (Trees tree))
 Refuses Trees bytes other = RefusesTokens bytes other

@@ -183,7 +183,8 @@ impl<'a> Cursor<'a> {
 
     /// Whether NOT, BETWEEN or IN stands next.
     pub fn sees_range(&self) -> bool
-        ensures { OnFalse result ((¬ (Begins self.now m.Not)) × (¬ (Begins self.now m.Between)) × (¬ (Begins self.now m.In))) }
+        ensures { OnFalse result ((¬ (Begins self.now m.Not)) × (¬ (Begins self.now m.Between))
+            × (¬ (Begins self.now m.In))) }
     {
         match self.peek() {
             Some(Terminal::Mark(next)) => matches!(next, Mark::Not | Mark::Between | Mark::In),
@@ -222,9 +223,11 @@ impl<'a> Cursor<'a> {
 
     /// Takes the name that stands next, if one does.
     pub fn perhaps_name(&mut self, alloc: Global) -> Result<Option<Name>, NoMemory>
-        ensures found { IfOk result (λ found. (found ≡ name_in (first self.old)) × Taken found self.old self.new) }
+        ensures found { IfOk result
+            (λ found. (found ≡ name_in (first self.old)) × Taken found self.old self.new) }
         ensures shrinks { length self.new ≤ length self.old }
-        ensures shorter { IfOk result (λ found. IfSome found (λ _. length self.new < length self.old)) }
+        ensures shorter { IfOk result
+            (λ found. IfSome found (λ _. length self.new < length self.old)) }
     {
         match self.peek() {
             Some(Terminal::Name(text)) => {

@@ -116,7 +116,8 @@ fn tested(alloc: Global, tokens: &mut Cursor<'_>) -> Result<Expr, Refusal>
 
 /// The test behind IS.
 fn test_of(tokens: &mut Cursor<'_>, operand: Boxed<Expr>) -> Result<Expr, Refusal>
-    ensures found { Gives Tree plan (at Level.Is) (tested_plan operand) tokens.old result tokens.new }
+    ensures found { Gives Tree plan (at Level.Is)
+        (tested_plan operand) tokens.old result tokens.new }
     ensures shrinks { length tokens.new ≤ length tokens.old }
 {
     let negated = tokens.eat(Mark::Not);
@@ -161,7 +162,8 @@ fn within(
     operand: Boxed<Expr>,
     negated: bool,
 ) -> Result<Expr, Refusal>
-    ensures found { Gives Tree plan (at Level.Range) (within_plan operand negated) tokens.old result tokens.new }
+    ensures found { Gives Tree plan (at Level.Range)
+        (within_plan operand negated) tokens.old result tokens.new }
     ensures shrinks { length tokens.new ≤ length tokens.old }
 {
     if tokens.eat(Mark::Between) {
@@ -186,7 +188,8 @@ fn between(
     value: Boxed<Expr>,
     negated: bool,
 ) -> Result<Expr, Refusal>
-    ensures found { Gives Tree plan (at Level.Range) (between_plan value negated) tokens.old result tokens.new }
+    ensures found { Gives Tree plan (at Level.Range)
+        (between_plan value negated) tokens.old result tokens.new }
     ensures shrinks { length tokens.new ≤ length tokens.old }
 {
     let low = operand(alloc, tokens, Level::Concat)?;
@@ -225,7 +228,8 @@ fn cast(alloc: Global, tokens: &mut Cursor<'_>) -> Result<Expr, Refusal>
 
 /// The types behind `::`, of which there are at most two.
 fn casts_of(alloc: Global, tokens: &mut Cursor<'_>, operand: Boxed<Expr>) -> Result<Expr, Refusal>
-    ensures found { Gives Tree plan (at Level.Cast) (types_plan operand) tokens.old result tokens.new }
+    ensures found { Gives Tree plan (at Level.Cast)
+        (types_plan operand) tokens.old result tokens.new }
     ensures shrinks { length tokens.new ≤ length tokens.old }
 {
     let first = tokens.type_name()?;

@@ -93,7 +93,8 @@ fn recursive_with(
     columns: Items<Name>,
     selects: Items<Select>,
 ) -> Result<Boxed<Recursive>, Refusal>
-    ensures { Found (option_map (descent.recursive_with name columns) (descent.parted selects)) result }
+    ensures { Found (option_map (descent.recursive_with name columns)
+        (descent.parted selects)) result }
 {
     let Some((first, second)) = parted(selects) else {
         return Err(Refusal::NoTree);

@@ -8,5 +8,6 @@ ghost use Rattle.sql_text.specs.Descent.{plan};
 
 /// What the plan of a sort gives, the grammar reads.
 pub fn what_a_plan_gives_is_read()
-    ensures { (n : Sort) (ts : List Terminal) (x : Tree n) (rest : List Terminal) → Runs Tree plan n (plan n) ts (Some (x, rest)) → Reads n ts x rest }
+    ensures { (n : Sort) (ts : List Terminal) (x : Tree n) (rest : List Terminal)
+        → Runs Tree plan n (plan n) ts (Some (x, rest)) → Reads n ts x rest }
 {}

@@ -11,5 +11,6 @@ ghost use Rattle.away_grammar.specs.Tokens.{Lexeme};
 pub fn a_text_reads_as_one_tree()
     ensures query { (z : List ℕ) (q r : Query) → ReadsQuery z q → ReadsQuery z r → q ≡ r }
     ensures schema { (z : List ℕ) (s t : Schema) → ReadsSchema z s → ReadsSchema z t → s ≡ t }
-    ensures expression { (list : List Lexeme) (at : ℕ) (x y : Expr) (e f : ℕ) → IsExpression list at x e → IsExpression list at y f → (x ≡ y) × (e ≡ f) }
+    ensures expression { (list : List Lexeme) (at : ℕ) (x y : Expr) (e f : ℕ)
+        → IsExpression list at x e → IsExpression list at y f → (x ≡ y) × (e ≡ f) }
 {}

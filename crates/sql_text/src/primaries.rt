@@ -42,7 +42,8 @@ pub fn primary(alloc: Global, tokens: &mut Cursor<'_>) -> Result<Expr, Refusal>
 
 /// The type behind a parameter.
 fn parameter(tokens: &mut Cursor<'_>, number: u32) -> Result<Expr, Refusal>
-    ensures found { Gives Tree plan (at Level.Primary) (parameter_plan number) tokens.old result tokens.new }
+    ensures found { Gives Tree plan (at Level.Primary)
+        (parameter_plan number) tokens.old result tokens.new }
     ensures shrinks { length tokens.new ≤ length tokens.old }
 {
     tokens.expect(Mark::Colons)?;
@@ -52,7 +53,8 @@ fn parameter(tokens: &mut Cursor<'_>, number: u32) -> Result<Expr, Refusal>
 /// What a symbol or a reserved word begins, behind it.
 #[cycle(reader)]
 fn marked(alloc: Global, tokens: &mut Cursor<'_>, mark: Mark) -> Result<Expr, Refusal>
-    ensures found { Gives Tree plan (at Level.Primary) (marked_plan mark) tokens.old result tokens.new }
+    ensures found { Gives Tree plan (at Level.Primary)
+        (marked_plan mark) tokens.old result tokens.new }
     ensures shrinks { length tokens.new ≤ length tokens.old }
 {
     match mark {
@@ -67,7 +69,8 @@ fn marked(alloc: Global, tokens: &mut Cursor<'_>, mark: Mark) -> Result<Expr, Re
 /// A literal, or the arguments of a reserved word that is called.
 #[cycle(reader)]
 fn word(alloc: Global, tokens: &mut Cursor<'_>, mark: Mark) -> Result<Expr, Refusal>
-    ensures found { Gives Tree plan (at Level.Primary) (word_plan mark) tokens.old result tokens.new }
+    ensures found { Gives Tree plan (at Level.Primary)
+        (word_plan mark) tokens.old result tokens.new }
     ensures shrinks { length tokens.new ≤ length tokens.old }
 {
     if let Some(found) = literal(mark) {
@@ -128,7 +131,8 @@ fn cast_call(alloc: Global, tokens: &mut Cursor<'_>) -> Result<Expr, Refusal>
 
 /// A parameter, AS, a type and `)`.
 fn typed_parameter(tokens: &mut Cursor<'_>) -> Result<Expr, Refusal>
-    ensures found { Gives Tree plan (at Level.Primary) typed_parameter_plan tokens.old result tokens.new }
+    ensures found { Gives Tree plan
+        (at Level.Primary) typed_parameter_plan tokens.old result tokens.new }
     ensures shrinks { length tokens.new ≤ length tokens.old }
 {
     let number = tokens.parameter()?;
@@ -176,7 +180,8 @@ fn arms_of(alloc: Global, tokens: &mut Cursor<'_>) -> Result<Items<(Expr, Expr)>
 /// What stands behind a name: a column, or the arguments of a call.
 #[cycle(reader)]
 fn named(alloc: Global, tokens: &mut Cursor<'_>, name: Name) -> Result<Expr, Refusal>
-    ensures found { Gives Tree plan (at Level.Primary) (named_plan name) tokens.old result tokens.new }
+    ensures found { Gives Tree plan (at Level.Primary)
+        (named_plan name) tokens.old result tokens.new }
     ensures shrinks { length tokens.new ≤ length tokens.old }
 {
     if tokens.eat(Mark::Dot) {
@@ -199,7 +204,8 @@ fn named(alloc: Global, tokens: &mut Cursor<'_>, name: Name) -> Result<Expr, Ref
 
 /// The `)` behind `count(*`.
 fn rows_of(tokens: &mut Cursor<'_>, name: &Name) -> Result<Expr, Refusal>
-    ensures found { Gives Tree plan (at Level.Primary) (rows_plan name.now) tokens.old result tokens.new }
+    ensures found { Gives Tree plan (at Level.Primary)
+        (rows_plan name.now) tokens.old result tokens.new }
     ensures shrinks { length tokens.new ≤ length tokens.old }
 {
     if !is_count(name) {

@@ -68,7 +68,8 @@ pub fn read_expr(alloc: Global, list: &[Token<'_>], at: usize) -> Result<(Expr, 
     requires within { at ≤ length list.now }
     requires spelled { AreSpelled (map seen list.now) }
     ensures ok { IfOk result (λ found. IsExpression (map seen list.now) at found.0 found.1) }
-    ensures only { IfOk result (λ found. (x : Expr) (end : ℕ) → IsExpression (map seen list.now) at x end → (x ≡ found.0) × (end ≡ found.1)) }
+    ensures only { IfOk result (λ found. (x : Expr) (end : ℕ)
+        → IsExpression (map seen list.now) at x end → (x ≡ found.0) × (end ≡ found.1)) }
     ensures err { IfErr result (NoExpression (map seen list.now) at) }
 {
     let behind = &list[at..];
@@ -122,7 +123,8 @@ fn tokens_of<'a>(alloc: Global, bytes: &'a [u8]) -> Result<Vec<Token<'a>>, ReadR
 
 /// The bytes as text: UTF-8 without U+0000.
 pub fn as_text(bytes: &[u8]) -> Option<&str>
-    ensures { MatchOption result (¬ (IsText bytes.now)) (λ text. IsText bytes.now × (text.now ≡ bytes.now)) }
+    ensures { MatchOption result (¬ (IsText bytes.now))
+        (λ text. IsText bytes.now × (text.now ≡ bytes.now)) }
 {
     if bytes.contains(&0) {
         return None;

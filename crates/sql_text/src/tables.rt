@@ -29,7 +29,8 @@ fn from_with(source: Source, alias: Name, columns: Items<Name>) -> FromItem
 /// A table, perhaps behind `public.`, and its alias, which is its name where none is written.
 /// The manual: 7.2.1.2, Table and Column Aliases.
 pub fn table_item(alloc: Global, tokens: &mut Cursor<'_>) -> Result<FromItem, Refusal>
-    ensures found { Gives Tree plan from_item (descent.schema_qualified_name table_plan) tokens.old result tokens.new }
+    ensures found { Gives Tree plan from_item
+        (descent.schema_qualified_name table_plan) tokens.old result tokens.new }
     ensures shrinks { length tokens.new ≤ length tokens.old }
 {
     let name = schema_qualified_name(alloc, tokens)?;
@@ -77,7 +78,8 @@ pub fn named_subquery(
     query: Boxed<Query>,
     lateral: bool,
 ) -> Result<FromItem, Refusal>
-    ensures found { Gives Tree plan from_item (alias_plan query lateral) tokens.old result tokens.new }
+    ensures found { Gives Tree plan from_item
+        (alias_plan query lateral) tokens.old result tokens.new }
     ensures shrinks { length tokens.new ≤ length tokens.old }
 {
     tokens.eat(Mark::As);

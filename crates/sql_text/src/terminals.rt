@@ -143,7 +143,8 @@ pub fn terminals_of<'a>(
     tokens: &[Token<'a>],
 ) -> Result<Items<Terminal<'a>>, NoMemory>
     requires { AreSpelled (map seen tokens.now) }
-    ensures values { IfOk result (λ terminals. map meaning_of terminals ≡ spec.token_terminals (map seen tokens.now)) }
+    ensures values { IfOk result
+        (λ terminals. map meaning_of terminals ≡ spec.token_terminals (map seen tokens.now)) }
     ensures spelled { IfOk result (λ terminals. All HasSpelling terminals) }
 {
     let mut terminals = Items::from_vec(Vec::with_capacity(alloc, tokens.len())?);

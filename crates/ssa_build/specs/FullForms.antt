@@ -1,5 +1,18 @@
 -- The full form as tables: where slots are live, the names, and the sources of blocks.
-use Rattle.std.specs.Prelude.{◌≡◌, ℕ, ◌^◌, ◌<◌, Bool, false, if◌then◌else◌, List, [], length, get_or, nat_eq}
+use Rattle.std.specs.Prelude.{
+  ◌≡◌,
+  ℕ,
+  ◌^◌,
+  ◌<◌,
+  Bool,
+  false,
+  if◌then◌else◌,
+  List,
+  [],
+  length,
+  get_or,
+  nat_eq,
+}
 use Rattle.ssa_build.specs.declared.full.FullForm.{FullForm}
 use Rattle.ssa_build.specs.Forms.{Block}
 use Rattle.ssa_build.specs.Layout.{IsLayout}

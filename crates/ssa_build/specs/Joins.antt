@@ -1,5 +1,27 @@
--- Names that are merged, each entry leading to the next: joins of names are φs without their blocks.
-use Rattle.std.specs.Prelude.{◌≡◌, ◌≢◌, ◌⊎◌, ℕ, zero, suc, ◌+◌, ◌<◌, ◌≤◌, Bool, true, false, List, [], ◌∷◌, length, get_or, slice_get, Some, nat_eq}
+-- Names that are merged, each entry leading to the next: joins of names are φs without their
+-- blocks.
+use Rattle.std.specs.Prelude.{
+  ◌≡◌,
+  ◌≢◌,
+  ◌⊎◌,
+  ℕ,
+  zero,
+  suc,
+  ◌+◌,
+  ◌<◌,
+  ◌≤◌,
+  Bool,
+  true,
+  false,
+  List,
+  [],
+  ◌∷◌,
+  length,
+  get_or,
+  slice_get,
+  Some,
+  nat_eq,
+}
 use Rattle.ssa_build.specs.declared.joins.Found.{Found}
 use Rattle.ssa_build.specs.declared.joins.Found.TheVariants.{Several, One, Itself}
 
@@ -29,7 +51,8 @@ pub record WellFormed (slots : List ℕ) (joins : List Join) : Type 0 where
   pub distinct : (a b : ℕ) (i j : Join) → slice_get joins a ≡ Some i → slice_get joins b ≡ Some j → i.name ≡ j.name → a ≡ b
   pub spare_free : (a b : ℕ) (i j : Join) → slice_get joins a ≡ Some i → slice_get joins b ≡ Some j → i.spare ≡ j.name → ⊥
 
--- some names are merged, in so many steps: each join that is no root has one operand as far as names are merged
+-- some names are merged, in so many steps: each join that is no root has one operand as far as
+-- names are merged
 pub record Merging (slots : List ℕ) (joins : List Join) (into : List ℕ) (merges : ℕ) : Type 0 where
   pub sized : length into ≡ length slots
   pub within : IsWithin into

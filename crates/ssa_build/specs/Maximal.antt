@@ -1,5 +1,22 @@
 -- The form with a φ for each live slot of each block but the entry.
-use Rattle.std.specs.Prelude.{ℕ, suc, Bool, true, false, if◌then◌else◌, List, [], ◌∷◌, map, length, slice_get, Option, Some, None, nat_eq}
+use Rattle.std.specs.Prelude.{
+  ℕ,
+  suc,
+  Bool,
+  true,
+  false,
+  if◌then◌else◌,
+  List,
+  [],
+  ◌∷◌,
+  map,
+  length,
+  slice_get,
+  Option,
+  Some,
+  None,
+  nat_eq,
+}
 use Rattle.std.specs.List.{filter}
 use Rattle.block_forms.specs.Named.{leads}
 use Rattle.ssa_build.specs.Blocks.{term}

@@ -1,5 +1,28 @@
--- The names of the full form: one for each slot, then block by block one for each φ and one for the assignment.
-use Rattle.std.specs.Prelude.{◌≡◌, ℕ, zero, suc, ◌+◌, ◌<◌, Bool, false, if◌then◌else◌, List, [], ◌∷◌, ◌++◌, map, length, get_or, slice_get, nat_eq, Option, Some, None}
+-- The names of the full form: one for each slot, then block by block one for each φ and one for the
+-- assignment.
+use Rattle.std.specs.Prelude.{
+  ◌≡◌,
+  ℕ,
+  zero,
+  suc,
+  ◌+◌,
+  ◌<◌,
+  Bool,
+  false,
+  if◌then◌else◌,
+  List,
+  [],
+  ◌∷◌,
+  ◌++◌,
+  map,
+  length,
+  get_or,
+  slice_get,
+  nat_eq,
+  Option,
+  Some,
+  None,
+}
 use Rattle.std.specs.List.{filter}
 use Rattle.ssa_build.specs.declared.layout.Layout.{Layout}
 use Rattle.ssa_build.specs.Forms.{Block, Term}
@@ -36,7 +59,8 @@ module _ (l : Layout) (live : ℕ → ℕ → Bool) where
     abbrev pub next_name : ℕ → ℕ → ℕ
     next_name b s = length (names_below b) + length (phi_slots b s)
 
-    -- the names of the first n blocks: their slots, for each block those of its φs by slots, and that of its assignment
+    -- the names of the first n blocks: their slots, for each block those of its φs by slots, and
+    -- that of its assignment
     pub record NamesBelow (n : ℕ) (slots : List ℕ) (phis : List (List ℕ)) (sets : List ℕ) : Type 0 where
       pub slots_are : slots ≡ names_below n
       pub phis_long : length phis ≡ n

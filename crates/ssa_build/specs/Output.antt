@@ -1,5 +1,17 @@
 -- The form that is written.
-use Rattle.std.specs.Prelude.{Bool, ℕ, ◌&&◌, List, [], map, nat_eq, if◌then◌else◌, Option, Some, None}
+use Rattle.std.specs.Prelude.{
+  Bool,
+  ℕ,
+  ◌&&◌,
+  List,
+  [],
+  map,
+  nat_eq,
+  if◌then◌else◌,
+  Option,
+  Some,
+  None,
+}
 use Rattle.std.specs.List.{filter}
 use Rattle.ssa_build.specs.declared.full.FullForm.{FullForm}
 use Rattle.ssa_build.specs.Blocks.{term}

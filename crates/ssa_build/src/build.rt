@@ -67,7 +67,8 @@ pub(crate) fn build_form(alloc: Global, layout: Layout, g: &Goto) -> Result<Ssa,
 /// The SSA form of a checked function's goto form. It has no trivial φs, and no name that nothing sets beyond the slots' own.
 pub fn build_ssa(alloc: Global, f: &CheckedFunction, g: &Goto) -> Result<Ssa, NoMemory>
     requires lowered { Lowered f.now.function f.now.slots g.now }
-    ensures named { IfOk result (λ z. Named (length f.now.slots) (length f.now.function.params) g.now z) }
+    ensures named { IfOk result
+        (λ z. Named (length f.now.slots) (length f.now.function.params) g.now z) }
     ensures neat { IfOk result (λ z. HasNoTrivial z) }
     ensures used { IfOk result (λ z. NamesAreSet (length f.now.slots) z) }
 {

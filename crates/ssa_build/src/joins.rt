@@ -40,8 +40,10 @@ pub(crate) fn joined_names(joins: &Joins<'_>, place: PhiPlace, into: &[u32], mer
     requires place_in { IsPlace joins.now.full.now.layout place }
     requires within { IsWithin into.now }
     requires rooted { (n : ℕ) → n < length into.now → IsRoot into.now (walk into.now merges n) }
-    requires operands { (k : ℕ) → k < length (join_at joins.now.full.now joins.now.blocks.now place).operands
-        → get_or (join_at joins.now.full.now joins.now.blocks.now place).operands k 0 < length into.now }
+    requires operands { (k : ℕ)
+        → k < length (join_at joins.now.full.now joins.now.blocks.now place).operands
+        → get_or (join_at joins.now.full.now joins.now.blocks.now place).operands k 0
+        < length into.now }
     ensures { Tells into.now merges (join_at joins.now.full.now joins.now.blocks.now place) result }
 {
     let block = place.block as usize;
@@ -148,7 +150,8 @@ pub(crate) fn merge_all(joins: &Joins<'_>, into: &mut [u32]) -> usize
 /// Each name leads to itself.
 pub(crate) fn separate(alloc: Global, count: usize) -> Result<Vec<u32>, AllocError>
     requires { count < 2 ^ 32 }
-    ensures { IfOk result (λ v. (length v.items ≡ count) × ((n : ℕ) → n < count → IsRoot v.items n)) }
+    ensures { IfOk result (λ v. (length v.items ≡ count)
+        × ((n : ℕ) → n < count → IsRoot v.items n)) }
 {
     let mut into = Vec::new(alloc);
     for name in 0..count {

@@ -51,8 +51,10 @@ fn push_phis(
     names: &mut Vec<u32>,
 ) -> Result<Items<u32>, AllocError>
     requires room { length names.old.items + layout.slots < 2 ^ 32 }
-    ensures names { IfOk result (λ _. names.new.items ≡ names.old.items ++ names_of.phi_slots layout (live_by live.now) block layout.slots) }
-    ensures row { IfOk result (λ row. row ≡ names_of.next_row layout (live_by live.now) block (length names.old.items)) }
+    ensures names { IfOk result (λ _. names.new.items ≡ names.old.items
+        ++ names_of.phi_slots layout (live_by live.now) block layout.slots) }
+    ensures row { IfOk result (λ row. row ≡ names_of.next_row layout (live_by live.now) block
+        (length names.old.items)) }
 {
     let mut row = Items::from_vec(Vec::with_capacity(alloc, layout.slots)?);
     for slot in 0..layout.slots {
@@ -66,7 +68,8 @@ fn push_phis(
 
 /// Adds a name for the assignment of a block, if it has one.
 fn push_set(block: &Block, names: &mut Vec<u32>) -> Result<(), AllocError>
-    ensures { IfOk result (λ _. names.new.items ≡ names.old.items ++ names_of.set_slots block.now.set) }
+    ensures { IfOk result (λ _. names.new.items ≡ names.old.items
+        ++ names_of.set_slots block.now.set) }
 {
     if let Some((slot, _)) = &block.set {
         names.push(*slot)?;
@@ -84,7 +87,8 @@ pub(crate) fn full_names(
     requires is_layout { IsLayout layout }
     requires sized { length blocks.now ≡ layout.blocks }
     requires long { length live.now ≡ layout.slots }
-    ensures { IfOk result (λ n. names_of.NamesBelow layout (live_by live.now) blocks.now layout.blocks n.slots.items n.phis.items n.sets.items) }
+    ensures { IfOk result (λ n. names_of.NamesBelow layout
+        (live_by live.now) blocks.now layout.blocks n.slots.items n.phis.items n.sets.items) }
 {
     let mut slots = Vec::new(alloc);
     let mut phis = Vec::new(alloc);

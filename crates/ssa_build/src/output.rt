@@ -138,7 +138,8 @@ pub(crate) fn new_operands(
 ) -> Result<Items<(u32, u32)>, AllocError>
     requires tables { IsSized renaming.now.full.now }
     requires sized { length renaming.now.blocks.now ≡ renaming.now.full.now.layout.blocks }
-    requires sources_in { (k : ℕ) → k < length sources.now → get_or sources.now k 0 < renaming.now.full.now.layout.blocks }
+    requires sources_in { (k : ℕ) → k < length sources.now
+        → get_or sources.now k 0 < renaming.now.full.now.layout.blocks }
     requires slot_in { slot < renaming.now.full.now.layout.slots }
     ensures { IfOk result (λ v. v ≡ map (λ p. (p, renamed.after renaming.now p slot)) sources.now) }
 {
@@ -159,7 +160,8 @@ pub(crate) fn new_phis(
 ) -> Result<Items<Phi>, AllocError>
     requires tables { IsSized renaming.now.full.now }
     requires sized { length renaming.now.blocks.now ≡ renaming.now.full.now.layout.blocks }
-    requires sources_in { (k : ℕ) → k < length sources.now → get_or sources.now k 0 < renaming.now.full.now.layout.blocks }
+    requires sources_in { (k : ℕ) → k < length sources.now
+        → get_or sources.now k 0 < renaming.now.full.now.layout.blocks }
     requires sources_are { sources.now ≡ predecessors_of renaming.now.blocks.now block }
     requires block_in { block < renaming.now.full.now.layout.blocks }
     ensures { IfOk result (λ v. v ≡ renamed.slot_phis renaming.now block) }

@@ -17,7 +17,8 @@ fn push_block_places(
 ) -> Result<(), AllocError>
     requires tables { IsSized full.now }
     requires block_in { block < full.now.layout.blocks }
-    ensures { IfOk result (λ _. places.new.items ≡ places.old.items ++ block_places full.now block) }
+    ensures { IfOk result (λ _. places.new.items ≡ places.old.items
+        ++ block_places full.now block) }
 {
     if block == full.layout.entry {
         return Ok(());

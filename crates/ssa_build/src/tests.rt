@@ -78,7 +78,8 @@ fn shown(rt: &(impl Abort + AllocGlobal), z: &Ssa) -> String {
     out
 }
 
-/// Each name from 2 on is set once. collatz(n): steps := 0; WHILE n <> 1: IF n % 2 = 0: n := n / 2, ELSE n := 3 * n + 1; steps := steps + 1; RETURN steps.
+/// Each name from 2 on is set once. collatz(n): steps := 0; WHILE n <> 1: IF n % 2 = 0: n := n / 2, ELSE n := 3 * n + 1; steps := steps + 1; RETURN
+/// steps.
 #[test]
 fn collatz(rt: HostRuntime) {
     let mut blocks = Items::new(rt.alloc());

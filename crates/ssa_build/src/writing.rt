@@ -74,7 +74,8 @@ fn block_phis(
 ) -> Result<Items<Phi>, AllocError>
     requires tables { IsSized renaming.now.full.now }
     requires sized { length renaming.now.blocks.now ≡ renaming.now.full.now.layout.blocks }
-    requires sources { ArePredecessors renaming.now.blocks.now (length renaming.now.blocks.now) renaming.now.full.now.sources.items }
+    requires sources { ArePredecessors renaming.now.blocks.now
+        (length renaming.now.blocks.now) renaming.now.full.now.sources.items }
     requires block_in { block < renaming.now.full.now.layout.blocks }
     ensures { IfOk result (λ v. v ≡ renamed.phis_of renaming.now block) }
 {
@@ -89,7 +90,8 @@ fn block_phis(
 fn new_block(alloc: Global, renaming: &Renaming<'_>, block: usize) -> Result<SsaBlock, AllocError>
     requires tables { IsSized renaming.now.full.now }
     requires sized { length renaming.now.blocks.now ≡ renaming.now.full.now.layout.blocks }
-    requires sources { ArePredecessors renaming.now.blocks.now (length renaming.now.blocks.now) renaming.now.full.now.sources.items }
+    requires sources { ArePredecessors renaming.now.blocks.now
+        (length renaming.now.blocks.now) renaming.now.full.now.sources.items }
     requires block_in { block < renaming.now.full.now.layout.blocks }
     requires below { Each (BlockBelow renaming.now.full.now.layout.slots) renaming.now.blocks.now }
     ensures { IfOk result (λ y. renamed.IsBlock renaming.now block y) }
@@ -114,9 +116,11 @@ pub(crate) fn new_blocks(
 ) -> Result<Items<SsaBlock>, AllocError>
     requires tables { IsSized renaming.now.full.now }
     requires sized { length renaming.now.blocks.now ≡ renaming.now.full.now.layout.blocks }
-    requires sources { ArePredecessors renaming.now.blocks.now (length renaming.now.blocks.now) renaming.now.full.now.sources.items }
+    requires sources { ArePredecessors renaming.now.blocks.now
+        (length renaming.now.blocks.now) renaming.now.full.now.sources.items }
     requires below { Each (BlockBelow renaming.now.full.now.layout.slots) renaming.now.blocks.now }
-    ensures { IfOk result (λ ys. renamed.AreBlocks renaming.now renaming.now.full.now.layout.blocks ys) }
+    ensures { IfOk result (λ ys.
+        renamed.AreBlocks renaming.now renaming.now.full.now.layout.blocks ys) }
 {
     let mut written = Items::new(alloc);
     for block in 0..renaming.full.layout.blocks {

@@ -1,5 +1,23 @@
--- What makes a form SSA: each name has one definition, which on every path from the entry comes before each use.
-use Rattle.std.specs.Prelude.{◌≡◌, ℕ, ◌<◌, ◌≤◌, Bool, true, false, List, [], ◌∷◌, slice_get, Option, Some, None, nat_eq, option_map}
+-- What makes a form SSA: each name has one definition, which on every path from the entry comes
+-- before each use.
+use Rattle.std.specs.Prelude.{
+  ◌≡◌,
+  ℕ,
+  ◌<◌,
+  ◌≤◌,
+  Bool,
+  true,
+  false,
+  List,
+  [],
+  ◌∷◌,
+  slice_get,
+  Option,
+  Some,
+  None,
+  nat_eq,
+  option_map,
+}
 use Rattle.std.specs.List.{count_by}
 use Rattle.block_forms.specs.declared.forms.Term.{Term}
 use Rattle.block_forms.specs.declared.forms.End.{End}
@@ -95,8 +113,8 @@ pub data IsSetIn (params : ℕ) (z : Ssa) (before : List ℕ) (b n : ℕ) : Type
   earlier : IsSetAfter params z before n → IsSetIn params z before b n
   by_phi : (i : ℕ) → Sets z.blocks (definition b (phi i)) n → IsSetIn params z before b n
 
--- Along a path each name has its value before it is read: for the assignment of a block, for its end, and for the φs of
--- a block that it leads to.
+-- Along a path each name has its value before it is read: for the assignment of a block, for its
+-- end, and for the φs of a block that it leads to.
 pub record ReadsWhatIsSet (params : ℕ) (z : Ssa) (before : List ℕ) (b : ℕ) (y : SsaBlock) : Type 0 where
   pub assignment : Each (IsSetIn params z before b) (read_by y.set)
   pub end : Each (IsSetAfter params z (b ∷ before)) (read_at_end y.end)
@@ -132,7 +150,8 @@ NamesAreReadInSight = OfNamed (λ params g z. Each ReadsInSight z.blocks)
 abbrev pub DefinitionsComeFirst : Type 0
 DefinitionsComeFirst =
     OfNamed
-    (λ params g z. (before : List ℕ) (b : ℕ) (y : SsaBlock) → IsPath z g.entry before b → slice_get z.blocks b ≡ Some y → ReadsWhatIsSet params z before b y)
+    (λ params g z. (before : List ℕ) (b : ℕ) (y : SsaBlock) → IsPath z g.entry before b
+    → slice_get z.blocks b ≡ Some y → ReadsWhatIsSet params z before b y)
 
 abbrev pub HasNoPhi : Option SsaBlock → Type 0
 HasNoPhi None = ⊥

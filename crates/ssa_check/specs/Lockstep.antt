@@ -1,8 +1,47 @@
--- A named SSA form runs in lockstep with its goto form: the proof, which the law of the stage cites.
-use Rattle.std.proofs.Common.{◌≡◌, ◌≢◌, ℕ, zero, suc, ◌-◌, ◌<◌, ◌≤◌, Bool, true, false, cond, List, [], ◌∷◌, map, length, replicate, get_or, Option, Some, None, Ok, Err, refl, sym, ap, ◌∙◌, subst, arith}
+-- A named SSA form runs in lockstep with its goto form: the proof, which the law of the stage
+-- cites.
+use Rattle.std.proofs.Common.{
+  ◌≡◌,
+  ◌≢◌,
+  ℕ,
+  zero,
+  suc,
+  ◌-◌,
+  ◌<◌,
+  ◌≤◌,
+  Bool,
+  true,
+  false,
+  cond,
+  List,
+  [],
+  ◌∷◌,
+  map,
+  length,
+  replicate,
+  get_or,
+  Option,
+  Some,
+  None,
+  Ok,
+  Err,
+  refl,
+  sym,
+  ap,
+  ◌∙◌,
+  subst,
+  arith,
+}
 use Rattle.std.specs.Prelude.{slice_get, slice_set, nat_eq}
 use Rattle.std.proofs.lemmas.Bool.{eqb-true, eq-eqb, eqb-false}
-use Rattle.std.proofs.lemmas.List.{length-set, get_or-set_same, get_or-set_other, get_or_append_left, length-append, length-replicate}
+use Rattle.std.proofs.lemmas.List.{
+  length-set,
+  get_or-set_same,
+  get_or-set_other,
+  get_or_append_left,
+  length-append,
+  length-replicate,
+}
 use Rattle.std.proofs.lemmas.Option.{slice_get_within}
 use Rattle.away_values.specs.declared.values.Value.{Value}
 use Rattle.away_values.specs.declared.values.Value.TheVariants as val
@@ -16,9 +55,45 @@ use Rattle.block_forms.specs.declared.forms.Ssa.{Ssa}
 use Rattle.block_forms.specs.declared.forms.End.TheVariants.{Jump, Branch, Return, Fail}
 use Rattle.block_forms.specs.Forms.{Assignment, Pairs, at_key, source, AtTargets}
 use Rattle.block_forms.specs.Machines.{Move, ends, moves, stuck}
-use Rattle.block_forms.specs.Named.{MapOfSlots, MapOfParameters, EntryHas, Renamed, TermRenamed, AssignmentRenamed, EndRenamed, renewal, with_pair, exit_map, Gives, Feeds, Named}
+use Rattle.block_forms.specs.Named.{
+  MapOfSlots,
+  MapOfParameters,
+  EntryHas,
+  Renamed,
+  TermRenamed,
+  AssignmentRenamed,
+  EndRenamed,
+  renewal,
+  with_pair,
+  exit_map,
+  Gives,
+  Feeds,
+  Named,
+}
 use Rattle.block_forms.specs.Places.{Each}
-use Rattle.block_forms.specs.Runs.{Frame, way, is_head, term_value, branch, end_move, assigned, block_move, in_slots, goto_visit, goto_machine, first_slots, goto_runs, in_names, value_of, entered, entering, ssa_visit, ssa_machine, first_values, ssa_runs}
+use Rattle.block_forms.specs.Runs.{
+  Frame,
+  way,
+  is_head,
+  term_value,
+  branch,
+  end_move,
+  assigned,
+  block_move,
+  in_slots,
+  goto_visit,
+  goto_machine,
+  first_slots,
+  goto_runs,
+  in_names,
+  value_of,
+  entered,
+  entering,
+  ssa_visit,
+  ssa_machine,
+  first_values,
+  ssa_runs,
+}
 use Rattle.block_forms.proofs.AlikeMachines.{AlikeMoves, AlikeMachines, runs_alike}
 use Rattle.block_forms.proofs.Pairs.{no_element}
 use Rattle.block_forms.proofs.Keys.{each_at_key}
@@ -144,7 +219,9 @@ module _ (frame : Frame) where
         (s : List Value) (f : ℕ → Value) (wide : length s ≡ frame.slots) (a : Agrees y.map s f) where
       assigned_alike : (slot name : ℕ) (r q : Or Value) → r ≡ q → slice_get names name ≡ Some slot → EndRenamed ((slot, name) ∷ y.map) x.end y.end
           → AtTargets (λ c. Feeds b ((slot, name) ∷ y.map) (slice_get z.blocks c)) x.end
-          → AlikeMoves (Left b ((slot, name) ∷ y.map)) (assigned frame (in_slots frame) slot r x.end s) (assigned frame (in_names frame) name q y.end f)
+          → AlikeMoves (Left b ((slot, name) ∷ y.map))
+          (assigned frame (in_slots frame) slot r x.end s)
+          (assigned frame (in_names frame) name q y.end f)
       assigned_alike slot name (Err c) (Err d) e own r fed = e
       assigned_alike slot name (Err c) (Ok w) e own r fed = absurd (cc)
       assigned_alike slot name (Ok v) (Err d) e own r fed = absurd (cc)
@@ -159,7 +236,9 @@ module _ (frame : Frame) where
 
       move_alike : (p q : Assignment) → AssignmentRenamed names y.map p q → EndRenamed (with_pair (renewal p q) y.map) x.end y.end
           → AtTargets (λ c. Feeds b (with_pair (renewal p q) y.map) (slice_get z.blocks c)) x.end
-          → AlikeMoves (Left b (with_pair (renewal p q) y.map)) (block_move frame (in_slots frame) p x.end s) (block_move frame (in_names frame) q y.end f)
+          → AlikeMoves (Left b (with_pair (renewal p q) y.map))
+          (block_move frame (in_slots frame) p x.end s)
+          (block_move frame (in_names frame) q y.end f)
       move_alike None None r e fed = end_alike b y.map s f wide a x.end y.end e fed
       move_alike None (Some q) r e fed = absurd r
       move_alike (Some p) None r e fed = absurd r
@@ -208,7 +287,9 @@ module _ (frame : Frame) where
       visit_alike b s f (Some x) (Some y) d e wide a =
           let renamed = named.blocks b x y d e in
           entering_alike b (exit_map x y) (goto_visit frame (Some x) s) (ssa_visit frame (Some y) f)
-          (move_alike b z.names x y named.names.of_slots (named.maps b y e) s f wide a x.set y.set renamed.set renamed.end (named.edges b x y d e).each)
+          (move_alike b z.names x y named.names.of_slots
+          (named.maps b y e) s f wide a x.set y.set renamed.set renamed.end
+          (named.edges b x y d e).each)
 
       visits_alike : (s : ℕ × List Value) (t : ℕ × (ℕ → Value)) → Meets s t
           → AlikeMoves Meets ((goto_machine frame frame.goto).visit s) ((ssa_machine frame z).visit t)
@@ -233,7 +314,11 @@ module _ (frame : Frame) where
         starts_wide : length (first_slots frame args) ≡ frame.slots
         starts_wide =
             let le = enough_slots frame.params refl in
-            omega (arith, length-append args (replicate (frame.slots - frame.params) val.Null), length-replicate (frame.slots - frame.params) val.Null)
+            omega (
+              arith,
+              length-append args (replicate (frame.slots - frame.params) val.Null),
+              length-replicate (frame.slots - frame.params) val.Null,
+            )
 
         starts_agreed : (o : Option SsaBlock) → EntryHas (MapOfParameters frame.params) o
             → AgreesAt o (first_slots frame args) (first_values frame args)

@@ -88,7 +88,8 @@ pub(crate) fn is_named(slots: usize, params: usize, goto: &Goto, ssa: &Ssa) -> b
 
 /// Whether the SSA form is that of the goto form of the function.
 pub fn check_named(f: &CheckedFunction, g: &Goto, s: &Ssa) -> bool
-    ensures exact { IsTrue result ↔ Named (length f.now.slots) (length f.now.function.params) g.now s.now }
+    ensures exact { IsTrue result ↔ Named (length f.now.slots)
+        (length f.now.function.params) g.now s.now }
     ensures bounds { IsTrue result → BoundsIn (setting_of f.now.function f.now.slots g.now) s.now }
 {
     is_named(f.slots.len(), f.function.params.len(), g, s)

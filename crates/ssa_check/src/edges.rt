@@ -47,7 +47,8 @@ fn has_operand(operands: &[(u32, u32)], b: usize) -> bool
 
 /// Each predecessor of block c has an operand.
 fn of_each_predecessor(blocks: &[Block], c: usize, operands: &[(u32, u32)]) -> bool
-    ensures { IsTrue result ↔ EachAt (λ b x. end_leads x.end c ≡ true → IsThere (at_key operands.now b)) blocks.now }
+    ensures { IsTrue result ↔ EachAt (λ b x. end_leads x.end c ≡ true
+        → IsThere (at_key operands.now b)) blocks.now }
 {
     blocks.iter().enumerate().all(|(b, block)| !end_leads(&block.end, c)
         || has_operand(operands, b))
@@ -96,7 +97,8 @@ fn gives(exit: Option<u32>, taken: Option<u32>) -> bool
 }
 
 fn feeds_block(b: usize, first: Option<(u32, u32)>, pairs: &[(u32, u32)], block: &SsaBlock) -> bool
-    ensures { IsTrue result ↔ Each (λ p. Gives (at_key (with_pair first pairs.now) p.0) (source block.now.phis b p.1)) block.now.map }
+    ensures { IsTrue result ↔ Each (λ p. Gives (at_key (with_pair first pairs.now) p.0)
+        (source block.now.phis b p.1)) block.now.map }
 {
     block.map.as_slice().iter().all(|p| gives(
         renewed_key(first, pairs, p.0),
@@ -128,7 +130,8 @@ fn targets_fed(
     blocks: &[SsaBlock],
     end: &End,
 ) -> bool
-    ensures { IsTrue result ↔ AtTargets (λ c. Feeds b (with_pair first pairs.now) (slice_get blocks.now c)) end.now }
+    ensures { IsTrue result ↔ AtTargets
+        (λ c. Feeds b (with_pair first pairs.now) (slice_get blocks.now c)) end.now }
 {
     match end {
         End::Jump(c) => feeds(b, first, pairs, blocks, *c),

@@ -70,7 +70,8 @@ fn maps(pairs: &[(u32, u32)], slot: Option<u32>, name: u32) -> bool
 
 /// The map has the slot of each φ, with its name.
 pub(crate) fn phis_mapped(names: &[u32], pairs: &[(u32, u32)], phis: &[Phi]) -> bool
-    ensures { IsTrue result ↔ Each (λ f. Maps pairs.now (slice_get names.now f.name) f.name) phis.now }
+    ensures { IsTrue result ↔ Each
+        (λ f. Maps pairs.now (slice_get names.now f.name) f.name) phis.now }
 {
     phis.iter()
         .all(|f| maps(pairs, slot_of(names, f.name), f.name))

@@ -7,7 +7,14 @@ use Rattle.away_types.specs.declared.slots.Slot.{Slot}
 use Rattle.call_forms.specs.declared.forms.Forms.{Forms}
 use Rattle.equivalence.specs.Accepted.{AcceptedForms, Holds}
 use Rattle.equivalence.specs.declared.relation.Relation.{Relation}
-use Rattle.equivalence.specs.declared.relation.Relation.TheVariants.{Lowered, Named, Called, Merged, Columned, Templated}
+use Rattle.equivalence.specs.declared.relation.Relation.TheVariants.{
+  Lowered,
+  Named,
+  Called,
+  Merged,
+  Columned,
+  Templated,
+}
 use Rattle.stage_check.specs.declared.verdict.Verdict.{Verdict}
 use Rattle.stage_check.specs.declared.verdict.Verdict.TheVariants.{Accepted, Fails}
 

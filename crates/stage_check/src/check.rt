@@ -27,8 +27,10 @@ pub fn check_all(
     q: &CheckedQuery,
     forms: &Forms,
 ) -> Result<Verdict, NoMemory>
-    ensures exact { IfOk result (Judges s.now.schema f.now.function f.now.slots forms.now q.now.query) }
-    ensures equivalent { IfOk result (λ v. v ≡ Accepted → (written : Function) → IsChecked s.now.schema written f.now.function f.now.slots
+    ensures exact { IfOk result
+        (Judges s.now.schema f.now.function f.now.slots forms.now q.now.query) }
+    ensures equivalent { IfOk result (λ v. v ≡ Accepted → (written : Function)
+        → IsChecked s.now.schema written f.now.function f.now.slots
         → EquivalentWith s.now.schema f.now.function f.now.slots q.now.query) }
 {
     accepted_forms_are_equivalent(f);

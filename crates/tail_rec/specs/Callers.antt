@@ -1,5 +1,23 @@
 -- How many calls go to each block, and the blocks that are labels whatever their depth.
-use Rattle.std.specs.Prelude.{ℕ, Bool, true, false, ◌||◌, List, [], ◌∷◌, length, get_or, replicate, slice_get, slice_set, Option, Some, None, nat_eq}
+use Rattle.std.specs.Prelude.{
+  ℕ,
+  Bool,
+  true,
+  false,
+  ◌||◌,
+  List,
+  [],
+  ◌∷◌,
+  length,
+  get_or,
+  replicate,
+  slice_get,
+  slice_set,
+  Option,
+  Some,
+  None,
+  nat_eq,
+}
 use Rattle.block_forms.specs.declared.forms.Goto.{Goto}
 use Rattle.block_forms.specs.Runs.{is_head}
 use Rattle.call_forms.specs.declared.forms.CallEnd.{CallEnd}

@@ -1,5 +1,25 @@
--- The columns of labels: for each type as many as the most parameters of it that one label has. A label's parameters of a type take its columns in order.
-use Rattle.std.specs.Prelude.{ℕ, suc, ◌+◌, ◌<◌, ◌^◌, if◌then◌else◌, List, [], ◌∷◌, ◌++◌, length, map, replicate, slice_get, Option, Some, None, nat_lt}
+-- The columns of labels: for each type as many as the most parameters of it that one label has. A
+-- label's parameters of a type take its columns in order.
+use Rattle.std.specs.Prelude.{
+  ℕ,
+  suc,
+  ◌+◌,
+  ◌<◌,
+  ◌^◌,
+  if◌then◌else◌,
+  List,
+  [],
+  ◌∷◌,
+  ◌++◌,
+  length,
+  map,
+  replicate,
+  slice_get,
+  Option,
+  Some,
+  None,
+  nat_lt,
+}
 use Rattle.std.specs.List.{count_by}
 use Rattle.away_values.specs.declared.types.Ty.{Ty}
 use Rattle.away_values.specs.declared.types.Ty.TheVariants as ty

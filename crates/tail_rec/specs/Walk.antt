@@ -1,6 +1,24 @@
--- The walk from labels along calls. It begins with the labels that are firm, and goes on behind each block that it has reached, in turn. A block
--- that would have a depth of sixteen is a label.
-use Rattle.std.specs.Prelude.{ℕ, zero, suc, Bool, true, false, if◌then◌else◌, List, [], ◌∷◌, ◌++◌, length, slice_get, Option, Some, None, nat_lt}
+-- The walk from labels along calls. It begins with the labels that are firm, and goes on behind
+-- each block that it has reached, in turn. A block that would have a depth of sixteen is a label.
+use Rattle.std.specs.Prelude.{
+  ℕ,
+  zero,
+  suc,
+  Bool,
+  true,
+  false,
+  if◌then◌else◌,
+  List,
+  [],
+  ◌∷◌,
+  ◌++◌,
+  length,
+  slice_get,
+  Option,
+  Some,
+  None,
+  nat_lt,
+}
 use Rattle.block_forms.specs.declared.forms.Goto.{Goto}
 use Rattle.call_forms.specs.declared.forms.CallEnd.{CallEnd}
 use Rattle.call_forms.specs.declared.forms.AnfBlock.{AnfBlock}
@@ -54,6 +72,7 @@ abbrev pub labels_among : List Reached → List ℕ
 labels_among [] = []
 labels_among (r ∷ rs) = if r.is_label then r.block ∷ labels_among rs else labels_among rs
 
--- the labels of a form: the entry, heads, blocks with several calls to them, and what would have a depth of sixteen
+-- the labels of a form: the entry, heads, blocks with several calls to them, and what would have a
+-- depth of sixteen
 abbrev pub labels_of : Goto → List AnfBlock → List ℕ
 labels_of goto xs = labels_among (walked (is_firm goto (callers_of xs)) xs (length xs))

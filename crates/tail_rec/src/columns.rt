@@ -88,7 +88,8 @@ fn needed(slots: &[Slot], names: &[u32], blocks: &[AnfBlock], block: u32, t: Ty)
 /// The most parameters of the type that one label has.
 fn most_needed(slots: &[Slot], names: &[u32], blocks: &[AnfBlock], labels: &[u32], t: Ty) -> u32
     requires { Each spec.HasFewParameters blocks.now }
-    ensures exact { result ≡ spec.most_of (spec.needed (type_of_name slots.now names.now) blocks.now t) 0 labels.now }
+    ensures exact { result ≡ spec.most_of
+        (spec.needed (type_of_name slots.now names.now) blocks.now t) 0 labels.now }
     ensures few { result < 2 ^ 28 }
 {
     let mut most = 0;
@@ -109,7 +110,8 @@ pub(crate) fn widths_of(
     labels: &[u32],
 ) -> PerType
     requires { Each spec.HasFewParameters blocks.now }
-    ensures exact { result ≡ spec.widths_of (type_of_name slots.now names.now) blocks.now labels.now }
+    ensures exact { result ≡ spec.widths_of
+        (type_of_name slots.now names.now) blocks.now labels.now }
     ensures few { spec.AreFew result }
 {
     PerType {

@@ -89,7 +89,8 @@ fn placed(
     starts: PerType,
 ) -> Result<Items<u32>, AllocError>
     requires { spec.HasRoom starts (length params.now) }
-    ensures { IfOk result (λ v. v ≡ spec.placed (type_of_name slots.now names.now) starts params.now) }
+    ensures { IfOk result (λ v. v
+        ≡ spec.placed (type_of_name slots.now names.now) starts params.now) }
 {
     let mut places = Items::new(alloc);
     let mut free = starts;
@@ -112,7 +113,8 @@ fn places_at(
 ) -> Result<Items<u32>, AllocError>
     requires few { Each spec.HasFewParameters blocks.now }
     requires room { (more : ℕ) → more < 2 ^ 28 → spec.HasRoom starts more }
-    ensures { IfOk result (λ v. v ≡ spec.places_at (type_of_name slots.now names.now) blocks.now starts block) }
+    ensures { IfOk result (λ v. v
+        ≡ spec.places_at (type_of_name slots.now names.now) blocks.now starts block) }
 {
     match blocks.get(block as usize) {
         None => Ok(Items::new(alloc)),
@@ -131,7 +133,8 @@ pub(crate) fn places_of(
 ) -> Result<Items<Items<u32>>, AllocError>
     requires few { Each spec.HasFewParameters blocks.now }
     requires room { (more : ℕ) → more < 2 ^ 28 → spec.HasRoom starts more }
-    ensures { IfOk result (λ v. v ≡ spec.places_of (type_of_name slots.now names.now) blocks.now starts labels.now) }
+    ensures { IfOk result (λ v. v
+        ≡ spec.places_of (type_of_name slots.now names.now) blocks.now starts labels.now) }
 {
     let mut places = Items::new(alloc);
     for label in labels {

@@ -50,7 +50,8 @@ fn reach(
     block: u32,
     depth: u32,
 ) -> Result<(), AllocError>
-    ensures { OnOk result (reached.new.items ≡ reached.old.items ++ spec.followed (is_firm goto.now callers.now) depth block) }
+    ensures { OnOk result (reached.new.items ≡ reached.old.items
+        ++ spec.followed (is_firm goto.now callers.now) depth block) }
 {
     if is_firm(goto, callers, block) {
         return Ok(());
@@ -90,7 +91,8 @@ fn reach_arm(
     block: u32,
     depth: u32,
 ) -> Result<(), AllocError>
-    ensures { OnOk result (reached.new.items ≡ reached.old.items ++ spec.picked (is_firm goto.now callers.now) depth block) }
+    ensures { OnOk result (reached.new.items ≡ reached.old.items
+        ++ spec.picked (is_firm goto.now callers.now) depth block) }
 {
     if is_firm(goto, callers, block) {
         return Ok(());
@@ -107,7 +109,8 @@ fn reach_end(
     end: &CallEnd,
     depth: u32,
 ) -> Result<(), AllocError>
-    ensures { OnOk result (reached.new.items ≡ reached.old.items ++ spec.after_end (is_firm goto.now callers.now) depth end.now) }
+    ensures { OnOk result (reached.new.items ≡ reached.old.items
+        ++ spec.after_end (is_firm goto.now callers.now) depth end.now) }
 {
     match end {
         CallEnd::Go(call) => reach(reached, goto, callers, call.target, depth),
@@ -128,7 +131,8 @@ fn reach_next(
     blocks: &[AnfBlock],
     from: Reached,
 ) -> Result<(), AllocError>
-    ensures { OnOk result (reached.new.items ≡ reached.old.items ++ spec.after (is_firm goto.now callers.now) blocks.now from) }
+    ensures { OnOk result (reached.new.items ≡ reached.old.items
+        ++ spec.after (is_firm goto.now callers.now) blocks.now from) }
 {
     match blocks.get(from.block as usize) {
         None => Ok(()),
@@ -144,7 +148,8 @@ pub(crate) fn walk_calls(
     blocks: &[AnfBlock],
 ) -> Result<Vec<Reached>, AllocError>
     requires { length blocks.now ≤ 2 ^ 32 }
-    ensures { IfOk result (λ v. v.items ≡ spec.walked (is_firm goto.now callers.now) blocks.now (length blocks.now)) }
+    ensures { IfOk result (λ v. v.items ≡ spec.walked (is_firm goto.now callers.now) blocks.now
+        (length blocks.now)) }
 {
     let mut reached = firm_labels(alloc, goto, callers, blocks.len())?;
     for at in 0..blocks.len() {

@@ -5,7 +5,16 @@ use Rattle.away_values.specs.declared.operators.ChainOp.{ChainOp}
 use Rattle.away_trees.specs.declared.queries.Expr.{Expr}
 use Rattle.away_trees.specs.declared.queries.Query.{Query}
 use Rattle.away_trees.specs.declared.queries.Recursive.{Recursive}
-use Rattle.away_trees.specs.declared.queries.Expr.TheOpen.{Expr-F, Source-F, FromItem-F, Item-F, Key-F, Select-F, Recursive-F, Query-F}
+use Rattle.away_trees.specs.declared.queries.Expr.TheOpen.{
+  Expr-F,
+  Source-F,
+  FromItem-F,
+  Item-F,
+  Key-F,
+  Select-F,
+  Recursive-F,
+  Query-F,
+}
 use Rattle.away_trees.specs.declared.queries.Expr.TheOpen as ex
 use Rattle.away_trees.specs.Algebra.{Algebra, expr_of, recursive_of, query_of}
 use Rattle.tree_events.specs.declared.events.Kind.{Kind}

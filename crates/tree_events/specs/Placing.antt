@@ -1,4 +1,5 @@
--- The events of an expression with columns for its slots and casts round its literals, by the events of the expression.
+-- The events of an expression with columns for its slots and casts round its literals, by the
+-- events of the expression.
 use Rattle.std.specs.Prelude.{◌≡◌, ℕ, zero, suc, [], ◌∷◌}
 use Rattle.away_values.specs.declared.types.Ty.TheVariants as ty
 use Rattle.away_trees.specs.declared.queries.Col.{Col}

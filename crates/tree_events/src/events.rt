@@ -57,7 +57,8 @@ pub enum TreeEvent {
     Name(Name),
 }
 
-/// The order of a select's parts. The whole tree has FROM first. In the order of reading the list comes first, and a query's recursive part is left out.
+/// The order of a select's parts. The whole tree has FROM first. In the order of reading the list comes first, and a query's recursive part is left
+/// out.
 #[derive(Clone, Copy, Debug, PartialEq, Eq)]
 pub enum Manner {
     Whole,

@@ -162,7 +162,8 @@ fn push_else(
     events: &mut Items<TreeEvent>,
     other: &Option<Boxed<Expr>>,
 ) -> Result<(), NoMemory>
-    ensures { Adds (option (λ x. spec.node kind.Else (expr_of (shaping manner) x)) other.now) events.old result events.new }
+    ensures { Adds (option (λ x. spec.node kind.Else
+        (expr_of (shaping manner) x)) other.now) events.old result events.new }
 {
     match other {
         None => Ok(()),
@@ -178,7 +179,8 @@ fn push_list(
     events: &mut Items<TreeEvent>,
     list: &[Item],
 ) -> Result<(), NoMemory>
-    ensures { Adds (spec.node kind.List (row (item_of (shaping manner)) list.now)) events.old result events.new }
+    ensures { Adds (spec.node kind.List
+        (row (item_of (shaping manner)) list.now)) events.old result events.new }
 {
     open(events, Kind::List)?;
     for item in list {
@@ -194,7 +196,8 @@ fn push_from(
     events: &mut Items<TreeEvent>,
     list: &[FromItem],
 ) -> Result<(), NoMemory>
-    ensures { Adds (spec.node kind.From (row (from_of (shaping manner)) list.now)) events.old result events.new }
+    ensures { Adds (spec.node kind.From
+        (row (from_of (shaping manner)) list.now)) events.old result events.new }
 {
     open(events, Kind::From)?;
     for item in list {
@@ -231,7 +234,8 @@ fn push_option(
     kind: Kind,
     e: &Option<Expr>,
 ) -> Result<(), NoMemory>
-    ensures { Adds (spec.node kind (option (λ x. expr_of (shaping manner) x) e.now)) events.old result events.new }
+    ensures { Adds (spec.node kind
+        (option (λ x. expr_of (shaping manner) x) e.now)) events.old result events.new }
 {
     open(events, kind)?;
     if let Some(x) = e {
@@ -247,7 +251,8 @@ fn push_order(
     events: &mut Items<TreeEvent>,
     keys: &[Key],
 ) -> Result<(), NoMemory>
-    ensures { Adds (spec.node kind.Order (row (key_of (shaping manner)) keys.now)) events.old result events.new }
+    ensures { Adds (spec.node kind.Order
+        (row (key_of (shaping manner)) keys.now)) events.old result events.new }
 {
     open(events, Kind::Order)?;
     for key in keys {
@@ -264,8 +269,10 @@ fn push_list_and_from(
     events: &mut Items<TreeEvent>,
     select: &Select,
 ) -> Result<(), NoMemory>
-    ensures { Adds (spec.list_and_from manner (spec.node kind.List (row (item_of (shaping manner)) (out-Select select.now).list))
-        (spec.node kind.From (row (from_of (shaping manner)) (out-Select select.now).from))) events.old result events.new }
+    ensures { Adds (spec.list_and_from manner
+        (spec.node kind.List (row (item_of (shaping manner)) (out-Select select.now).list))
+        (spec.node kind.From (row (from_of (shaping manner))
+        (out-Select select.now).from))) events.old result events.new }
 {
     match manner {
         Manner::Whole => {

@@ -71,7 +71,8 @@ fn distinct(alloc: Global, list: &[u32]) -> Result<Items<u32>, NoMemory>
     Ok(kept)
 }
 
-/// The slots in events, each once, in the order of their first occurrence. The time is in the number of events, and in that of slots times how many differ.
+/// The slots in events, each once, in the order of their first occurrence. The time is in the number of events, and in that of slots times how many
+/// differ.
 pub fn slots_of_events(alloc: Global, events: &[TreeEvent]) -> Result<Items<u32>, NoMemory>
     ensures { IfOk result (λ l. l ≡ spec.first_occurrences (slots_in events.now)) }
 {

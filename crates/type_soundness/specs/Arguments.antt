@@ -1,4 +1,5 @@
--- The parameters that stand in a tree, each with its type as often as it stands there, in the order of the text, a select's list before its FROM.
+-- The parameters that stand in a tree, each with its type as often as it stands there, in the order
+-- of the text, a select's list before its FROM.
 use Rattle.std.specs.Prelude.{ℕ, List, [], ◌∷◌, ◌++◌, Option, Some, None}
 use Rattle.std.specs.List.{flat_map}
 use Rattle.away_values.specs.declared.types.Ty.{Ty}

@@ -1,4 +1,5 @@
--- The expressions of a function whose names are resolved, each with the type that is asked of it where it stands.
+-- The expressions of a function whose names are resolved, each with the type that is asked of it
+-- where it stands.
 use Rattle.std.specs.Prelude.{◌≡◌, ℕ, List, [], ◌∷◌, ◌++◌, slice_get, Option, Some, None, Ok}
 use Rattle.std.specs.List.{flat_map}
 use Rattle.away_values.specs.declared.types.Ty.{Ty}
@@ -56,8 +57,9 @@ head kind.Plain = []
 head (kind.While e) = one Boolean e
 head (kind.Count var reverse first last step) = one Bigint first ++ (one Bigint last ++ maybe Bigint step)
 
--- The default of a declaration and what is assigned have the variable's type, conditions are boolean, the bounds and the step of a FOR bigint, and
--- what is returned has the type of the result.
+-- The default of a declaration and what is assigned have the variable's type, conditions are
+-- boolean, the bounds and the step of a FOR bigint, and what is returned has the type of the
+-- result.
 abbrev pub statement : Stmt-F Asks Asks → Asks
 statement (st.Block label decls body closing) slots result = defaults decls ++ all body slots result
 statement (st.Assign name slot e) slots result = (slot_type slots slot, e) ∷ []
@@ -85,7 +87,8 @@ GivesItsType s slots result (None, e) = ⊥
 GivesItsType s slots result (Some t, e) =
     (cx : Context) (v : Value) → Fit (asked_in s slots result).places cx → cx.args ≡ [] → value e cx ≡ Ok v → IsOf t v
 
--- Each expression of a checked function gives a value of the type that is asked of it, where it gives one.
+-- Each expression of a checked function gives a value of the type that is asked of it, where it
+-- gives one.
 abbrev pub CheckedFunctionsAreTyped : Type 0
 CheckedFunctionsAreTyped =
     (s : Schema) (written checked : Function) (slots : List Slot) → IsChecked s written checked slots

@@ -1,5 +1,6 @@
--- The sort of a value: of which type it is, whatever its size. A count is a whole number also where a group has more rows than a bigint can say, and
--- only what is a value is within the range of bigint or the length of a text.
+-- The sort of a value: of which type it is, whatever its size. A count is a whole number also where
+-- a group has more rows than a bigint can say, and only what is a value is within the range of
+-- bigint or the length of a text.
 use Rattle.std.specs.Prelude.{◌≡◌, true, List, [], ◌∷◌}
 use Rattle.away_values.specs.declared.types.Ty.{Ty}
 use Rattle.away_values.specs.declared.types.Ty.TheVariants as ty

@@ -15,7 +15,8 @@ IsRow = AllZip IsOf
 abbrev pub AreRows : List Ty → Rows → Type 0
 AreRows ts = Every (IsRow ts)
 
--- Tables of these types. One that is missing has no rows, as the recursive table has none while the first term is evaluated.
+-- Tables of these types. One that is missing has no rows, as the recursive table has none while the
+-- first term is evaluated.
 abbrev pub AreTables : List (List Ty) → List Rows → Type 0
 AreTables types [] = Unit {0}
 AreTables [] (rows ∷ more) = Unit {0}
@@ -35,7 +36,8 @@ abbrev pub IsOfGroup : List typing.Frame → Frame → Type 0
 IsOfGroup [] frame = ⊥
 IsOfGroup (types ∷ outer) frame = IsFrame types frame
 
--- The variables, the rows of enclosing selects and the tables have the types that the typing has there.
+-- The variables, the rows of enclosing selects and the tables have the types that the typing has
+-- there.
 pub record Fit (p : Places) (cx : Context) : Type 0 where
   pub variables : IsRow p.slots cx.env
   pub frames : AllZip IsSeen p.frames cx.frames

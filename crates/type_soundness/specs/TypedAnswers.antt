@@ -14,8 +14,9 @@ use Rattle.type_soundness.specs.Arguments.{Supplied}
 use Rattle.type_soundness.specs.Sorts.{IsOf}
 use Rattle.type_soundness.specs.Surroundings.{AreRows}
 
--- Over tables that fit the schema, with arguments of its parameters' types, and at every bound: each of its rows has a value of the type of its first
--- column and a text, and where it answers a value, that is of that type.
+-- Over tables that fit the schema, with arguments of its parameters' types, and at every bound:
+-- each of its rows has a value of the type of its first column and a text, and where it answers a
+-- value, that is of that type.
 pub record IsTyped (s : Schema) (q : Query) (params : List (ℕ × Ty)) (first : Ty) : Type 0 where
   pub rows_are : (tables : List Rows) (args : List Value) (k : ℕ) (out : Rows) → FitsSchema s tables → Supplied args params
       → rows q tables args k ≡ Some (Ok out) → AreRows (first ∷ Text ∷ []) out

@@ -1,4 +1,5 @@
--- What the kind of an expression says of its value, and the types of a query of the rows that it gives.
+-- What the kind of an expression says of its value, and the types of a query of the rows that it
+-- gives.
 use Rattle.std.specs.Prelude.{◌≡◌, List, Some, Ok}
 use Rattle.away_values.specs.declared.types.Ty.{Ty}
 use Rattle.away_values.specs.declared.types.Ty.TheVariants.{Bigint}

@@ -1,4 +1,5 @@
--- Worked examples: what is asked of a function's expressions, which parameters stand in a query, and which values are of a type where they stand.
+-- Worked examples: what is asked of a function's expressions, which parameters stand in a query,
+-- and which values are of a type where they stand.
 use Rattle.std.specs.Prelude.{◌≡◌, ℕ, pos, true, false, List, [], ◌∷◌, codes, Some, None}
 use Rattle.away_values.specs.declared.types.Ty.{Ty}
 use Rattle.away_values.specs.declared.types.Ty.TheVariants as ty
@@ -28,8 +29,9 @@ condition = expr.Slot 0
 abbrev a_text : Expr
 a_text = expr.Str (codes "x")
 
--- f(a boolean) RETURNS text: DECLARE b text := 'x'; BEGIN IF a THEN a := TRUE; ELSE b := NULL; END IF; FOR i IN 1 .. 2 BY 3 LOOP EXIT WHEN a; END LOOP;
--- WHILE a LOOP CONTINUE WHEN a; END LOOP; RETURN b; END;
+-- f(a boolean) RETURNS text: DECLARE b text := 'x'; BEGIN IF a THEN a := TRUE; ELSE b := NULL; END
+-- IF; FOR i IN 1 .. 2 BY 3 LOOP EXIT WHEN a; END LOOP; WHILE a LOOP CONTINUE WHEN a; END LOOP;
+-- RETURN b; END;
 abbrev pub asking_each : Function
 asking_each = record {
   name = codes "f";
@@ -68,7 +70,8 @@ asked_of_each =
 
 -- ---- parameters
 
--- WITH RECURSIVE r AS (SELECT $1::bigint UNION ALL SELECT $2::bigint WHERE $3::boolean) SELECT $4::text
+-- WITH RECURSIVE r AS (SELECT $1::bigint UNION ALL SELECT $2::bigint WHERE $3::boolean) SELECT
+-- $4::text
 abbrev pub with_parameters : Query
 with_parameters =
     roll-Query (record {

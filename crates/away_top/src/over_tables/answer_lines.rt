@@ -13,7 +13,8 @@ use std::alloc::{AllocError, Global};
 
 /// How a run ends that has this answer.
 pub fn answer_ending(alloc: Global, answer: &Answer) -> Result<Ending, AllocError>
-    ensures { IfOk result (λ ending. IsEnding ending (answer_end answer.now).0 (answer_end answer.now).1) }
+    ensures { IfOk result (λ ending. IsEnding ending (answer_end answer.now).0
+        (answer_end answer.now).1) }
 {
     match answer {
         Answer::Value(v) => value_ending(alloc, v),
@@ -29,7 +30,8 @@ pub fn answer_ending(alloc: Global, answer: &Answer) -> Result<Ending, AllocErro
 
 /// How a run ends that meets a fault of this class.
 pub fn fault_ending(alloc: Global, class: &Class) -> Result<Ending, AllocError>
-    ensures { IfOk result (λ ending. IsEnding ending Status.Fault (line (codes "fault " ++ class.now.code))) }
+    ensures { IfOk result (λ ending. IsEnding ending Status.Fault
+        (line (codes "fault " ++ class.now.code))) }
 {
     with_details(alloc, Status::Fault, b"fault ", &class.code)
 }

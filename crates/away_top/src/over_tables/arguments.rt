@@ -53,7 +53,8 @@ pub fn values_for(
     params: &[(Name, Ty)],
     words: &[String],
 ) -> Result<Option<Items<Value>>, NoMemory>
-    ensures { IfOk result (λ values. values ≡ values_by_place params.now (map string_bytes words.now)) }
+    ensures { IfOk result (λ values. values
+        ≡ values_by_place params.now (map string_bytes words.now)) }
 {
     if params.len() == words.len() {
         spelled_in_order(alloc, params, words)
@@ -69,7 +70,8 @@ fn spelled_in_order(
     words: &[String],
 ) -> Result<Option<Items<Value>>, NoMemory>
     requires { length params.now ≡ length words.now }
-    ensures { IfOk result (λ values. values ≡ values_by_place params.now (map string_bytes words.now)) }
+    ensures { IfOk result (λ values. values
+        ≡ values_by_place params.now (map string_bytes words.now)) }
 {
     let mut values = Items::new(alloc);
     for i in 0..words.len() {
@@ -108,7 +110,8 @@ fn spelled(
     params: &[(u32, Ty)],
     words: &[String],
 ) -> Result<Option<Items<Value>>, NoMemory>
-    ensures { IfOk result (λ values. values ≡ values_from params.now 1 (map string_bytes words.now)) }
+    ensures { IfOk result (λ values. values
+        ≡ values_from params.now 1 (map string_bytes words.now)) }
 {
     let mut values = Items::new(alloc);
     for i in 0..words.len() {

@@ -49,7 +49,9 @@ impl Program {
         name: &str,
         files: &mut F,
     ) -> Result<Program, Halt>
-        ensures { Follows F.Files files.old (program_course what tables.now.schema name.now) files.new (stretch_end as_program result) }
+        ensures { Follows F.Files files.old
+            (program_course what tables.now.schema name.now) files.new
+            (stretch_end as_program result) }
     {
         match what {
             Runnable::Query => Ok(Program::Query(query_of(alloc, tables, name, files)?)),
@@ -64,7 +66,8 @@ impl Program {
         alloc: Global,
         words: &[String],
     ) -> Result<Option<Items<Value>>, NoMemory>
-        ensures { IfOk result (λ values. values ≡ arguments_of (as_program self.now) (map string_bytes words.now)) }
+        ensures { IfOk result (λ values. values
+            ≡ arguments_of (as_program self.now) (map string_bytes words.now)) }
     {
         match self {
             Program::Query(query) => values_of(alloc, query.get().params.as_slice(), words),
@@ -83,7 +86,8 @@ impl Program {
         values: &[Value],
         bound: u64,
     ) -> Result<Reply, NoMemory>
-        ensures { IfOk result (λ r. r ≡ reply_of (as_program self.now) (rows_of_tables tables.now.list) values.now bound) }
+        ensures { IfOk result (λ r. r ≡ reply_of (as_program self.now)
+            (rows_of_tables tables.now.list) values.now bound) }
     {
         match self {
             Program::Query(query) => {

@@ -17,7 +17,8 @@ use std::alloc::{AllocError, Global};
 
 /// How a run ends that gives these rows.
 pub fn rows_ending(alloc: Global, answer: &RowsAnswer) -> Result<Ending, AllocError>
-    ensures { IfOk result (λ ending. IsEnding ending (rows_end answer.now).0 (rows_end answer.now).1) }
+    ensures { IfOk result (λ ending. IsEnding ending (rows_end answer.now).0
+        (rows_end answer.now).1) }
 {
     match answer {
         RowsAnswer::Rows(rows) => Ok(Ending {
@@ -62,7 +63,8 @@ fn record_of(alloc: Global, row: &[Value]) -> Result<ByteRecord, AllocError>
 /// Adds the field of a value.
 fn push_value(fields: &mut ByteRecord, value: &Value) -> Result<(), AllocError>
     requires { partial_of fields.old ≡ [] }
-    ensures added { OnOk result (fields_of fields.new ≡ fields_of fields.old ++ field_of value.now ∷ []) }
+    ensures added { OnOk result
+        (fields_of fields.new ≡ fields_of fields.old ++ field_of value.now ∷ []) }
     ensures partial { OnOk result (partial_of fields.new ≡ []) }
 {
     match value {

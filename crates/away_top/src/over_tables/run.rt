@@ -28,7 +28,8 @@ pub fn run_over_tables<F: Files>(
     args: &[String],
     files: &mut F,
 ) -> Result<Ending, Halt>
-    ensures { Follows F.Files files.old (run_course what bound.now schema.now file.now dir.now (map string_bytes args.now)) files.new (run_end result) }
+    ensures { Follows F.Files files.old (run_course what bound.now schema.now file.now dir.now
+        (map string_bytes args.now)) files.new (run_end result) }
 {
     let bound = spelled(alloc, bound_of(bound))?;
     let tables = schema_of(alloc, schema, files)?;
@@ -41,7 +42,8 @@ pub fn run_over_tables<F: Files>(
 
 /// How a run ends that gives this.
 fn reply_ending(alloc: Global, reply: &Reply) -> Result<Ending, AllocError>
-    ensures { IfOk result (λ ending. IsEnding ending (reply_end reply.now).0 (reply_end reply.now).1) }
+    ensures { IfOk result (λ ending. IsEnding ending (reply_end reply.now).0
+        (reply_end reply.now).1) }
 {
     match reply {
         Reply::Answer(answer) => answer_ending(alloc, answer),

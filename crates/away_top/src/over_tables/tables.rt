@@ -66,7 +66,8 @@ fn table_file(alloc: Global, dir: &str, name: &str) -> Result<String, AllocError
 
 /// How the run ends where a table's file is refused.
 fn refuse(alloc: Global, name: &str, refusal: TableRefusal) -> Result<Ending, AllocError>
-    ensures { IfOk result (λ ending. RefusedBy name.now (IsTableRule refusal) ending.status ending.output.items) }
+    ensures { IfOk result (λ ending. RefusedBy name.now
+        (IsTableRule refusal) ending.status ending.output.items) }
 {
     match refusal {
         TableRefusal::Header => refused(alloc, name, b"Z1"),
@@ -89,7 +90,8 @@ fn refused_field(
     row: u64,
     column: u64,
 ) -> Result<Ending, AllocError>
-    ensures { IfOk result (λ ending. IsEnding ending Status.Refused (refusal name.now (rule.now ++ (counted row ++ counted column)))) }
+    ensures { IfOk result (λ ending. IsEnding ending Status.Refused
+        (refusal name.now (rule.now ++ (counted row ++ counted column)))) }
 {
     let mut rule = rule.to_vec(alloc)?;
     push_count(&mut rule, row)?;

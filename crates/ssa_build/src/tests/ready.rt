@@ -136,7 +136,8 @@ fn others_dead(
     slots: usize,
     entry: u32,
 ) -> Result<bool, AllocError>
-    ensures { IfOk result (λ dead. IsTrue dead → (s : ℕ) → params ≤ s → s < slots → (k : ℕ) → Live blocks.now k entry s → ⊥) }
+    ensures { IfOk result (λ dead. IsTrue dead → (s : ℕ) → params ≤ s → s < slots → (k : ℕ)
+        → Live blocks.now k entry s → ⊥) }
 {
     let sources = predecessors(alloc, blocks)?;
     let tables = live_tables(alloc, blocks, &sources, slots)?;
@@ -149,7 +150,8 @@ pub(crate) fn is_ready(alloc: Global, layout: Layout, g: &Goto) -> Result<bool, 
     ensures sized { IfOk result (λ yes. IsTrue yes → length g.now.blocks ≡ layout.blocks) }
     ensures entered { IfOk result (λ yes. IsTrue yes → layout.entry ≡ g.now.entry) }
     ensures entry { IfOk result (λ yes. IsTrue yes → g.now.entry < length g.now.blocks) }
-    ensures targets { IfOk result (λ yes. IsTrue yes → Each (LeadsWithin (length g.now.blocks)) g.now.blocks) }
+    ensures targets { IfOk result
+        (λ yes. IsTrue yes → Each (LeadsWithin (length g.now.blocks)) g.now.blocks) }
     ensures below { IfOk result (λ yes. IsTrue yes → Each (BlockBelow layout.slots) g.now.blocks) }
     ensures no_way_in { IfOk result (λ yes. IsTrue yes → Each (NoWayTo g.now.entry) g.now.blocks) }
     ensures entry_live { IfOk result (λ yes. IsTrue yes → OnlyParametersLive layout.params g.now) }
