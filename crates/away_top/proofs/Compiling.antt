@@ -1,15 +1,13 @@
--- The stretches of `compile` and `certify` make their runs, and what a judged file leads to.
+-- The stretches of `compile`, `certify` and `batch` make their runs, and what a judged file leads to.
 use Rattle.std.proofs.Common.{ℕ, List, [], refl}
 use Rattle.away_trees.specs.declared.schemas.Schema.{Schema}
 use Rattle.away_lex.specs.declared.refusals.ReadRefusal.{ReadRefusal}
 use Rattle.away_top.specs.declared.host.Files.{Ghosts as Files}
 use Rattle.away_top.specs.declared.status.Status.{Status}
-use Rattle.away_top.specs.declared.compile.Wanted.{Wanted}
 use Rattle.away_top.specs.declared.ending.Ending.{Ending}
 use Rattle.away_top.specs.declared.ending.Halt.{Halt}
-use Rattle.away_top.specs.CompileCourse.{Compiles, compile_course}
-use Rattle.away_top.specs.Course.{and_then, ends, RefusedBy}
-use Rattle.away_top.specs.Files.{Callable, function_course, schema_course}
+use Rattle.away_top.specs.Course.{Course, and_then, ends, RefusedBy}
+use Rattle.away_top.specs.Files.{Callable, function_course, over_function, schema_course}
 use Rattle.away_top.specs.Refusals.{RefusesRead}
 use Rattle.away_top.specs.Runs.{End, goes_on, Follows, IsEnd, Runs}
 use Rattle.away_top.specs.Steps.{halt_end, ReadRefused}
@@ -25,32 +23,29 @@ pub refused_so : (name : List ℕ) (Some All : List ℕ → Type 0) → ((rule :
     → RefusedBy name Some status output → RefusedBy name All status output
 refused_so name Some All among status output (rule, is, e) = (rule, among rule is, e)
 
--- the run ends with the schema's file
-pub schema_stops : {D : Type 0} (F : Files D) (old new : D) (wanted : Wanted) (schema func : List ℕ) (halt : Halt) → Follows F old (schema_course schema) new (halt_end halt)
-    → Runs F old (compile_course wanted schema func) new (halt_end halt)
-schema_stops F old new wanted schema func halt first = record {
-  text = [];
-  follows = stops_early F old new (schema_course schema) (λ tables. and_then (function_course tables func) (λ f. ends (Compiles wanted tables f []))) halt first;
-}
+-- the stretches of a run over a schema's file and a function's
+module _ {D : Type 0} (F : Files D) (schema func : List ℕ) (E : List ℕ → Schema → Callable → Status → List ℕ → Type 0) where
+  abbrev with_tables : List ℕ → Schema → Course ⊥
+  with_tables text tables = and_then (function_course tables func) (λ f. ends (E text tables f))
 
-module _ {D : Type 0} (F : Files D) (old middle new : D) (wanted : Wanted) (schema func : List ℕ) (tables : Schema) where
-  end_of : (text : List ℕ) (f : Callable) (end : End ⊥) → IsEnd (Compiles wanted tables f text) end → Follows F new (ends (Compiles wanted tables f text)) new end
-  end_of text f end is = record { same = refl; how = is }
+  -- the run ends with the schema's file
+  pub schema_stops : (old new : D) (halt : Halt) → Follows F old (schema_course schema) new (halt_end halt) → Runs F old (λ text. over_function schema func (E text)) new (halt_end halt)
+  schema_stops old new halt first = record { text = []; follows = stops_early F old new (schema_course schema) (with_tables []) halt first }
 
-  -- both files are judged, and the function is compiled
-  pub compiles : (f : Callable) (end : End ⊥) → Follows F old (schema_course schema) middle (goes_on tables) → Follows F middle (function_course tables func) new (goes_on f)
-      → ((text : List ℕ) × IsEnd (Compiles wanted tables f text) end) → Runs F old (compile_course wanted schema func) new end
-  compiles f end first second (text, is) = record {
-    text = text;
-    follows = goes_further F old middle new (schema_course schema) (λ tables. and_then (function_course tables func) (λ f. ends (Compiles wanted tables f text))) tables end first
-        (goes_further F middle new new (function_course tables func) (λ f. ends (Compiles wanted tables f text)) f end second (end_of text f end is));
-  }
+  module _ (old middle new : D) (tables : Schema) (first : Follows F old (schema_course schema) middle (goes_on tables)) where
+    -- both files are judged, and the run comes to its end
+    pub comes_to : (f : Callable) (end : End ⊥) → Follows F middle (function_course tables func) new (goes_on f) → ((text : List ℕ) × IsEnd (E text tables f) end)
+        → Runs F old (λ text. over_function schema func (E text)) new end
+    comes_to f end second (text, is) = record {
+      text = text;
+      follows = goes_further F old middle new (schema_course schema) (with_tables text) tables end first
+          (goes_further F middle new new (function_course tables func) (λ f. ends (E text tables f)) f end second (record { same = refl; how = is }));
+    }
 
-  -- the run ends with the function's file
-  pub function_stops : (halt : Halt) → Follows F old (schema_course schema) middle (goes_on tables) → Follows F middle (function_course tables func) new (halt_end halt)
-      → Runs F old (compile_course wanted schema func) new (halt_end halt)
-  function_stops halt first second = record {
-    text = [];
-    follows = goes_further F old middle new (schema_course schema) (λ tables. and_then (function_course tables func) (λ f. ends (Compiles wanted tables f []))) tables (halt_end halt) first
-        (stops_early F middle new (function_course tables func) (λ f. ends (Compiles wanted tables f [])) halt second);
-  }
+    -- the run ends with the function's file
+    pub function_stops : (halt : Halt) → Follows F middle (function_course tables func) new (halt_end halt) → Runs F old (λ text. over_function schema func (E text)) new (halt_end halt)
+    function_stops halt second = record {
+      text = [];
+      follows = goes_further F old middle new (schema_course schema) (with_tables []) tables (halt_end halt) first
+          (stops_early F middle new (function_course tables func) (λ f. ends (E [] tables f)) halt second);
+    }

@@ -19,7 +19,8 @@ use Rattle.away_top.specs.declared.over_tables.program.Reply.TheVariants as repl
 use Rattle.away_top.specs.AnswerLines.{answer_end, value_line}
 use Rattle.away_top.specs.RowRecords.{records_text, rows_end}
 use Rattle.away_top.specs.Arguments.{bound_of}
-use Rattle.away_top.specs.Commands.{Command, check, command_of, compile, course, course_of, demo, help, no_form, over_tables, version}
+use Rattle.away_top.specs.BatchCourse.{EndsWith, batch_course, place_of}
+use Rattle.away_top.specs.Commands.{Command, batch, check, command_of, compile, course, course_of, demo, help, no_form, over_tables, version}
 use Rattle.cert_json.specs.Forms.{Cert}
 use Rattle.stage_check.specs.declared.verdict.Verdict.TheVariants.{Accepted, Fails}
 use Rattle.away_top.specs.Certificates.{RefusesCert, cert_course}
@@ -106,6 +107,15 @@ plain_compiled wanted s f text status output (is, e) = subst IsPlain (sym e.0) t
 plain_compile : (wanted : Wanted) (schema func text : List ℕ) → IsPlainCourse (compile_course wanted schema func text)
 plain_compile wanted schema func text = λ bytes. (plain_refusal schema (RefusesSchema bytes), λ s more. (plain_refusal func (RefusesFunction s.schema more), λ f. plain_compiled wanted s.schema (callable_of s.schema f.written) text))
 
+plain_batch_end : (schema : List ℕ) (s : Schema) (f : Callable) (o : Option ℕ) (text : List ℕ) → ArePlain (EndsWith schema s f o text)
+plain_batch_end schema s f None text status output e = subst IsPlain (sym e.0) tt
+plain_batch_end schema s f (Some place) text status output (inl (is, e)) = subst IsPlain (sym e.0) tt
+plain_batch_end schema s f (Some place) text status output (inr (lacks, e)) = subst IsPlain (sym e.0) tt
+
+plain_batch : (schema func table text : List ℕ) → IsPlainCourse (batch_course schema func table text)
+plain_batch schema func table text =
+    λ bytes. (plain_refusal schema (RefusesSchema bytes), λ s more. (plain_refusal func (RefusesFunction s.schema more), λ f. plain_batch_end schema s.schema (callable_of s.schema f.written) (place_of table s.schema.tables) text))
+
 -- ---- what is run over tables
 
 plain_then : {A B : Type 0} (c : Course A) (next : A → Course B) → IsPlainCourse c → ((a : A) → IsPlainCourse (next a)) → IsPlainCourse (and_then c next)
@@ -186,6 +196,7 @@ plain_command : (c : Command) (text : List ℕ) → IsPlainCourse (course_of c t
 plain_command help text = plain_end Done help_text tt
 plain_command version text = plain_end Done version_text tt
 plain_command (compile wanted schema func) text = plain_compile wanted schema func text
+plain_command (batch schema func table) text = plain_batch schema func table text
 plain_command (check schema func query cert) text = plain_check schema func query cert
 plain_command (demo number) text = plain_shown (bound_of number) text
 plain_command (over_tables what bound schema file dir args) text = plain_run what bound schema file dir args

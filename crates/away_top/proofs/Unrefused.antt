@@ -75,7 +75,7 @@ cert_unrefused {bytes = bytes} c rule h = subst (λ why. IsCertRule why rule) (c
 -- ---- over the one schema of a file
 
 module _ {tables : List ℕ} (kept s : IsSchema tables) where
-  same_schema : kept.schema ≡ s.schema
+  pub same_schema : kept.schema ≡ s.schema
   same_schema = one_schema kept.reads_as.reads s.reads_as.reads
 
   pub function_unrefused : {bytes : List ℕ} → IsFunction kept.schema bytes → (rule : List ℕ) → ¬ (RefusesFunction s.schema bytes rule)
@@ -98,7 +98,7 @@ module _ {tables : List ℕ} (kept s : IsSchema tables) where
   same_row_query : (P : Schema → Query → Type 0) {bytes : List ℕ} (p : IsRowQuery kept.schema bytes) (q : IsRowQuery s.schema bytes) → P kept.schema p.written → P s.schema q.written
   same_row_query P p q h = subst (λ schema. P schema q.written) same_schema (subst (P kept.schema) (one_text p.reads_as.reads q.reads_as.reads) h)
 
-  same_function : (P : Schema → Function → Type 0) {bytes : List ℕ} (f : IsFunction kept.schema bytes) (g : IsFunction s.schema bytes) → P kept.schema f.written → P s.schema g.written
+  pub same_function : (P : Schema → Function → Type 0) {bytes : List ℕ} (f : IsFunction kept.schema bytes) (g : IsFunction s.schema bytes) → P kept.schema f.written → P s.schema g.written
   same_function P f g h = subst (λ schema. P schema g.written) same_schema (subst (P kept.schema) (one_function f.reads_as.reads g.reads_as.reads) h)
 
   -- what spells the arguments of the one program of a file spells them again

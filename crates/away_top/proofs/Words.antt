@@ -4,7 +4,7 @@ use Rattle.away_top.specs.declared.compile.Wanted.{Wanted}
 use Rattle.away_top.specs.declared.compile.Wanted.TheVariants as wanted
 use Rattle.away_top.specs.declared.over_tables.program.Runnable.{Runnable}
 use Rattle.away_top.specs.declared.over_tables.program.Runnable.TheVariants as runnable
-use Rattle.away_top.specs.Commands.{check, command_of, compile, demo, over_tables}
+use Rattle.away_top.specs.Commands.{batch, check, command_of, compile, demo, over_tables}
 use Rattle.away_top.specs.CompileCourse.{word_of as compile_word}
 use Rattle.away_top.specs.Programs.{word_of}
 
@@ -12,6 +12,10 @@ pub asks_compile : (w : Wanted) (schema func : List ℕ) → command_of (compile
 unfolding command_of
 asks_compile wanted.Query schema func = refl
 asks_compile wanted.Certificate schema func = refl
+
+pub asks_batch : (schema func table : List ℕ) → command_of (codes "batch" ∷ schema ∷ func ∷ table ∷ []) ≡ batch schema func table
+unfolding command_of
+asks_batch schema func table = refl
 
 pub asks_check : (schema func query cert : List ℕ) → command_of (codes "check" ∷ schema ∷ func ∷ query ∷ cert ∷ []) ≡ check schema func query cert
 unfolding command_of

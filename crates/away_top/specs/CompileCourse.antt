@@ -15,8 +15,8 @@ use Rattle.away_top.specs.declared.compile.Wanted.{Wanted}
 use Rattle.away_top.specs.declared.compile.Wanted.TheVariants.{Query, Certificate}
 use Rattle.away_top.specs.declared.status.Status.{Status}
 use Rattle.away_top.specs.declared.status.Status.TheVariants.{Done}
-use Rattle.away_top.specs.Course.{Course, and_then, ends, Exactly}
-use Rattle.away_top.specs.Files.{Callable, function_course, schema_course}
+use Rattle.away_top.specs.Course.{Course, Exactly}
+use Rattle.away_top.specs.Files.{Callable, over_function}
 
 -- The output is the text alone. Or it is a line that reads as the certificate, and behind it the
 -- text.
@@ -49,6 +49,4 @@ word_of Query = codes "compile"
 word_of Certificate = codes "certify"
 
 abbrev pub compile_course : Wanted → List ℕ → List ℕ → List ℕ → Course ⊥
-compile_course wanted schema func made =
-    and_then (schema_course schema)
-    (λ s. and_then (function_course s func) (λ f. ends (Compiles wanted s f made)))
+compile_course wanted schema func made = over_function schema func (λ s f. Compiles wanted s f made)

@@ -11,7 +11,8 @@ use Rattle.away_types.specs.declared.slots.Slot.{Slot}
 use Rattle.away_types.specs.CheckedQueries.{judged_query, resolved_query}
 use Rattle.away_types.specs.CheckedRows.{rows_judged}
 use Rattle.away_types.specs.FunctionChecks.{resolved_function, slots_of}
-use Rattle.away_top.specs.Course.{Course, gives, judges, reads, RefusedBy}
+use Rattle.away_top.specs.declared.status.Status.{Status}
+use Rattle.away_top.specs.Course.{Course, and_then, ends, gives, judges, reads, RefusedBy}
 use Rattle.away_top.specs.Refusals.{
   IsFunction,
   IsQuery,
@@ -46,6 +47,11 @@ function_course schema name =
     reads name 1048576
     (λ bytes. judges (RefusedBy name (RefusesFunction schema bytes)) (IsFunction schema bytes)
     (λ f. gives (callable_of schema f.written)))
+
+-- A schema's file and a function's are read and judged, and the run ends with one of these.
+abbrev pub over_function : List ℕ → List ℕ → (Schema → Callable → Status → List ℕ → Type 0) → Course ⊥
+over_function schema func E =
+    and_then (schema_course schema) (λ s. and_then (function_course s func) (λ f. ends (E s f)))
 
 -- a query whose names are resolved, and its parameters
 pub record Asked : Type 0 where

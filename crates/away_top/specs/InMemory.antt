@@ -17,6 +17,8 @@ use Rattle.std.specs.Prelude.{
 use Rattle.std.specs.List.{AllByRecursion}
 use Rattle.away_trees.specs.declared.schemas.Schema.{Schema}
 use Rattle.away_trees.specs.declared.schemas.TableSchema.{TableSchema}
+use Rattle.away_types.specs.FunctionChecks.{resolved_function}
+use Rattle.batch_calls.specs.CallTables.{IsCallTable}
 use Rattle.away_top.specs.declared.status.Status.{Status}
 use Rattle.away_top.specs.declared.status.Status.TheVariants.{Done, NoMemory, ReadFault}
 use Rattle.away_top.specs.MemoryFiles.{HeldFiles, held_at}
@@ -25,6 +27,7 @@ use Rattle.csv_tables.specs.Files.{rows_in}
 use Rattle.sql_meaning.specs.Context.{Rows}
 use Rattle.away_top.specs.declared.compile.Wanted.{Wanted}
 use Rattle.away_top.specs.declared.over_tables.program.Runnable.{Runnable}
+use Rattle.away_top.specs.BatchCourse.{IsBatchFor, place_of}
 use Rattle.away_top.specs.Commands.{course}
 use Rattle.away_top.specs.CompileCourse.{word_of}
 use Rattle.stage_check.specs.declared.verdict.Verdict.{Verdict}
@@ -108,6 +111,32 @@ abbrev pub Translated : Wanted → RoomySink → RoomySink → Status → List �
 Translated wanted before after result tables function =
     (result ≡ NoMemory)
     ⊎ ((text : List ℕ) × IsTranslation wanted tables function text
+    × (length text ≤ before.room → IsWritten before after result text))
+
+-- ---- batch
+
+-- The words are those of `batch`. The two files are held and fit, the schema has the table, whose
+-- rows are calls of the function, and no read is to fail.
+pub record MayBatch (files : HeldFiles) (words : List (List ℕ)) (tables function table : List ℕ) : Type 0 where
+  pub schema : List ℕ
+  pub func : List ℕ
+  pub words_are : words ≡ codes "batch" ∷ schema ∷ func ∷ table ∷ []
+  pub holds_schema : held_at files.held schema ≡ Some tables
+  pub holds_function : held_at files.held func ≡ Some function
+  pub fit_schema : IsFitSchema tables
+  pub fit_function : IsFitFunction fit_schema.is.schema function
+  pub place : ℕ
+  pub place_is : place_of table fit_schema.is.schema.tables ≡ Some place
+  pub fit_table : IsCallTable fit_schema.is.schema place
+      (resolved_function fit_schema.is.schema fit_function.is.written)
+  pub no_failure : files.fails ≡ []
+
+-- Memory was wanting, or there is a query for the table's calls that the call answers with, where
+-- the room holds it.
+abbrev pub Batched : RoomySink → RoomySink → Status → List ℕ → List ℕ → List ℕ → Type 0
+Batched before after result tables function table =
+    (result ≡ NoMemory)
+    ⊎ ((text : List ℕ) × IsBatchFor tables function table text
     × (length text ≤ before.room → IsWritten before after result text))
 
 -- ---- demo

@@ -17,6 +17,11 @@ pub(crate) enum Command<'a> {
         schema: &'a str,
         func: &'a str,
     },
+    Batch {
+        schema: &'a str,
+        func: &'a str,
+        table: &'a str,
+    },
     Check {
         schema: &'a str,
         func: &'a str,
@@ -66,6 +71,9 @@ impl<'a> Command<'a> {
         if word == "certify" {
             return compile(Wanted::Certificate, rest);
         }
+        if word == "batch" {
+            return batch(rest);
+        }
         if word == "check" {
             return check(rest);
         }
@@ -102,6 +110,19 @@ fn compile<'a>(wanted: Wanted, rest: &'a [String]) -> Command<'a>
             wanted,
             schema: schema.as_str(),
             func: func.as_str(),
+        },
+        _ => Command::NoForm,
+    }
+}
+
+fn batch<'a>(rest: &'a [String]) -> Command<'a>
+    ensures { as_command result ≡ form.with_three form.batch (map string_bytes rest.now) }
+{
+    match rest {
+        [schema, func, table] => Command::Batch {
+            schema: schema.as_str(),
+            func: func.as_str(),
+            table: table.as_str(),
         },
         _ => Command::NoForm,
     }

@@ -8,10 +8,12 @@ ghost use Rattle.away_top.specs.Commands.{course};
 ghost use Rattle.away_top.specs.InMemory.{
   AcceptedIn,
   Answered,
+  Batched,
   BeginsWith,
   Ended,
   HoldsCertified,
   Judged,
+  MayBatch,
   MayCheck,
   MayCompile,
   MayRun,
@@ -30,6 +32,7 @@ use std::alloc::Global;
 ///
 /// Where the words are those of `compile` or `certify`, and the files that they name are held and read as a schema and a function that break no
 /// rule, that end is a translation.
+/// Where they are those of `batch`, and the table is one of the schema whose rows are calls of the function, it is a query for these calls.
 /// Where they are those of `check`, it is the verdict on its files, where they are those of `sql` or `fn`, the answer of the query or
 /// the function, where they are those of `rows`, the rows of the query, and where they are `demo` and a number, a summary of that case.
 pub fn away_in_memory(
@@ -47,6 +50,9 @@ pub fn away_in_memory(
     ensures compile { (wanted : Wanted) (tables function : List ℕ)
         → MayCompile files.old wanted (map string_bytes words.now) tables function
         → out.old.fails ≡ [] → Translated wanted out.old out.new result tables function }
+    ensures batch { (tables function table : List ℕ)
+        → MayBatch files.old (map string_bytes words.now) tables function table
+        → out.old.fails ≡ [] → Batched out.old out.new result tables function table }
     ensures check { (schema func query cert tables function asked forms : List ℕ)
         → map string_bytes words.now ≡ codes "check" ∷ schema ∷ func ∷ query ∷ cert ∷ []
         → MayCheck files.old schema func query cert tables function asked forms → out.old.fails ≡ []

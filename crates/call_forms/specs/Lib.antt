@@ -10,8 +10,11 @@ pub mod Columned
 pub mod Useful
 pub mod Tight
 pub mod Writable
+pub mod References
+pub mod Carrying
 pub mod Template
 pub mod Templated
+pub mod Carried
 pub mod Laws
 pub mod Worked
 pub mod WorkedUses

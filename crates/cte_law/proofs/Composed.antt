@@ -90,7 +90,7 @@ called_raises z a b (jump.Jump c) (Fail d) is h = absurd is
 called_raises z a b (jump.Branch t c c') (Fail d) is h = absurd is
 called_raises z a b (jump.Return t) (Fail d) is h = absurd is
 
-raises : (f : Function) (slots : List Slot) (g : Goto) (z : Ssa) (a : Anf) (n p : ℕ) → Lowered f slots g → Named n p g z → Called g z a → RaisesClasses a
+pub raises : (f : Function) (slots : List Slot) (g : Goto) (z : Ssa) (a : Anf) (n p : ℕ) → Lowered f slots g → Named n p g z → Called g z a → RaisesClasses a
 raises f slots g z a n p lowered named called =
     let of_goto = raise_classes f slots g lowered in
     let of_ssa : Each (λ (y : SsaBlock). goto.RaisesClass y.end) z.blocks =

@@ -36,24 +36,24 @@ ended_is cx = ap (λ x. x.value cx) (eq.of_not meaning (col 0 0 0)) ∙ ap (mapp
 
 module _ (columns : List Ty) (T : List Rows) (args : List Value) (small : length T < 2 ^ 64) where
   keeps_last : (cx : Context) (calls : Rows) (v c : Value) → AreCalls calls
-      → keep (λ frame. value ended (inside frame cx)) (map (λ row. row ∷ []) (calls ++ end_row columns v c ∷ [])) ≡ Ok ((end_row columns v c ∷ []) ∷ [])
+      → keep (λ frame. value ended (inside frame cx)) (map (λ row. row ∷ []) (calls ++ end_row [] columns v c ∷ [])) ≡ Ok ((end_row [] columns v c ∷ []) ∷ [])
   keeps_last cx [] v c h =
-      ap (λ o. and_then o (λ x. Ok (keep_if (end_row columns v c ∷ []) (is_true x) []))) (ended_is (inside (end_row columns v c ∷ []) cx))
+      ap (λ o. and_then o (λ x. Ok (keep_if (end_row [] columns v c ∷ []) (is_true x) []))) (ended_is (inside (end_row [] columns v c ∷ []) cx))
   keeps_last cx (row ∷ calls) v c h =
       (λ i. and_then ((ended_is (inside (row ∷ []) cx) ∙ ap (λ x. Ok (negation x)) h.0) i)
       (λ x. mapped (keep_if (row ∷ []) (is_true x)) (keeps_last cx calls v c h.1 i)))
 
   pub last_rows : (calls : Rows) (v c : Value) → AreCalls calls
-      → rows_of_select (last (decimal (length T)) (length columns)) (turned T args (calls ++ end_row columns v c ∷ [])) ≡ Ok ((v ∷ c ∷ []) ∷ [])
+      → rows_of_select (last (decimal (length T)) (length columns)) (turned T args (calls ++ end_row [] columns v c ∷ [])) ≡ Ok ((v ∷ c ∷ []) ∷ [])
   last_rows calls v c h =
-      let all_rows : Rows = calls ++ end_row columns v c ∷ [] in
+      let all_rows : Rows = calls ++ end_row [] columns v c ∷ [] in
       let cx : Context = turned T args all_rows in
-      let there : Context = inside (end_row columns v c ∷ []) cx in
+      let there : Context = inside (end_row [] columns v c ∷ []) cx in
       let n : ℕ = length columns in
       let cells = more there (col 0 0 (suc (suc n))) _ _ _ (is_col there 0 0 (suc (suc n)))
       (more there (col 0 0 (suc (suc (suc n)))) _ _ _ (is_col there 0 0 (suc (suc (suc n)))) (none there)) in
       let from = rows_of_table (length T) cx [] small ∙ ap Ok (last_table T all_rows) in
-      one_row cx _ (table (length T) ∷ []) (Some ended) (map (λ row. row ∷ []) all_rows) (end_row columns v c ∷ []) (v ∷ c ∷ [])
+      one_row cx _ (table (length T) ∷ []) (Some ended) (map (λ row. row ∷ []) all_rows) (end_row [] columns v c ∷ []) (v ∷ c ∷ [])
       (ap (λ x. and_then x (λ y. Ok y))
       (extended cx (rows_of_item (table (length T))) [] (Ok all_rows) from ∙ alone (Ok (map (λ row. row ∷ []) all_rows))))
       (keeps_last cx calls v c h)

@@ -7,6 +7,7 @@ pub mod WorkingRows
 pub mod Visits
 pub mod Bodies
 pub mod Branches
+pub mod States
 pub mod Turns
 pub mod Finish
 pub mod Raised

@@ -47,7 +47,7 @@ use Rattle.cte_law.proofs.Worlds.{World, frame_in, OverTables}
 module _ (w : World) (ok : OverTables w) (raise : (b : ℕ) → BodyRaisesClasses (body_of w.anf w.tail b)) (args : List Value)
     (small : length w.tables < 2 ^ 64) where
   abbrev step_rows : Rows → Or Rows
-  step_rows = turn w ok args small
+  step_rows = turn w ok args small []
 
   abbrev machine : Machine AtLabel
   machine = tail_machine (frame_in w) w.anf w.tail
@@ -56,13 +56,13 @@ module _ (w : World) (ok : OverTables w) (raise : (b : ℕ) → BodyRaisesClasse
   by_table o = answered (over_table (union (rows_of_select (last (decimal (length w.tables)) (length w.tail.columns)) ∷ [])) w.tables args o)
 
   abbrev going : ℕ → Rows → ℕ → List Value → Bounded Rows
-  going k done i row = worked step_rows k done (Ok (call_row i row ∷ []))
+  going k done i row = worked step_rows k done (Ok (call_row [] i row ∷ []))
 
   -- a finished row ends the recursion
   finished : (k : ℕ) (done : Rows) (v c : Value) → AreCalls done
-      → by_table (worked step_rows (suc k) done (Ok (end_row w.tail.columns v c ∷ []))) ≡ answered (Some (Ok ((v ∷ c ∷ []) ∷ [])))
+      → by_table (worked step_rows (suc k) done (Ok (end_row [] w.tail.columns v c ∷ []))) ≡ answered (Some (Ok ((v ∷ c ∷ []) ∷ [])))
   finished k done v c h =
-      ap (λ x. by_table (worked step_rows k (done ++ end_row w.tail.columns v c ∷ []) x)) (turn_over w ok args small v c)
+      ap (λ x. by_table (worked step_rows k (done ++ end_row [] w.tail.columns v c ∷ []) x)) (turn_over w ok args small v c)
       ∙ ap (λ x. answered (Some (and_then x (λ ys. Ok (ys ++ []))))) (last_rows w.tail.columns w.tables args small done v c h)
 
   raised : (c : Class) → is_class c.code ≡ true → answered (Some (Ok ((val.Null ∷ val.Text c.code ∷ []) ∷ []))) ≡ answer.Fault c
@@ -76,13 +76,13 @@ module _ (w : World) (ok : OverTables w) (raise : (b : ℕ) → BodyRaisesClasse
 
   module _ (k : ℕ) (kept : IsKept k) (i : ℕ) (row : List Value) (done : Rows) (are_calls : AreCalls done) where
     abbrev so_far : Rows
-    so_far = done ++ call_row i row ∷ []
+    so_far = done ++ call_row [] i row ∷ []
 
     calls_so_far : AreCalls so_far
-    calls_so_far = one_call_more done (call_row i row) are_calls refl
+    calls_so_far = one_call_more done (call_row [] i row) are_calls refl
 
     visit_kept : (h : ℕ) (x : Visited) → IsFair x → IsOver (then_goes (move_of x) (go machine k) h).answer
-        → by_table (worked step_rows (suc k) so_far (rows_of_visit w x)) ≡ (then_goes (move_of x) (go machine k) h).answer
+        → by_table (worked step_rows (suc k) so_far (rows_of_visit w [] x)) ≡ (then_goes (move_of x) (go machine k) h).answer
     visit_kept h (gives v) fair_ over = finished k so_far v val.Null calls_so_far
     visit_kept h (raises c) fair_ over = finished k so_far val.Null (val.Text c.code) calls_so_far ∙ raised c fair_
     visit_kept h (faults c) fair_ over = refl
@@ -91,14 +91,14 @@ module _ (w : World) (ok : OverTables w) (raise : (b : ℕ) → BodyRaisesClasse
 
     label_kept : (h : ℕ) (o : Option ℕ) → slice_get w.tail.labels i ≡ o
         → IsOver (then_goes (label_visit (frame_in w) w.anf w.tail i o row) (go machine k) h).answer
-        → by_table (worked step_rows (suc k) so_far (step_rows (call_row i row ∷ [])))
+        → by_table (worked step_rows (suc k) so_far (step_rows (call_row [] i row ∷ [])))
         ≡ (then_goes (label_visit (frame_in w) w.anf w.tail i o row) (go machine k) h).answer
     label_kept h None found over = absurd over
     label_kept h (Some b) found over =
         let is = walk_is w (body_of w.anf w.tail b) (scope_at w i b row) in
         ap (λ x. by_table (worked step_rows (suc k) so_far x)) (turn_call w ok args small i row b found)
         ∙ subst (λ m. IsOver (then_goes m (go machine k) h).answer
-        → by_table (worked step_rows (suc k) so_far (rows_of_visit w (visit_at w i b row))) ≡ (then_goes m (go machine k) h).answer)
+        → by_table (worked step_rows (suc k) so_far (rows_of_visit w [] (visit_at w i b row))) ≡ (then_goes m (go machine k) h).answer)
         is
         (visit_kept h (visit_at w i b row) (fair w (body_of w.anf w.tail b) (raise b) (scope_at w i b row))) over
 
@@ -118,20 +118,20 @@ module _ (w : World) (ok : OverTables w) (raise : (b : ℕ) → BodyRaisesClasse
 
   module _ (k : ℕ) (waits_ : Waits k) (y i : ℕ) (row : List Value) (h : ℕ) (done : Rows) where
     visit_waits : (h' : ℕ) → h' ≤ suc h → (x : Visited) → h + suc y < (then_goes (move_of x) (go machine k) h').heads
-        → worked step_rows y (done ++ call_row i row ∷ []) (rows_of_visit w x) ≡ None
+        → worked step_rows y (done ++ call_row [] i row ∷ []) (rows_of_visit w [] x) ≡ None
     visit_waits h' q (gives v) p = absurd (omega (arith, p, q))
     visit_waits h' q (raises c) p = absurd (omega (arith, p, q))
     visit_waits h' q (faults c) p = absurd (omega (arith, p, q))
-    visit_waits h' q (goes_on j next) p = waits_ y j next h' (done ++ call_row i row ∷ []) (omega (arith, p, q))
+    visit_waits h' q (goes_on j next) p = waits_ y j next h' (done ++ call_row [] i row ∷ []) (omega (arith, p, q))
     visit_waits h' q stays p = absurd (omega (arith, p, q))
 
     label_waits : (h' : ℕ) → h' ≤ suc h → (o : Option ℕ) → slice_get w.tail.labels i ≡ o
         → h + suc y < (then_goes (label_visit (frame_in w) w.anf w.tail i o row) (go machine k) h').heads
-        → worked step_rows y (done ++ call_row i row ∷ []) (step_rows (call_row i row ∷ [])) ≡ None
+        → worked step_rows y (done ++ call_row [] i row ∷ []) (step_rows (call_row [] i row ∷ [])) ≡ None
     label_waits h' q None found p = absurd (omega (arith, p, q))
     label_waits h' q (Some b) found p =
         let is = walk_is w (body_of w.anf w.tail b) (scope_at w i b row) in
-        ap (λ x. worked step_rows y (done ++ call_row i row ∷ []) x) (turn_call w ok args small i row b found)
+        ap (λ x. worked step_rows y (done ++ call_row [] i row ∷ []) x) (turn_call w ok args small i row b found)
         ∙ visit_waits h' q (visit_at w i b row) (subst (λ m. h + suc y < (then_goes m (go machine k) h').heads) (sym is) p)
 
   waits : (k : ℕ) → Waits k
@@ -170,7 +170,7 @@ module _ (w : World) (ok : OverTables w) (raise : (b : ℕ) → BodyRaisesClasse
 
 -- ---- over a function's expressions
 
-over_tables : (tables : ℕ) (table : Sources) → Each (IsOverTables tables) table → (k : ℕ) → IsOverTables tables (get_or table k expr.Null)
+pub over_tables : (tables : ℕ) (table : Sources) → Each (IsOverTables tables) table → (k : ℕ) → IsOverTables tables (get_or table k expr.Null)
 over_tables tables [] each k = record { reads_own = refl; single = refl }
 over_tables tables (e ∷ es) each zero = each 0 e refl
 over_tables tables (e ∷ es) each (suc k) = over_tables tables es (λ i x at. each (suc i) x at) k

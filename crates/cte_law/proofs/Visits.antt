@@ -81,12 +81,12 @@ module _ (w : World) where
 
 -- ---- in a working table
 
-abbrev pub rows_of_visit : World → Visited → Or Rows
-rows_of_visit w (gives v) = Ok (end_row w.tail.columns v val.Null ∷ [])
-rows_of_visit w (raises c) = Ok (end_row w.tail.columns val.Null (val.Text c.code) ∷ [])
-rows_of_visit w (faults c) = Err c
-rows_of_visit w (goes_on i row) = Ok (call_row i row ∷ [])
-rows_of_visit w stays = Ok (end_row w.tail.columns val.Null val.Null ∷ [])
+abbrev pub rows_of_visit : World → List Value → Visited → Or Rows
+rows_of_visit w xs (gives v) = Ok (end_row xs w.tail.columns v val.Null ∷ [])
+rows_of_visit w xs (raises c) = Ok (end_row xs w.tail.columns val.Null (val.Text c.code) ∷ [])
+rows_of_visit w xs (faults c) = Err c
+rows_of_visit w xs (goes_on i row) = Ok (call_row xs i row ∷ [])
+rows_of_visit w xs stays = Ok (end_row xs w.tail.columns val.Null val.Null ∷ [])
 
 -- ---- what is raised
 

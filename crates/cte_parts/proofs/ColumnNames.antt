@@ -34,6 +34,9 @@ prefixed start n six plain lt =
 pub column_is_name : (n : ℕ) → n < 2 ^ 64 → IsName (codes "away_c" ++ decimal n)
 column_is_name n lt = prefixed (codes "away_c") n refl refl lt
 
+pub carried_is_name : (n : ℕ) → n < 2 ^ 64 → IsName (codes "away_x" ++ decimal n)
+carried_is_name n lt = prefixed (codes "away_x") n refl refl lt
+
 pub alias_is_name : (n : ℕ) → n < 2 ^ 64 → IsName (codes "away_k" ++ decimal n)
 alias_is_name n lt = prefixed (codes "away_k") n refl refl lt
 

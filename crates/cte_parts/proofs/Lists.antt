@@ -2,7 +2,7 @@
 use Rattle.std.proofs.Common.{◌≡◌, ap, ◌∙◌, ℕ, zero, suc, ◌+◌, List, [], ◌∷◌, ◌++◌, map, arith}
 use Rattle.std.proofs.lemmas.List.{map-append}
 use Rattle.sql_meaning.specs.Template.{count_from, below}
-use Rattle.cte_parts.specs.Names.{value_names, column_name}
+use Rattle.cte_parts.specs.Names.{value_names, column_name, carried_names, carried_name}
 
 abbrev alone : ℕ → List ℕ
 alone k = k ∷ []
@@ -23,3 +23,6 @@ one_more_below n =
 
 pub one_more_column : (n : ℕ) → value_names (n + 1) ≡ value_names n ++ (column_name n ∷ [])
 one_more_column n = ap (map column_name) (one_more_below n) ∙ map-append column_name (below n) (n ∷ [])
+
+pub one_more_carried : (n : ℕ) → carried_names (n + 1) ≡ carried_names n ++ (carried_name n ∷ [])
+one_more_carried n = ap (map carried_name) (one_more_below n) ∙ map-append carried_name (below n) (n ∷ [])

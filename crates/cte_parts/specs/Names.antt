@@ -39,6 +39,20 @@ column_name i = codes "away_c" ++ decimal i
 abbrev pub value_names : ℕ → List (List ℕ)
 value_names n = map column_name (below n)
 
+-- a column that is carried from row to row, by its place from 0
+abbrev pub carried_name : ℕ → List ℕ
+carried_name i = codes "away_x" ++ decimal i
+
+abbrev pub carried_names : ℕ → List (List ℕ)
+carried_names n = map carried_name (below n)
+
+-- the names of a row's columns, of which so many are carried, and then so many hold values
+abbrev pub names_carrying : ℕ → ℕ → List (List ℕ)
+names_carrying carried n =
+    go_name
+    ∷ label_name
+    ∷ (carried_names carried ++ (value_names n ++ (result_name ∷ fault_name ∷ [])))
+
 -- the names of a row's columns, of which so many hold values
 abbrev pub row_names : ℕ → List (List ℕ)
-row_names n = go_name ∷ label_name ∷ value_names n ++ (result_name ∷ fault_name ∷ [])
+row_names = names_carrying 0

@@ -9,7 +9,7 @@ use Rattle.away_trees.specs.declared.queries.Select.{Select}
 use Rattle.away_trees.specs.declared.queries.Query.{Query}
 use Rattle.away_trees.specs.declared.queries.Expr.TheViews.{roll-FromItem, roll-Query}
 use Rattle.sql_meaning.specs.Trees.{truth, select, one}
-use Rattle.cte_parts.specs.Names.{table_name, only_name, alias_name, row_names}
+use Rattle.cte_parts.specs.Names.{table_name, only_name, alias_name, names_carrying}
 
 -- c IS NOT TRUE
 abbrev pub is_not_true : Expr → Expr
@@ -31,10 +31,25 @@ gate_as k c = only_as k (select (truth true ∷ []) [] (Some c))
 abbrev pub let_as : ℕ → Expr → FromItem
 let_as k e = only_as k (select (e ∷ []) [] None)
 
+-- the row of one select or of the other, of which so many columns are carried
+abbrev pub either_carrying : ℕ → ℕ → ℕ → Select → Select → FromItem
+either_carrying k carried columns a b =
+    lateral_as (alias_name k) (names_carrying carried columns)
+    (roll-Query (record { recursive = None; selects = a ∷ b ∷ [] }))
+
 -- the row of one select or of the other
 abbrev pub either_as : ℕ → ℕ → Select → Select → FromItem
-either_as k columns a b = lateral_as (alias_name k) (row_names columns) (roll-Query (record { recursive = None; selects = a ∷ b ∷ [] }))
+either_as k = either_carrying k 0
+
+-- the working table, by its place behind so many tables; so many of its columns are carried
+abbrev pub working_carrying : ℕ → ℕ → ℕ → FromItem
+working_carrying tables carried columns =
+    roll-FromItem (record {
+      source = source.Table table_name;
+      alias = table_name;
+      columns = decimal tables ∷ names_carrying carried columns;
+    })
 
 -- the working table, by its place behind so many tables
 abbrev pub working : ℕ → ℕ → FromItem
-working tables columns = roll-FromItem (record { source = source.Table table_name; alias = table_name; columns = decimal tables ∷ row_names columns })
+working tables = working_carrying tables 0

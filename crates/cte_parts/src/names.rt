@@ -63,10 +63,33 @@ impl Known {
 pub fn row_names(alloc: Global, columns: usize) -> Result<Items<Name>, NoMemory>
     ensures { IfOk result (λ all. all ≡ spec.row_names columns) }
 {
+    names_carrying(alloc, 0, columns)
+}
+
+/// The columns of a row, of which so many are carried from row to row, and so many hold values.
+pub fn names_carrying(
+    alloc: Global,
+    carried: usize,
+    columns: usize,
+) -> Result<Items<Name>, NoMemory>
+    ensures { IfOk result (λ all. all ≡ spec.names_carrying carried columns) }
+{
     let mut all = Known::Go.alone(alloc)?;
     all.push(Known::Label.name(alloc)?)?;
+    all.append(carried_names(alloc, carried)?)?;
     all.append(value_names(alloc, columns)?)?;
     all.append(outcomes(alloc)?)?;
+    Ok(all)
+}
+
+#[tactic(auto, using(crate::proofs::Lists::one_more_carried))]
+fn carried_names(alloc: Global, carried: usize) -> Result<Items<Name>, NoMemory>
+    ensures { IfOk result (λ all. all ≡ spec.carried_names carried) }
+{
+    let mut all = Items::new(alloc);
+    for place in 0..carried {
+        all.push(carried_name(alloc, place)?)?;
+    }
     Ok(all)
 }
 
@@ -95,6 +118,16 @@ fn column_name(alloc: Global, place: usize) -> Result<Name, NoMemory>
     ensures { IfOk result (λ n. n ≡ spec.column_name place) }
 {
     let mut text = String::from_str(alloc, "away_c")?;
+    let mut buffer = Buffer::new();
+    text.push_str(buffer.format(place))?;
+    name_that_is(alloc, &text)
+}
+
+/// A column that is carried, by its place from 0.
+fn carried_name(alloc: Global, place: usize) -> Result<Name, NoMemory>
+    ensures { IfOk result (λ n. n ≡ spec.carried_name place) }
+{
+    let mut text = String::from_str(alloc, "away_x")?;
     let mut buffer = Buffer::new();
     text.push_str(buffer.format(place))?;
     name_that_is(alloc, &text)

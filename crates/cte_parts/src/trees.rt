@@ -10,7 +10,7 @@ ghost use Rattle.sql_meaning.specs.Trees as tree;
 ghost use Rattle.cte_parts.specs.Names as names;
 ghost use Rattle.cte_parts.specs.Trees as spec;
 
-use crate::names::{Known, alias_name, digits, row_names};
+use crate::names::{Known, alias_name, digits, names_carrying};
 use crate::numbers::{bigint, small};
 use away_trees::{Col, Expr, FromItem, Item, Query, Select, Source};
 use away_values::{Class, CmpOp, IsTest, NoMemory, Ty, Word, word};
@@ -156,9 +156,21 @@ pub fn subquery(alloc: Global, selects: Items<Select>) -> Result<Boxed<Query>, N
 pub fn working(alloc: Global, tables: usize, columns: usize) -> Result<Items<FromItem>, NoMemory>
     ensures { IfOk result (λ list. list ≡ spec.working tables columns ∷ []) }
 {
+    working_carrying(alloc, tables, 0, columns)
+}
+
+/// The working table, alone; so many of its columns are carried from row to row.
+pub fn working_carrying(
+    alloc: Global,
+    tables: usize,
+    carried: usize,
+    columns: usize,
+) -> Result<Items<FromItem>, NoMemory>
+    ensures { IfOk result (λ list. list ≡ spec.working_carrying tables carried columns ∷ []) }
+{
     let mut names = Items::new(alloc);
     names.push(digits(alloc, tables)?)?;
-    names.append(row_names(alloc, columns)?)?;
+    names.append(names_carrying(alloc, carried, columns)?)?;
     let item = FromItem {
         source: Source::Table(Known::Table.name(alloc)?),
         alias: Known::Table.name(alloc)?,
@@ -211,11 +223,25 @@ pub fn either_as(
 ) -> Result<FromItem, NoMemory>
     ensures { IfOk result (λ i. i ≡ spec.either_as alias columns first second) }
 {
+    either_carrying(alloc, alias, 0, columns, first, second)
+}
+
+/// The row of one select or of the other, of which so many columns are carried.
+pub fn either_carrying(
+    alloc: Global,
+    alias: usize,
+    carried: usize,
+    columns: usize,
+    first: Select,
+    second: Select,
+) -> Result<FromItem, NoMemory>
+    ensures { IfOk result (λ i. i ≡ spec.either_carrying alias carried columns first second) }
+{
     let mut selects = alone(alloc, first)?;
     selects.push(second)?;
     Ok(FromItem {
         source: Source::Sub(subquery(alloc, selects)?, true),
         alias: alias_name(alloc, alias)?,
-        columns: row_names(alloc, columns)?,
+        columns: names_carrying(alloc, carried, columns)?,
     })
 }

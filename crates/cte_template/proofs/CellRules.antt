@@ -9,7 +9,8 @@ use Rattle.sql_meaning.specs.Template.{below}
 use Rattle.sql_meaning.specs.Trees.{col, item}
 use Rattle.cte_template.specs.Making.{Making}
 use Rattle.cte_template.specs.Places.{beside}
-use Rattle.cte_template.specs.Walks.{cell, cells_at, argument, arguments_at}
+use Rattle.cte_template.specs.CarriedWalks.{carried_at}
+use Rattle.cte_template.specs.Written.{cell, cells_at, argument, arguments_at}
 use Rattle.cte_template.specs.declared.places.ItemColumn.{ItemColumn}
 use Rattle.cte_parts.proofs.Lists.{one_more_below}
 
@@ -32,7 +33,7 @@ arguments_end m i keys params (u ∷ ts) t =
     ap (λ xs. argument m u (beside keys params i) ∷ xs) (arguments_end m (suc i) keys params ts t ∙ ap (λ k. arguments_at m (suc i) keys params ts ++ (argument m t (beside keys params k) ∷ [])) next)
 
 -- one more item behind those of a list
-grown : (before : List Item) (es fs : List Expr) (e : Expr) → fs ≡ es ++ (e ∷ []) → (before ++ map item es) ++ (item e ∷ []) ≡ before ++ map item fs
+pub grown : (before : List Item) (es fs : List Expr) (e : Expr) → fs ≡ es ++ (e ∷ []) → (before ++ map item es) ++ (item e ∷ []) ≡ before ++ map item fs
 grown before es fs e h =
     append_assoc before (map item es) (item e ∷ []) ∙ ap (λ xs. before ++ xs) (sym (map-append item es (e ∷ []))) ∙ ap (λ xs. before ++ map item xs) (sym h)
 
@@ -53,6 +54,23 @@ one_more_argument m before list keys params i k ts us t e h step long here is =
     (λ j. h j ++ (item (is j) ∷ []))
     ∙ grown before (arguments_at m 0 keys params ts) (arguments_at m 0 keys params us) (argument m t (beside keys params k))
     (ap (λ xs. arguments_at m 0 keys params xs) step ∙ (arguments_end m 0 keys params ts t ∙ ap (λ n. arguments_at m 0 keys params ts ++ (argument m t (beside keys params n) ∷ [])) counted))
+
+carried_end : (depth place : ℕ) (ts : List Ty) (t : Ty) → carried_at depth place (ts ++ (t ∷ [])) ≡ carried_at depth place ts ++ (col depth 0 (place + length ts) ∷ [])
+carried_end depth place [] t =
+    let here : place ≡ place + 0 = omega arith in
+    ap (λ k. col depth 0 k ∷ []) here
+carried_end depth place (u ∷ ts) t =
+    let next : suc place + length ts ≡ place + length (u ∷ ts) = omega arith in
+    ap (λ xs. col depth 0 place ∷ xs) (carried_end depth (suc place) ts t ∙ ap (λ k. carried_at depth (suc place) ts ++ (col depth 0 k ∷ [])) next)
+
+pub one_more_carried : (before list : List Item) (depth level i k : ℕ) (ts us : List Ty) (t : Ty) (e : Expr)
+    → list ≡ before ++ map item (carried_at depth 2 ts) → us ≡ ts ++ (t ∷ []) → length ts ≡ i → level ≡ depth → k ≡ i + 2 → e ≡ col level 0 k
+    → list ++ (item e ∷ []) ≡ before ++ map item (carried_at depth 2 us)
+one_more_carried before list depth level i k ts us t e h step long same here is =
+    let counted : 2 + length ts ≡ k = omega (arith, long, here) in
+    (λ j. h j ++ (item ((is ∙ ap (λ l. col l 0 k) same) j) ∷ []))
+    ∙ grown before (carried_at depth 2 ts) (carried_at depth 2 us) (col depth 0 k)
+    (ap (λ xs. carried_at depth 2 xs) step ∙ (carried_end depth 2 ts t ∙ ap (λ n. carried_at depth 2 ts ++ (col depth 0 n ∷ [])) counted))
 
 -- one more column of an item
 pub one_more_of : (n i : ℕ) → map item (map (col 0 n) (below (i + 1))) ≡ map item (map (col 0 n) (below i)) ++ (item (col 0 n i) ∷ [])

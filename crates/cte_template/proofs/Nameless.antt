@@ -10,12 +10,12 @@ use Rattle.away_trees.specs.declared.queries.Query.{Query}
 use Rattle.away_trees.specs.declared.queries.Expr.TheViews.{roll-FromItem, roll-Select, roll-Query}
 use Rattle.away_trees.specs.Algebra.{expr_of, item_of, from_of, select_of, query_of}
 use Rattle.away_trees.proofs.Equations as eq
-use Rattle.call_forms.specs.Template.{either}
+use Rattle.call_forms.specs.References.{either}
 use Rattle.sql_meaning.specs.Names.{nameless, bare_columns, bare_select, bare_query}
 use Rattle.sql_meaning.specs.Template.{gate, let_item}
 use Rattle.sql_meaning.specs.Trees.{truth, select, one, lateral}
-use Rattle.cte_parts.specs.Names.{alias_name, only_name, row_names}
-use Rattle.cte_parts.specs.Trees.{lateral_as, only_as, gate_as, let_as, either_as}
+use Rattle.cte_parts.specs.Names.{alias_name, only_name, names_carrying}
+use Rattle.cte_parts.specs.Trees.{lateral_as, only_as, gate_as, let_as, either_carrying}
 
 abbrev pub from_bare : FromItem → FromItem
 from_bare f = from_of nameless f
@@ -43,8 +43,8 @@ pub same_selects : (xs ys : List Select) → map (λ s. select_bare s) xs ≡ ma
     → query_of nameless (roll-Query (record { recursive = None; selects = xs })) ≡ query_of nameless (roll-Query (record { recursive = None; selects = ys }))
 same_selects xs ys h = eq.of_query nameless xs ∙ (ap (λ zs. bare_query (record { recursive = None; selects = zs })) h ∙ sym (eq.of_query nameless ys))
 
-pub same_either : (k columns : ℕ) (a b c d : Select) → select_bare a ≡ select_bare c → select_bare b ≡ select_bare d → from_bare (either_as k columns a b) ≡ from_bare (either c d)
-same_either k columns a b c d h g = same_lateral (alias_name k) (row_names columns) (roll-Query (record { recursive = None; selects = a ∷ b ∷ [] })) (roll-Query (record { recursive = None; selects = c ∷ d ∷ [] })) (same_selects (a ∷ b ∷ []) (c ∷ d ∷ []) (λ i. h i ∷ (g i ∷ [])))
+pub same_either : (k carried columns : ℕ) (a b c d : Select) → select_bare a ≡ select_bare c → select_bare b ≡ select_bare d → from_bare (either_carrying k carried columns a b) ≡ from_bare (either c d)
+same_either k carried columns a b c d h g = same_lateral (alias_name k) (names_carrying carried columns) (roll-Query (record { recursive = None; selects = a ∷ b ∷ [] })) (roll-Query (record { recursive = None; selects = c ∷ d ∷ [] })) (same_selects (a ∷ b ∷ []) (c ∷ d ∷ []) (λ i. h i ∷ (g i ∷ [])))
 
 pub same_select : (list : List Item) (fs gs : List FromItem) (filter : Option Expr) → map (λ f. from_bare f) fs ≡ map (λ f. from_bare f) gs
     → select_bare (roll-Select (record { list = list; from = fs; filter = filter; order = []; limit = None }))

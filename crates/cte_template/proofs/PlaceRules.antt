@@ -5,8 +5,10 @@ use Rattle.std.proofs.lemmas.List.{drop_more}
 use Rattle.std.proofs.lemmas.Option.{same_Some}
 use Rattle.std.proofs.lemmas.Bool.{eqb-true, eq-eqb, ne_eqb}
 use Rattle.away_trees.specs.declared.queries.Expr.{Expr}
+use Rattle.away_values.specs.declared.types.Ty.{Ty}
+use Rattle.call_forms.specs.Carrying.{behind}
 use Rattle.call_forms.specs.Scopes.{Scope, paired}
-use Rattle.cte_template.specs.Places.{nowhere, place_or, place_of, stands, at_keys, beside}
+use Rattle.cte_template.specs.Places.{nowhere, carried_place, place_or, place_of, stands, at_keys, beside}
 use Rattle.cte_template.specs.declared.places.ItemColumn.{ItemColumn}
 
 -- ---- the place of a name
@@ -89,6 +91,18 @@ keys_are f ks ns = λ i n. each ks ns n i
     each [] ns n = no_keys (map f ns) n
     each (k ∷ ks) [] n = no_places (k ∷ ks) n
     each (k ∷ ks) (m ∷ ns) n = at_key k ks (f m) (map f ns) n ∙ ap (λ p. if nat_eq k n then f m else p) (each ks ns n)
+
+-- ---- the columns of a row
+
+behind_is : (carried : List Ty) (column : ℕ) → behind carried column ≡ length carried + column
+behind_is [] column = omega arith
+behind_is (t ∷ ts) column = let h = behind_is ts column in omega (arith, h)
+
+pub place_behind : (carried : List Ty) (first place column : ℕ) → first ≡ length carried + 2 → place ≡ first + column
+    → record { depth = 0; item = 0; column = place } ≡ carried_place carried column
+place_behind carried first place column h g =
+    let counted : place ≡ suc (suc (behind carried column)) = omega (arith, h, g, behind_is carried column) in
+    ap (λ k. record { depth = 0; item = 0; column = k }) counted
 
 -- ---- what stands beside a key
 

@@ -6,12 +6,15 @@ use Rattle.away_trees.specs.declared.queries.Expr.{Expr}
 use Rattle.away_trees.specs.declared.queries.Expr.TheVariants as expr
 use Rattle.away_values.specs.declared.types.Ty.{Ty}
 use Rattle.call_forms.specs.Scopes.{Scope, paired}
-use Rattle.call_forms.specs.Template.{refers, here, deeper, outside, no_column, of_row, cells, argument_cells}
-use Rattle.sql_meaning.specs.Trees.{null_of}
+use Rattle.call_forms.specs.Carrying.{carried_from, of_row}
+use Rattle.call_forms.specs.References.{refers, here, deeper, outside, no_column, cells}
+use Rattle.call_forms.specs.Template.{argument_cells}
+use Rattle.sql_meaning.specs.Trees.{col, null_of}
 use Rattle.cte_parts.specs.Columns.{column_beside}
 use Rattle.cte_template.specs.Making.{Making}
-use Rattle.cte_template.specs.Places.{nowhere, first_of, row_place, seen, stands, beside}
-use Rattle.cte_template.specs.Walks.{column_at, cell, cells_at, argument, arguments_at}
+use Rattle.cte_template.specs.CarriedWalks.{carried_at}
+use Rattle.cte_template.specs.Places.{nowhere, first_of, carried_place, row_place, seen, stands, beside}
+use Rattle.cte_template.specs.Written.{column_at, cell, cells_at, argument, arguments_at}
 use Rattle.cte_template.specs.declared.places.ItemColumn.{ItemColumn}
 
 -- no name stands deeper than the list
@@ -93,23 +96,28 @@ shallow_paired depth places (k ∷ ks) (m ∷ ns) h n = by (nat_eq k n) (shallow
     by false le = le
 
 -- the columns of the row, from the list of a branch
-pub row_is : (params places : List ℕ) → refs_of 1 (paired row_place nowhere params places) ≡ paired of_row (no_column 0) params places
-row_is params places = λ i n. (paired_maps (seen 1) row_place nowhere params places n ∙ (λ j. paired (λ p. row p j) (nowhere_is 0 j) params places n)) i
+pub row_is : (carried : List Ty) (params places : List ℕ) → refs_of 1 (paired (carried_place carried) nowhere params places) ≡ paired (of_row carried) (no_column 0) params places
+row_is carried params places = λ i n. (paired_maps (seen 1) (carried_place carried) nowhere params places n ∙ (λ j. paired (λ p. row p j) (nowhere_is 0 j) params places n)) i
   where
-    row : (p : ℕ) → seen 1 (row_place p) ≡ of_row p
+    row : (p : ℕ) → seen 1 (carried_place carried p) ≡ of_row carried p
     row p = refl
 
-shallow_row : (params places : List ℕ) → Shallow 1 (paired row_place nowhere params places)
-shallow_row [] places n = omega arith
-shallow_row (k ∷ ks) [] n = omega arith
-shallow_row (k ∷ ks) (m ∷ ns) n = by (nat_eq k n) (shallow_row ks ns n)
+pub carried_shallow : (carried : List Ty) (params places : List ℕ) → Shallow 1 (paired (carried_place carried) nowhere params places)
+carried_shallow carried [] places n = omega arith
+carried_shallow carried (k ∷ ks) [] n = omega arith
+carried_shallow carried (k ∷ ks) (m ∷ ns) n = by (nat_eq k n) (carried_shallow carried ks ns n)
   where
-    by : (b : Bool) → (paired row_place nowhere ks ns n).depth ≤ 1 → (if b then row_place m else paired row_place nowhere ks ns n).depth ≤ 1
+    by : (b : Bool) → (paired (carried_place carried) nowhere ks ns n).depth ≤ 1 → (if b then carried_place carried m else paired (carried_place carried) nowhere ks ns n).depth ≤ 1
     by true le = omega arith
     by false le = le
 
 pub row_shallow : (params places : List ℕ) → Shallow 1 (paired row_place nowhere params places)
-row_shallow = shallow_row
+row_shallow = carried_shallow []
+
+-- what is carried, from the list of a select
+pub carried_is : (out place : ℕ) (ts : List Ty) → carried_at (suc out) place ts ≡ carried_from out place ts
+carried_is out place [] = refl
+carried_is out place (t ∷ ts) = ap (λ xs. col (suc out) 0 place ∷ xs) (carried_is out (suc place) ts)
 
 -- ---- slots, cells and arguments
 

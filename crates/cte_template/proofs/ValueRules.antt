@@ -15,7 +15,7 @@ use Rattle.sql_meaning.specs.Trees.{null_of}
 use Rattle.cte_parts.specs.Columns.{column_beside}
 use Rattle.cte_template.specs.Making.{Making}
 use Rattle.cte_template.specs.Places.{nowhere, seen}
-use Rattle.cte_template.specs.Walks.{column_at, value_at}
+use Rattle.cte_template.specs.Written.{column_at, value_at}
 use Rattle.cte_template.specs.declared.places.ItemColumn.{ItemColumn}
 
 -- by the term's entry

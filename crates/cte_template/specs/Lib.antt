@@ -1,7 +1,12 @@
 pub mod Places
 pub mod Making
+pub mod Written
+pub mod CarriedWalks
 pub mod Walks
 pub mod Steps
+pub mod CarriedTree
 pub mod Tree
+pub mod Starts
+pub mod CarriedNumbers
 pub mod Numbers
 pub mod Laws

@@ -14,6 +14,8 @@ use Rattle.std.specs.Prelude.{
   nat_eq,
 }
 use Rattle.away_trees.specs.declared.queries.Col.{Col}
+use Rattle.away_values.specs.declared.types.Ty.{Ty}
+use Rattle.call_forms.specs.Carrying.{behind}
 use Rattle.call_forms.specs.Scopes.{Scope, paired}
 use Rattle.cte_template.specs.declared.places.ItemColumn.{ItemColumn}
 
@@ -25,9 +27,14 @@ nowhere = record { depth = 0; item = 1; column = 0 }
 abbrev pub first_of : ℕ → ℕ → ItemColumn
 first_of depth item = record { depth = depth; item = item; column = 0 }
 
+-- a column of the working table, behind the flag, the label and what is carried
+abbrev pub carried_place : List Ty → ℕ → ItemColumn
+carried_place carried column =
+    record { depth = 0; item = 0; column = suc (suc (behind carried column)) }
+
 -- a column of the working table, behind the flag and the label
 abbrev pub row_place : ℕ → ItemColumn
-row_place column = record { depth = 0; item = 0; column = suc (suc column) }
+row_place = carried_place []
 
 -- the column from a list at a depth
 abbrev pub seen : ℕ → ItemColumn → Col

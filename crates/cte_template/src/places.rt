@@ -5,8 +5,8 @@ ghost use Rattle.call_forms.specs.Scopes.{paired};
 ghost use Rattle.cte_template.specs.Places as spec;
 
 use away_trees::Col;
-use away_values::NoMemory;
-use cte_parts::small;
+use away_values::{NoMemory, Ty};
+use cte_parts::{small, sum};
 use sqlite_items::Items;
 use std::alloc::Global;
 
@@ -70,17 +70,30 @@ pub(crate) fn places_of(
     Ok(list)
 }
 
-/// The places of a row's columns, behind the flag and the label.
-pub(crate) fn row_places(alloc: Global, columns: &[u32]) -> Result<Items<ItemColumn>, NoMemory>
-    ensures { IfOk result (λ list. list ≡ map spec.row_place columns.now) }
+/// A column of the working table, behind the flag, the label and what is carried.
+#[tactic(auto, using(crate::proofs::PlaceRules::place_behind))]
+fn row_place(carried: &[Ty], column: u32) -> Result<ItemColumn, NoMemory>
+    ensures { IfOk result (λ p. p ≡ spec.carried_place carried.now column) }
+{
+    let first = sum(carried.len(), 2)?;
+    Ok(ItemColumn {
+        depth: 0,
+        item: 0,
+        column: sum(first, column as usize)?,
+    })
+}
+
+/// The places of a row's columns, behind the flag, the label and what is carried.
+pub(crate) fn row_places(
+    alloc: Global,
+    carried: &[Ty],
+    columns: &[u32],
+) -> Result<Items<ItemColumn>, NoMemory>
+    ensures { IfOk result (λ list. list ≡ map (spec.carried_place carried.now) columns.now) }
 {
     let mut list = Items::new(alloc);
     for column in columns {
-        list.push(ItemColumn {
-            depth: 0,
-            item: 0,
-            column: *column as usize + 2,
-        })?;
+        list.push(row_place(carried, *column)?)?;
     }
     Ok(list)
 }
@@ -121,13 +134,14 @@ pub(crate) fn entered(
 /// The parameters of a label's block at the columns of the row.
 pub(crate) fn on_row(
     alloc: Global,
+    carried: &[Ty],
     params: &[u32],
     columns: &[u32],
 ) -> Result<Items<(u32, ItemColumn)>, NoMemory>
     ensures { IfOk result (λ list. spec.place_of list
-        ≡ paired spec.row_place spec.nowhere params.now columns.now) }
+        ≡ paired (spec.carried_place carried.now) spec.nowhere params.now columns.now) }
 {
-    let places = row_places(alloc, columns)?;
+    let places = row_places(alloc, carried, columns)?;
     keys_at(alloc, params, places.as_slice())
 }
 

@@ -4,7 +4,8 @@ ghost use Rattle.std.specs.Prelude.{◌≡◌, ◌++◌, ◌∷◌, [], false, p
 ghost use Rattle.sql_meaning.specs.Trees as tree;
 ghost use Rattle.cte_template.specs.Making.{making};
 ghost use Rattle.cte_template.specs.Places.{place_of as standing};
-ghost use Rattle.cte_template.specs.Walks as spec;
+ghost use Rattle.cte_template.specs.CarriedWalks as carrying;
+ghost use Rattle.cte_template.specs.Written as spec;
 
 use crate::places::{ItemColumn, beside, place_of, seen};
 use crate::writer::{Writer, places_at, type_of};
@@ -24,13 +25,27 @@ fn add_nulls(alloc: Global, list: &mut Items<Item>, types: &[Ty]) -> Result<(), 
     Ok(())
 }
 
+/// Adds a column of the working table for each type, behind the flag and the label.
+fn add_carried(list: &mut Items<Item>, depth: usize, carried: &[Ty]) -> Result<(), NoMemory>
+    ensures { OnOk result (list.new
+        ≡ list.old ++ map tree.item (carrying.carried_at depth 2 carried.now)) }
+{
+    let level = small(depth)?;
+    for i in 0..carried.len() {
+        add(list, col(level, 0, sum(i, 2)?)?)?;
+    }
+    Ok(())
+}
+
 /// The first columns of a finished row.
-fn finished(alloc: Global, w: &Writer<'_>) -> Result<Items<Item>, NoMemory>
-    ensures { IfOk result (λ list. list ≡ map tree.item
-        (tree.truth false ∷ tree.number (pos 0) ∷ map tree.null_of w.now.tail.now.columns)) }
+fn finished(alloc: Global, w: &Writer<'_>, depth: usize) -> Result<Items<Item>, NoMemory>
+    ensures { IfOk result (λ list. list ≡ map tree.item (tree.truth false ∷ tree.number (pos 0)
+        ∷ (carrying.carried_at depth 2 w.now.carried.now
+        ++ map tree.null_of w.now.tail.now.columns))) }
 {
     let mut list = only(alloc, truth(alloc, false)?)?;
     add(&mut list, number(alloc, 0)?)?;
+    add_carried(&mut list, depth, w.carried)?;
     add_nulls(alloc, &mut list, w.tail.columns.as_slice())?;
     Ok(list)
 }
@@ -39,14 +54,16 @@ fn finished(alloc: Global, w: &Writer<'_>) -> Result<Items<Item>, NoMemory>
 pub(crate) fn end_row(
     alloc: Global,
     w: &Writer<'_>,
+    depth: usize,
     value: Expr,
     class: Expr,
 ) -> Result<Items<Item>, NoMemory>
-    ensures { IfOk result (λ list. list ≡ map tree.item (spec.end_row (making w.now) value class)) }
+    ensures { IfOk result (λ list. list ≡ map tree.item
+        (carrying.end_row (making w.now) w.now.carried.now depth value class)) }
 {
     let mut outcome = only(alloc, value)?;
     add(&mut outcome, class)?;
-    let mut list = finished(alloc, w)?;
+    let mut list = finished(alloc, w, depth)?;
     list.append(outcome)?;
     Ok(list)
 }
@@ -97,11 +114,12 @@ pub(crate) fn call_row(
     args: &[u32],
 ) -> Result<Items<Item>, NoMemory>
     ensures { IfOk result (λ list. list ≡ map tree.item
-        (spec.call_row (making w.now) depth (standing pairs.now) label
+        (carrying.call_row (making w.now) w.now.carried.now depth (standing pairs.now) label
         (spec.keys_of (making w.now) label) args.now)) }
 {
     let mut list = only(alloc, truth(alloc, true)?)?;
     add(&mut list, number(alloc, after(label)?)?)?;
+    add_carried(&mut list, depth, w.carried)?;
     let keys = places_at(w, label);
     let columns = w.tail.columns.as_slice();
     add_cells(alloc, &mut list, depth, pairs, keys, args, columns)?;
@@ -117,10 +135,11 @@ pub(crate) fn all_columns(
     w: &Writer<'_>,
     item: usize,
 ) -> Result<Items<Item>, NoMemory>
-    ensures { IfOk result (λ list. list ≡ map tree.item (spec.all_columns (making w.now) item)) }
+    ensures { IfOk result (λ list. list
+        ≡ map tree.item (carrying.all_columns (making w.now) w.now.carried.now item)) }
 {
     let mut list = Items::new(alloc);
-    let many = sum(w.tail.columns.len(), 4)?;
+    let many = sum(sum(w.carried.len(), w.tail.columns.len())?, 4)?;
     for i in 0..many {
         add(&mut list, col(0, item, i)?)?;
     }

@@ -1,20 +1,28 @@
 //! The whole query.
 
-ghost use Rattle.std.specs.Prelude.{◌≡◌, ◌<◌, ◌^◌, IfOk, length};
+ghost use Rattle.std.specs.Prelude.{◌≡◌, ◌<◌, ◌^◌, ◌∷◌, [], List, IfOk, length};
 ghost use Rattle.block_forms.specs.Expressions.{expressions};
 ghost use Rattle.block_forms.specs.Lowered.{Lowered};
 ghost use Rattle.block_forms.specs.Named.{Named};
 ghost use Rattle.block_forms.specs.Places.{Each, EachAt};
+ghost use Rattle.away_trees.specs.declared.queries.Expr.TheViews.{roll-Recursive};
+ghost use Rattle.away_trees.specs.declared.queries.Select.{Select as TheSelect};
 ghost use Rattle.call_forms.specs.Called.{Called};
+ghost use Rattle.call_forms.specs.Carried.{Carried};
+ghost use Rattle.call_forms.specs.Carrying.{with_part};
+ghost use Rattle.cte_parts.specs.Names.{table_name};
 ghost use Rattle.call_forms.specs.Columned.{Columned};
 ghost use Rattle.call_forms.specs.Merged.{Merged};
 ghost use Rattle.call_forms.specs.Templated.{Templated};
 ghost use Rattle.cte_template.specs.Making.{making, making_of};
-ghost use Rattle.cte_template.specs.Numbers.{AliasesFit, NumbersFit};
+ghost use Rattle.cte_template.specs.CarriedNumbers as numbers;
+ghost use Rattle.cte_template.specs.CarriedTree as carrying;
+ghost use Rattle.cte_template.specs.Numbers.{NumbersFit};
 ghost use Rattle.call_law.specs.Terms.{FailsByClass};
 ghost use Rattle.cte_template.specs.Tree as spec;
 
-use crate::body::{behind, body_of};
+use crate::body::body_of;
+use crate::draft::behind;
 use crate::places::on_row;
 use crate::rows::{add_arguments, all_columns};
 use crate::writer::{Writer, label_of, params_of, places_at};
@@ -24,15 +32,15 @@ use away_values::{NoMemory, Ty};
 use block_forms::{ExprTable, Goto, Ssa};
 use call_forms::{Anf, Tail};
 use cte_parts::{
-    Known, add, after, alone, col, equal, not, null, number, only, row_names, select, subquery,
-    sum, truth, working,
+    Known, add, after, alone, col, equal, names_carrying, not, null, number, only, select,
+    subquery, sum, truth, working, working_carrying,
 };
 use sqlite_items::Items;
 use std::alloc::Global;
 
 /// Whether the row is at the label with this number.
 fn at_label(alloc: Global, w: &Writer<'_>, label: usize) -> Result<Expr, NoMemory>
-    ensures { IfOk result (λ e. e ≡ spec.at_label (making w.now) label) }
+    ensures { IfOk result (λ e. e ≡ carrying.at_label (making w.now) label) }
 {
     equal(alloc, col(2, 0, 1)?, number(alloc, label)?)
 }
@@ -45,12 +53,14 @@ fn fits_word(number: usize)
 /// The branch of a label, counted from 0.
 fn branch(alloc: Global, w: &Writer<'_>, label: usize, block: u32) -> Result<Select, NoMemory>
     requires classes { Each FailsByClass w.now.anf.now.blocks }
-    ensures is { IfOk result (λ s. s ≡ spec.branch (making w.now) label block) }
-    ensures fits { IfOk result (λ s. AliasesFit (making w.now) label block) }
+    ensures is { IfOk result
+        (λ s. s ≡ carrying.branch (making w.now) w.now.carried.now label block) }
+    ensures fits { IfOk result
+        (λ s. numbers.AliasesFit (making w.now) w.now.carried.now label block) }
 {
     let mut draft = behind(alloc, 1, at_label(alloc, w, after(label)?)?)?;
     let params = params_of(w, block as usize);
-    let pairs = on_row(alloc, params, places_at(w, label))?;
+    let pairs = on_row(alloc, w.carried, params, places_at(w, label))?;
     let most = w.anf.blocks.len();
     let list = body_of(alloc, w, most, 1, block, pairs, &mut draft)?;
     fits_word(draft.next);
@@ -60,8 +70,10 @@ fn branch(alloc: Global, w: &Writer<'_>, label: usize, block: u32) -> Result<Sel
 /// The branches of all labels.
 fn branches(alloc: Global, w: &Writer<'_>) -> Result<Items<Select>, NoMemory>
     requires classes { Each FailsByClass w.now.anf.now.blocks }
-    ensures is { IfOk result (λ list. list ≡ spec.branches (making w.now) 0 w.now.tail.now.labels) }
-    ensures fits { IfOk result (λ list. EachAt (AliasesFit (making w.now)) w.now.tail.now.labels) }
+    ensures is { IfOk result (λ list. list
+        ≡ carrying.branches (making w.now) w.now.carried.now 0 w.now.tail.now.labels) }
+    ensures fits { IfOk result (λ list. EachAt
+        (numbers.AliasesFit (making w.now) w.now.carried.now) w.now.tail.now.labels) }
 {
     let mut list = Items::new(alloc);
     let labels = w.tail.labels.as_slice();
@@ -91,25 +103,28 @@ fn start(alloc: Global, w: &Writer<'_>, entry: u32) -> Result<Select, NoMemory>
 /// The rows of the labels.
 fn labels(alloc: Global, w: &Writer<'_>) -> Result<FromItem, NoMemory>
     requires classes { Each FailsByClass w.now.anf.now.blocks }
-    ensures is { IfOk result (λ i. i ≡ spec.label_rows (making w.now)) }
-    ensures fits { IfOk result (λ i. NumbersFit (making w.now)) }
+    ensures is { IfOk result (λ i. i ≡ carrying.label_rows (making w.now) w.now.carried.now) }
+    ensures fits { IfOk result (λ i. numbers.NumbersFit (making w.now) w.now.carried.now) }
 {
+    fits_word(w.carried.len());
     fits_word(w.tail.columns.len());
     let query = subquery(alloc, branches(alloc, w)?)?;
     Ok(FromItem {
         source: Source::Sub(query, true),
         alias: Known::Step.name(alloc)?,
-        columns: row_names(alloc, w.tail.columns.len())?,
+        columns: names_carrying(alloc, w.carried.len(), w.tail.columns.len())?,
     })
 }
 
 /// The step from a row to the next: the columns of a label's row, while the call goes on.
 fn step(alloc: Global, w: &Writer<'_>, tables: usize) -> Result<Select, NoMemory>
     requires classes { Each FailsByClass w.now.anf.now.blocks }
-    ensures is { IfOk result (λ s. s ≡ spec.step (making w.now) tables) }
-    ensures fits { IfOk result (λ s. NumbersFit (making w.now)) }
+    ensures is { IfOk result
+        (λ s. s ≡ carrying.step (making w.now) w.now.carried.now tables) }
+    ensures fits { IfOk result (λ s. numbers.NumbersFit (making w.now) w.now.carried.now) }
 {
-    let mut from = working(alloc, tables, w.tail.columns.len())?;
+    let columns = w.tail.columns.len();
+    let mut from = working_carrying(alloc, tables, w.carried.len(), columns)?;
     from.push(labels(alloc, w)?)?;
     let list = all_columns(alloc, w, 1)?;
     let goes_on = col(0, 0, 0)?;
@@ -128,20 +143,22 @@ fn last(alloc: Global, w: &Writer<'_>, tables: usize) -> Result<Select, NoMemory
     Ok(select(alloc, list, from, Some(over)))
 }
 
-fn working_table(
+/// The recursive table: its name, those of its columns, and its rows.
+fn named(
     alloc: Global,
     w: &Writer<'_>,
-    entry: u32,
-    tables: usize,
+    first: Items<Select>,
+    second: Select,
 ) -> Result<Recursive, NoMemory>
-    requires classes { Each FailsByClass w.now.anf.now.blocks }
-    ensures is { IfOk result (λ r. r ≡ spec.working_table (making w.now) entry tables) }
-    ensures fits { IfOk result (λ r. NumbersFit (making w.now)) }
+    ensures { IfOk result (λ r. r ≡ roll-Recursive (record {
+      name = table_name;
+      columns = carrying.column_names (making w.now) w.now.carried.now;
+      first = first;
+      second = second;
+    })) }
 {
     let name = Known::Table.name(alloc)?;
-    let columns = row_names(alloc, w.tail.columns.len())?;
-    let first = alone(alloc, start(alloc, w, entry)?)?;
-    let second = step(alloc, w, tables)?;
+    let columns = names_carrying(alloc, w.carried.len(), w.tail.columns.len())?;
     Ok(Recursive {
         name,
         columns,
@@ -150,7 +167,23 @@ fn working_table(
     })
 }
 
-/// The tree with its names.
+/// The recursive table of these first rows, each of which carries further values.
+pub(crate) fn carried_table(
+    alloc: Global,
+    w: &Writer<'_>,
+    first: Items<Select>,
+    tables: usize,
+) -> Result<Recursive, NoMemory>
+    requires classes { Each FailsByClass w.now.anf.now.blocks }
+    ensures is { IfOk result
+        (λ r. r ≡ carrying.carried_table (making w.now) w.now.carried.now first tables) }
+    ensures fits { IfOk result (λ r. numbers.NumbersFit (making w.now) w.now.carried.now) }
+{
+    let second = step(alloc, w, tables)?;
+    named(alloc, w, first, second)
+}
+
+/// The tree with its names, of one call: its rows carry nothing.
 pub(crate) fn tree(
     alloc: Global,
     w: &Writer<'_>,
@@ -158,10 +191,12 @@ pub(crate) fn tree(
     tables: usize,
 ) -> Result<Query, NoMemory>
     requires classes { Each FailsByClass w.now.anf.now.blocks }
+    requires one { w.now.carried.now ≡ [] }
     ensures is { IfOk result (λ q. q ≡ spec.tree (making w.now) entry tables) }
     ensures fits { IfOk result (λ q. NumbersFit (making w.now)) }
 {
-    let recursive = working_table(alloc, w, entry, tables)?;
+    let first = alone(alloc, start(alloc, w, entry)?)?;
+    let recursive = carried_table(alloc, w, first, tables)?;
     let selects = alone(alloc, last(alloc, w, tables)?)?;
     Ok(Query {
         recursive: Some(recursive),
@@ -201,6 +236,47 @@ pub fn template_tree(
         result: f.function.result,
         anf,
         tail,
+        carried: &[],
     };
     tree(alloc, &w, goto.entry, tables)
+}
+
+/// The recursive table of a query over many calls of a function: these first rows, and what follows from each row of the table.
+/// Each row carries values of these types in columns behind the flag and the label, and what follows from it carries the same.
+pub fn carry(
+    alloc: Global,
+    f: &CheckedFunction,
+    goto: &Goto,
+    ssa: &Ssa,
+    anf: &Anf,
+    tail: &Tail,
+    table: &ExprTable,
+    tables: usize,
+    first: Items<Select>,
+    carried: &[Ty],
+) -> Result<Recursive, NoMemory>
+    requires lowered { Lowered f.now.function f.now.slots goto.now }
+    requires named { Named (length f.now.slots) (length f.now.function.params) goto.now ssa.now }
+    requires called { Called goto.now ssa.now anf.now }
+    requires merged { Merged goto.now anf.now tail.now }
+    requires columned { Columned f.now.slots ssa.now anf.now tail.now }
+    requires entries { table.now.list ≡ expressions f.now.function }
+    ensures carried { IfOk result (λ r. (selects : List TheSelect)
+        → Carried f.now.function f.now.slots tables goto.now ssa.now anf.now tail.now
+        carried.now first selects (with_part r selects)) }
+    ensures is { IfOk result (λ r. r ≡ carrying.carried_table
+        (making_of f.now.function f.now.slots ssa.now anf.now tail.now) carried.now first tables) }
+    ensures fits { IfOk result (λ r. numbers.NumbersFit
+        (making_of f.now.function f.now.slots ssa.now anf.now tail.now) carried.now) }
+{
+    let w = Writer {
+        table: table.list.as_slice(),
+        slots: f.slots.as_slice(),
+        names: ssa.names.as_slice(),
+        result: f.function.result,
+        anf,
+        tail,
+        carried,
+    };
+    carried_table(alloc, &w, first, tables)
 }

@@ -3,7 +3,7 @@
 ghost use Rattle.std.specs.Prelude.{◌≡◌, map, IfOk};
 ghost use Rattle.cte_template.specs.Making.{making};
 ghost use Rattle.cte_template.specs.Places.{place_of as standing};
-ghost use Rattle.cte_template.specs.Walks as spec;
+ghost use Rattle.cte_template.specs.Written as spec;
 
 use crate::places::{ItemColumn, nowhere, place_of, seen};
 use crate::writer::Writer;

@@ -4,9 +4,9 @@ ghost use Rattle.std.specs.Prelude.{IsTrue};
 ghost use Rattle.block_forms.specs.Places.{Each};
 ghost use Rattle.call_law.specs.Terms.{EndHasClass, FailsByClass};
 
-use crate::template::tree;
+use crate::template::{carried_table, tree};
 use crate::writer::Writer;
-use away_trees::{Col, Expr, FromItem, Query, Select, Source};
+use away_trees::{Col, Expr, FromItem, Query, Recursive, Select, Source};
 use away_types::Slot;
 use away_values::{CmpOp, Ty};
 use block_forms::Term;
@@ -143,8 +143,27 @@ fn query(rt: &(impl Abort + AllocGlobal), a: &Anf, t: &Tail, names: &[u32]) -> Q
         result: Ty::Bigint,
         anf: a,
         tail: t,
+        carried: &[],
     };
     tree(rt.alloc(), &w, 0, 2).expect(rt, "memory")
+}
+
+/// The recursive table of the forms over two tables, without first rows. Each row carries a text.
+fn table_that_carries(rt: &(impl Abort + AllocGlobal), a: &Anf, t: &Tail) -> Recursive {
+    if !none_fails(a) {
+        rt.abort();
+    }
+    let table = expressions(rt);
+    let w = Writer {
+        table: table.as_slice(),
+        slots: &[],
+        names: &[],
+        result: Ty::Bigint,
+        anf: a,
+        tail: t,
+        carried: &[Ty::Text],
+    };
+    carried_table(rt.alloc(), &w, Items::new(rt.alloc()), 2).expect(rt, "memory")
 }
 
 // ---- what stands in a query
@@ -163,15 +182,37 @@ fn item_at<'a>(rt: &(impl Abort + AllocGlobal), select: &'a Select, place: usize
     }
 }
 
-fn branch<'a>(rt: &(impl Abort + AllocGlobal), q: &'a Query, label: usize) -> &'a Select {
-    let Some(working_table) = &q.recursive else {
-        rt.abort()
-    };
-    let rows = item_at(rt, &working_table.second, 1);
+fn name_at<'a>(rt: &(impl Abort + AllocGlobal), table: &'a Recursive, place: usize) -> &'a str {
+    match table.columns.as_slice().get(place) {
+        None => rt.abort(),
+        Some(name) => name.text(),
+    }
+}
+
+fn first_of<'a>(rt: &(impl Abort + AllocGlobal), item: &'a FromItem) -> &'a Select {
+    match selects(item).get(0) {
+        None => rt.abort(),
+        Some(select) => select,
+    }
+}
+
+fn branch_of<'a>(
+    rt: &(impl Abort + AllocGlobal),
+    table: &'a Recursive,
+    label: usize,
+) -> &'a Select {
+    let rows = item_at(rt, &table.second, 1);
     match selects(rows).get(label) {
         None => rt.abort(),
         Some(select) => select,
     }
+}
+
+fn branch<'a>(rt: &(impl Abort + AllocGlobal), q: &'a Query, label: usize) -> &'a Select {
+    let Some(working_table) = &q.recursive else {
+        rt.abort()
+    };
+    branch_of(rt, working_table, label)
 }
 
 fn column_at(select: &Select, place: usize) -> Option<Col> {
@@ -211,6 +252,30 @@ fn a_test_is_two_selects(rt: HostRuntime) {
     assert_eq!(rt; both.columns.len(), 5);
     assert_eq!(rt; selects(both).len(), 2);
     assert_eq!(rt; branch(&rt, &q, 1).from.len(), 2);
+}
+
+#[test]
+fn each_row_carries_a_text(rt: HostRuntime) {
+    let a = one_or_the_other(&rt);
+    let t = tail_of(&rt, &[0, 1]);
+    let table = table_that_carries(&rt, &a, &t);
+    assert_eq!(rt; table.columns.len(), 6);
+    assert_eq!(rt; name_at(&rt, &table, 2), "away_x0");
+    let text = Col {
+        level: 1,
+        item: 0,
+        column: 2,
+    };
+    assert_eq!(rt; column_at(branch_of(&rt, &table, 1), 2), Some(text));
+    let both = item_at(&rt, branch_of(&rt, &table, 0), 2);
+    assert_eq!(rt; both.columns.len(), 6);
+    let inside = Col { level: 2, ..text };
+    assert_eq!(rt; column_at(first_of(&rt, both), 2), Some(inside));
+    let value = Col {
+        column: 3,
+        ..inside
+    };
+    assert_eq!(rt; column_at(first_of(&rt, both), 3), Some(value));
 }
 
 /// Each of 2,000 blocks sets a name and goes on with the next one.

@@ -12,7 +12,7 @@ use away_types::Slot;
 use away_values::Ty;
 use call_forms::{Anf, Tail};
 
-/// The expressions by number, the slots, the slot of each name, the type of the result, and the forms.
+/// The expressions by number, the slots, the slot of each name, the type of the result, the forms, and the types of what each row carries.
 #[derive(Clone, Copy)]
 pub(crate) struct Writer<'a> {
     pub table: &'a [Expr],
@@ -21,6 +21,7 @@ pub(crate) struct Writer<'a> {
     pub result: Ty,
     pub anf: &'a Anf,
     pub tail: &'a Tail,
+    pub carried: &'a [Ty],
 }
 
 /// The type of a name's slot; what has none is a bigint.

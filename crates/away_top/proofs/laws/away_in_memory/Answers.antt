@@ -1,5 +1,6 @@
 use Rattle.std.proofs.Common.{map, string_bytes}
 use Rattle.away_top.specs.Commands.{course}
+use Rattle.away_top.proofs.BatchesInMemory.{batched}
 use Rattle.away_top.proofs.ChecksInMemory as checks
 use Rattle.away_top.proofs.DemosInMemory as demos
 use Rattle.away_top.proofs.EndsInMemory.{absent_sure, each_sure, in_room, unread}
@@ -27,6 +28,11 @@ pub returns-clause-compile : goal.returns-clause-compile
 returns-clause-compile c = λ wanted tables function may none.
     let ended = returns-clause-every c may.no_failure none in
     translated c.args.files.now wanted c.args.out.now c.away.new.out (map string_bytes c.args.words.now) ended.0 tables function c.away.result may ended.1
+
+pub returns-clause-batch : goal.returns-clause-batch
+returns-clause-batch c = λ tables function table may none.
+    let ended = returns-clause-every c may.no_failure none in
+    batched c.args.files.now (map string_bytes c.args.words.now) tables function table may c.args.out.now c.away.new.out ended.0 c.away.result ended.1
 
 pub returns-clause-check : goal.returns-clause-check
 returns-clause-check c = λ schema func query cert tables function asked forms is may none.

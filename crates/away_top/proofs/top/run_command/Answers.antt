@@ -9,6 +9,10 @@ pub returns-in-Compile : goal.returns-in-Compile
 returns-in-Compile g c =
     subst (λ (x : Command). Runs g.F.Files c.args.files.now (course_of (as_command x)) c.compile.new.files (run_end c.compile.result)) (sym c.in-Compile.is) c.compile.ensures
 
+pub returns-in-Batch : goal.returns-in-Batch
+returns-in-Batch g c =
+    subst (λ (x : Command). Runs g.F.Files c.args.files.now (course_of (as_command x)) c.batch.new.files (run_end c.batch.result)) (sym c.in-Batch.is) c.batch.ensures
+
 pub returns-in-Check : goal.returns-in-Check
 returns-in-Check g c =
     subst (λ (x : Command). Runs g.F.Files c.args.files.now (course_of (as_command x)) c.check.new.files (run_end c.check.result)) (sym c.in-Check.is)

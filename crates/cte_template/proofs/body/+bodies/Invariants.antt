@@ -1,7 +1,7 @@
 use Rattle.std.proofs.Common.{◌≡◌, ◌≤◌, ◌+◌, ◌*◌}
 use Rattle.cte_template.specs.Making.{making}
 use Rattle.cte_template.specs.Places.{place_of}
-use Rattle.cte_template.specs.Walks.{rest, from_block}
+use Rattle.cte_template.specs.CarriedWalks.{rest, from_block}
 use Rattle.cte_template.proofs.body.+bodies.Given as goal
 
 abbrev pub decreases-body_of : goal.decreases-body_of
@@ -25,8 +25,8 @@ decreases-through l = 8 * l.left + 2
 abbrev pub invariant-body_of-loop-left : goal.invariant-body_of-loop-left
 invariant-body_of-loop-left l =
     (l.left ≤ l.fn.most)
-    × (rest (making l.w) l.depth (place_of l.pairs) l.draft (from_block (making l.w) l.left l.block)
-    ≡ rest (making l.w) l.depth (place_of l.fn.pairs) l.fn.draft (from_block (making l.w) l.fn.most l.fn.block))
+    × (rest (making l.w) l.w.carried.now l.depth (place_of l.pairs) l.draft (from_block (making l.w) l.left l.block)
+    ≡ rest (making l.w) l.w.carried.now l.depth (place_of l.fn.pairs) l.fn.draft (from_block (making l.w) l.fn.most l.fn.block))
 
 abbrev pub decreases-body_of-loop-left : goal.decreases-body_of-loop-left
 decreases-body_of-loop-left l = l.left

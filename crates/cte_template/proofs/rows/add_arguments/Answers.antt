@@ -1,7 +1,7 @@
 use Rattle.std.proofs.Common.{◌≡◌, ◌<◌, ◌+◌, ◌∙◌, take, length, ap}
 use Rattle.std.proofs.lemmas.List.{take_more}
 use Rattle.cte_template.specs.Making.{making}
-use Rattle.cte_template.specs.Walks.{argument}
+use Rattle.cte_template.specs.Written.{argument}
 use Rattle.cte_template.proofs.CellRules.{one_more_argument, taken}
 use Rattle.cte_template.proofs.rows.add_arguments.Goals as goal
 

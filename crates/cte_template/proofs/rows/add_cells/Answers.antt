@@ -1,7 +1,7 @@
 use Rattle.std.proofs.Common.{ap, ◌≡◌, ◌<◌, ◌+◌, ◌∙◌, take, length}
 use Rattle.std.proofs.lemmas.List.{take_more}
 use Rattle.cte_template.specs.Places.{place_of}
-use Rattle.cte_template.specs.Walks.{cell}
+use Rattle.cte_template.specs.Written.{cell}
 use Rattle.cte_template.proofs.CellRules.{one_more_cell, taken}
 use Rattle.cte_template.proofs.rows.add_cells.Goals as goal
 

@@ -1,7 +1,7 @@
 use Rattle.std.proofs.Common.{◌≡◌, ◌++◌, map, take}
 use Rattle.sql_meaning.specs.Trees.{item}
 use Rattle.cte_template.specs.Places.{place_of}
-use Rattle.cte_template.specs.Walks.{cells_at}
+use Rattle.cte_template.specs.Written.{cells_at}
 use Rattle.cte_template.proofs.rows.add_cells.Given as goal
 
 abbrev pub invariant-loop-i : goal.invariant-loop-i

@@ -1,4 +1,4 @@
-use Rattle.std.proofs.Common.{◌≡◌, ap, ◌∙◌, length, IfOk}
+use Rattle.std.proofs.Common.{rules, ◌≡◌, ap, ◌∙◌, length, IfOk}
 use Rattle.block_forms.specs.Expressions.{expressions}
 use Rattle.call_forms.specs.Templated.{Templated}
 use Rattle.sql_meaning.specs.Names.{bare}
@@ -15,7 +15,10 @@ use Rattle.cte_template.proofs.template.template_tree.Goals as goal
 pub tree-requires : goal.tree-requires
 tree-requires c =
     let f = c.args.f.now in
-    record { classes = fails_fit f.function f.slots c.args.goto.now c.requires.lowered (length f.slots) (length f.function.params) c.args.ssa.now c.requires.named c.args.anf.now c.requires.called }
+    record {
+      classes = fails_fit f.function f.slots c.args.goto.now c.requires.lowered (length f.slots) (length f.function.params) c.args.ssa.now c.requires.named c.args.anf.now c.requires.called;
+      one = search rules;
+    }
 
 pub returns-clause-is : goal.returns-clause-is
 returns-clause-is c =

@@ -1,6 +1,6 @@
 use Rattle.std.proofs.Common.{◌≡◌, map, take}
 use Rattle.cte_template.specs.Places.{place_of}
-use Rattle.cte_template.specs.Walks.{column_at}
+use Rattle.cte_template.specs.Written.{column_at}
 use Rattle.cte_template.proofs.terms.columns_of.Given as goal
 
 abbrev pub invariant-loop-name : goal.invariant-loop-name

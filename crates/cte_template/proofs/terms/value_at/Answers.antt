@@ -8,7 +8,7 @@ use Rattle.sql_meaning.specs.Reads.{slots_of}
 use Rattle.cte_parts.specs.Columns.{column_beside}
 use Rattle.cte_template.specs.Making.{Making, making}
 use Rattle.cte_template.specs.Places.{place_of, seen}
-use Rattle.cte_template.specs.Walks as walks
+use Rattle.cte_template.specs.Written as walks
 use Rattle.cte_parts.proofs.Results.{ok_by}
 use Rattle.cte_template.proofs.ValueRules.{value_missing, value_some}
 use Rattle.cte_template.proofs.terms.value_at.Goals as goal

@@ -1,0 +1,2 @@
+mod SameMaps
+mod SameSelects

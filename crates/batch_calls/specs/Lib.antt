@@ -1,0 +1,3 @@
+pub mod CallTables
+pub mod Written
+pub mod Batches

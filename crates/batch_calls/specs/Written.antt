@@ -1,0 +1,22 @@
+-- That a text reads as a query whose tree is a given one.
+use Rattle.std.specs.Prelude.{◌≡◌, ℕ, List}
+use Rattle.away_grammar.specs.Texts.{ReadsQuery}
+use Rattle.away_trees.specs.declared.queries.Query.{Query}
+use Rattle.away_trees.specs.declared.schemas.Schema.{Schema}
+use Rattle.away_types.specs.CheckedQueries.{resolved_query}
+use Rattle.away_types.specs.CheckedRows.{rows_note}
+use Rattle.away_types.specs.Refusals.{IsUnbroken}
+use Rattle.sql_meaning.specs.Names.{bare}
+use Rattle.sql_text.specs.Refusals.{MayBeRead}
+
+-- The written query breaks no rule but perhaps the one on answers, and with its names resolved it
+-- is the tree, names of aliases and columns aside.
+pub record ResolvesTo (s : Schema) (tree written : Query) : Type 0 where
+  pub unbroken : IsUnbroken (rows_note s written)
+  pub is_tree : bare (resolved_query s written) ≡ bare tree
+
+-- The text reads as the written query, which is so.
+pub record ReadsAs (s : Schema) (tree : Query) (text : List ℕ) (written : Query) : Type 0 where
+  pub may_be_read : MayBeRead text
+  pub reads : ReadsQuery text written
+  pub resolves : ResolvesTo s tree written

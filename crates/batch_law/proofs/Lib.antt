@@ -1,0 +1,14 @@
+pub mod Joined
+pub mod Composed
+pub mod Finishing
+pub mod Alone
+pub mod FirstTerm
+pub mod Batches
+pub mod Counts
+pub mod Cases
+pub mod Whole
+pub mod CallTables
+pub mod FunctionAnswers
+pub mod Functions
+pub mod WorkedBatches
+pub mod WorkedAnswers
