@@ -4,25 +4,16 @@ import pathlib
 import sys
 import tempfile
 import time
-from dataclasses import dataclass
 
-from cases import rows_of, write_case
+from cases import write_case
 from connection import Fault, literal
 from known import KNOWN
+from loading import load
 
 TURNS = "1000000"
 SHORT_SECONDS = 0.5
 OVER_TIME = "over time"
 HEADINGS = ("arguments", "function", "ms", "query", "ms", "in sql", "ms", "differs")
-
-
-@dataclass
-class Loaded:
-    """What the server knows of a case's function."""
-
-    function: str
-    types: list  # of its parameters
-    result: str
 
 
 class Comparison:
@@ -59,32 +50,14 @@ class Comparison:
         return 1 if self.unmarked or self.unrun else 0
 
     def _load(self, case, query):
-        """Loads all that the case needs into an empty schema."""
-        run = self.connection.run
-        run("DEALLOCATE ALL; RESET statement_timeout; DROP SCHEMA IF EXISTS public CASCADE; CREATE SCHEMA public")
-        run(case.schema)
-        for table, text in case.tables.items():
-            self._fill(table, rows_of(text))
-        run("ANALYZE")
-        run(case.function)
-        function, result, types = run(
-            "SELECT proname, prorettype::regtype, array_to_string(proargtypes::regtype[], ',') FROM pg_proc"
-            " WHERE pronamespace = 'public'::regnamespace")[0]
-        loaded = Loaded(function, types.split(",") if types else [], result)
+        """Loads the case, and its query in both forms."""
+        loaded, run = load(self.connection, case), self.connection.run
         listed = ", ".join(loaded.types)
         run(f"PREPARE away_query{f'({listed})' if listed else ''} AS {query}")
-        run(f"CREATE FUNCTION public.away_in_sql({listed}) RETURNS TABLE (away_result {result}, away_fault text)"
+        run(f"CREATE FUNCTION public.away_in_sql({listed}) RETURNS TABLE (away_result {loaded.result}, away_fault text)"
             f" LANGUAGE sql AS $away${query}$away$")
         run(f"SET statement_timeout = '{self.seconds}s'")
         return loaded
-
-    def _fill(self, table, rows):
-        types = [row[0] for row in self.connection.run(
-            "SELECT atttypid::regtype FROM pg_attribute WHERE attnum > 0 AND attrelid = "
-            + literal("public." + table, "regclass") + " ORDER BY attnum")]
-        if rows:
-            written = ", ".join("(" + ", ".join(map(literal, row, types)) + ")" for row in rows)
-            self.connection.run(f"INSERT INTO public.{table} VALUES {written}")
 
     def _row(self, case, loaded, words, files):
         """The row of the table for one list of arguments."""
