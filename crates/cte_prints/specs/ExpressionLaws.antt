@@ -17,7 +17,7 @@ use Rattle.away_types.specs.declared.slots.Slot.{Slot}
 use Rattle.away_types.specs.CheckedFunctions.{IsChecked}
 use Rattle.sql_meaning.specs.Placed.{placed_at}
 use Rattle.sql_meaning.specs.Reads.{slots_of}
-use Rattle.block_forms.specs.Expressions.{sources, expressions}
+use Rattle.block_forms.specs.Expressions.{sources, whole_select, expressions}
 use Rattle.block_forms.specs.FixedList.{null_as}
 use Rattle.block_forms.specs.Places.{Each}
 use Rattle.qualified_names.specs.Trees.{qualified_expr}
@@ -47,9 +47,10 @@ EntriesAreDerivable IsRead =
     → SeesTables schema s → SightIsWritable s.levels → Each (λ k. IsOwn s.levels (ref k)) (slots_of (get_or (expressions f) i expr.Null))
     → Derivable 195 (at l.Or) (qualified_expr (placed_at t ref (get_or (expressions f) i expr.Null)) s.levels)
 
--- of a function whose source expressions are read from writable terminals
+-- of a function whose source expressions are read from writable terminals, the select of a SELECT
+-- INTO as one in brackets
 abbrev pub ExpressionsAreDerivable : Type 0
-ExpressionsAreDerivable = EntriesAreDerivable (λ (written : Function). Each (IsReadWithin most_nesting) (sources written.body))
+ExpressionsAreDerivable = EntriesAreDerivable (λ (written : Function). Each (IsReadWithin most_nesting) (sources whole_select written.body))
 
 -- of a function that a file reads as
 abbrev pub FileExpressionsAreDerivable : Type 0

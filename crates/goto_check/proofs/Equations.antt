@@ -41,12 +41,12 @@ unfolding laid
 laid_assign name slot e = refl
 
 pub laid_exit : (label : Label) (when : Option Expr) →
-    laid (stmt.Exit label when) ≡ record { size = place 1 (one_if when) 0 0; parts = λ s p around next. exit_parts s.goto s.numbers when p.expr (node s.goto p.node) (exit_to s.goto.finish around label) next }
+    laid (stmt.Exit label when) ≡ record { size = place 1 (one_if when) 0 0 0; parts = λ s p around next. exit_parts s.goto s.numbers when p.expr (node s.goto p.node) (exit_to s.goto.finish around label) next }
 unfolding laid
 laid_exit label when = refl
 
 pub laid_continue : (label : Label) (when : Option Expr) →
-    laid (stmt.Continue label when) ≡ record { size = place 1 (one_if when) 0 0; parts = λ s p around next. leave_parts s.goto s.numbers when p.expr (node s.goto p.node) (again_to s.goto.finish around label) next }
+    laid (stmt.Continue label when) ≡ record { size = place 1 (one_if when) 0 0 0; parts = λ s p around next. leave_parts s.goto s.numbers when p.expr (node s.goto p.node) (again_to s.goto.finish around label) next }
 unfolding laid
 laid_continue label when = refl
 
@@ -59,7 +59,7 @@ unfolding laid
 laid_raise r = refl
 
 pub laid_into : (strict : Bool) (targets : List (List ℕ × Option ℕ)) (query : Select) →
-    laid (stmt.Into strict targets query) ≡ record { size = place (1 + length targets) 0 0 0; parts = λ s p around next. never ∷ [] }
+    laid (stmt.Into strict targets query) ≡ record { size = into_size strict targets; parts = λ s p around next. into_parts s.goto s.numbers s.slots strict targets query p next }
 unfolding laid
 laid_into strict targets query = refl
 

@@ -155,19 +155,19 @@ module _ (s : Setting) where
   pub good_count : Found → (label closing : Label) (var : List ℕ) (reverse : Bool) (e1 e2 : Expr) (by : Option Expr) (xs : List Laid) (ys : List Built) → GoodRow s xs ys →
       Good s (laying.stmt (st.Loop label (kind.Count var reverse e1 e2 by) xs closing)) (built_step s.numbers s.slots s.goto.finish (st.Loop label (kind.Count var reverse e1 e2 by) ys closing))
   good_count found label closing var reverse e1 e2 by xs ys good = record {
-    size_same = ap (λ z. after (place 1 (2 + one_if by) 1 1) z) (row_size_same s xs ys good);
+    size_same = ap (λ z. after (place 1 (2 + one_if by) 1 1 0) z) (row_size_same s xs ys good);
     many_is = λ p around next start.
         let again = Head by start + 1 + 1 in
         let own_blocks = for_blocks s.numbers reverse e1 e2 by p (row_first ys (Head by start + 4) again) next start in
-        let inside = row_blocks ys (after p (place 1 (2 + one_if by) 1 1)) (record { label = label; exit = next; again = Some again } ∷ around) again (Head by start + 4) in
-        omega (arith, length-append own_blocks inside, for_length reverse e1 e2 by p (row_first ys (Head by start + 4) again) next start, row_many_is s xs ys good (after p (place 1 (2 + one_if by) 1 1)) (record { label = label; exit = next; again = Some again } ∷ around) again (Head by start + 4));
+        let inside = row_blocks ys (after p (place 1 (2 + one_if by) 1 1 0)) (record { label = label; exit = next; again = Some again } ∷ around) again (Head by start + 4) in
+        omega (arith, length-append own_blocks inside, for_length reverse e1 e2 by p (row_first ys (Head by start + 4) again) next start, row_many_is s xs ys good (after p (place 1 (2 + one_if by) 1 1 0)) (record { label = label; exit = next; again = Some again } ∷ around) again (Head by start + 4));
     nodes_are = λ start next. omega (arith, row_nodes_are s xs ys good (Head by start + 4) (Head by start + 1 + 1));
     vars_are = omega (arith, row_vars_are s xs ys good);
     first_is = λ start next. refl;
     stands = λ p around next start late bs ns vs.
         let again = Head by start + 1 + 1 in
         let begin = Head by start + 4 in
-        let q = after p (place 1 (2 + one_if by) 1 1) in
+        let q = after p (place 1 (2 + one_if by) 1 1 0) in
         let first = row_first ys begin again in
         let own_blocks = for_blocks s.numbers reverse e1 e2 by p first next start in
         let inside = row_blocks ys q (record { label = label; exit = next; again = Some again } ∷ around) again begin in

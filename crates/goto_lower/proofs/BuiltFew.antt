@@ -16,7 +16,7 @@ few_set : (strict : Bool) → set_many strict ≤ 3
 few_set false = omega arith
 few_set true = omega arith
 
-few_slot : (o : Option Slot) → slot_many o ≤ 3
+pub few_slot : (o : Option Slot) → slot_many o ≤ 3
 few_slot None = omega arith
 few_slot (Some s) = few_set s.not_null
 

@@ -32,7 +32,7 @@ use Rattle.goto_lower.proofs.BuiltSafe.{Every, every_of, each_of, Safe, Secure, 
 use Rattle.goto_lower.proofs.BuiltSizes.{Counted, counted}
 use Rattle.goto_lower.proofs.BuiltTrees.{good}
 use Rattle.goto_lower.proofs.BuiltVars.{vars_same}
-use Rattle.goto_lower.proofs.BuiltWhole.{no_into, params_length}
+use Rattle.goto_lower.proofs.BuiltWhole.{params_length}
 use Rattle.goto_lower.proofs.NodesCounted.{nodes_counted}
 use Rattle.goto_lower.proofs.ReadsOwn.{every_from, slots_below}
 

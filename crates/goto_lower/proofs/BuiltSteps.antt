@@ -88,7 +88,7 @@ module _ (s : Setting) where
         (λ i. b ∷ j i ∷ last i ∷ []),
       )
 
-  slot_stands : (o : Option Slot) (b slot : ℕ) (e : Term) (next : ℕ) → Seg s.goto.blocks b (slot_blocks s.numbers o slot e next b) → Fine s.goto.blocks b (slot_many o) (slot_parts s.goto s.numbers o b slot e next)
+  pub slot_stands : (o : Option Slot) (b slot : ℕ) (e : Term) (next : ℕ) → Seg s.goto.blocks b (slot_blocks s.numbers o slot e next b) → Fine s.goto.blocks b (slot_many o) (slot_parts s.goto s.numbers o b slot e next)
   slot_stands None b slot e next bs = set_stands false ty.Bigint b slot e next bs
   slot_stands (Some x) b slot e next bs = set_stands x.not_null x.ty b slot e next bs
 
@@ -96,7 +96,7 @@ module _ (s : Setting) where
   set_length false t slot e next start = refl
   set_length true t slot e next start = refl
 
-  slot_length : (o : Option Slot) (slot : ℕ) (e : Term) (next start : ℕ) → length (slot_blocks s.numbers o slot e next start) ≡ slot_many o
+  pub slot_length : (o : Option Slot) (slot : ℕ) (e : Term) (next start : ℕ) → length (slot_blocks s.numbers o slot e next start) ≡ slot_many o
   slot_length None slot e next start = refl
   slot_length (Some x) slot e next start = set_length x.not_null x.ty slot e next start
 

@@ -8,6 +8,7 @@ pub mod BuiltBranches
 pub mod BuiltCounts
 pub mod BuiltFew
 pub mod BuiltVars
+pub mod BuiltInto
 pub mod BuiltTrees
 pub mod BuiltWhole
 pub mod Raising

@@ -14,7 +14,7 @@ use Rattle.block_forms.specs.Around.{Around}
 use Rattle.block_forms.specs.Laid.{with_expr, a_node, nothing}
 use Rattle.block_forms.specs.Patterns.{source_term, branches}
 use Rattle.goto_lower.specs.declared.draft.Draft.{Draft}
-use Rattle.goto_lower.specs.Building.{Built, BuiltArm, building, built_of, built_arm, first_from, row_many, row_first, arms_first, arms_many, set_many, simple, assigned, unbuilt, branched}
+use Rattle.goto_lower.specs.Building.{Built, BuiltArm, building, built_of, built_arm, first_from, row_many, row_first, arms_first, arms_many, set_many, simple, assigned, branched}
 use Rattle.goto_lower.specs.Drafts.{extended, pushed, begun, emitted, emitted_row, emitted_arms, set_by, tested, declared, all_declared}
 use Rattle.goto_lower.proofs.BuildingEquations.{rows, arms_of, arm_test, arm_body}
 use Rattle.goto_lower.proofs.BuiltSizes.{Counted, AllCounted, ArmsCounted, row_from, arms_left, decls_left, counted, rows_counted}
@@ -43,10 +43,6 @@ simple_is size make around next d = refl
 pub set_is : (n : Numbers) (s : Option Slot) (slot : ℕ) (e : Expr) (around : Around) (next : ℕ) (d : Draft) → set_by n s slot e next d ≡ emitted (assigned n s slot e) around next d
 unfolding extended begun emitted
 set_is n s slot e around next d = refl
-
-pub unbuilt_is : (around : Around) (next : ℕ) (d : Draft) → d ≡ emitted unbuilt around next d
-unfolding emitted
-unbuilt_is around next d = λ i. record { nodes = sym (append-nil d.nodes) i; blocks = sym (append-nil d.blocks) i; place = sym (after_nothing d.place) i }
 
 module _ (n : Numbers) (slots : List Slot) (k : ℕ) where
   pub one_counted : (x : Stmt) → Counted (built_of n slots k x)

@@ -34,7 +34,7 @@ params_long S strict result k [] start body = refl
 params_long S false result k (p ∷ ps) start body = params_long S false result (k + 1) ps start body
 params_long S true result k (p ∷ ps) start body = omega (arith, params_long S true result (k + 1) ps (start + 2) body)
 
-one_more : (p : Position) (m : ℕ) → after (after p (place 1 0 1 0)) (place m 0 m 0) ≡ after p (place (suc m) 0 (suc m) 0)
+one_more : (p : Position) (m : ℕ) → after (after p (place 1 0 1 0 0)) (place m 0 m 0 0) ≡ after p (place (suc m) 0 (suc m) 0 0)
 one_more p m = same_place _ _ _ _ _ _ _ _ (omega arith) (omega arith) (omega arith) (omega arith)
 
 -- ---- parameters
@@ -48,7 +48,7 @@ unfolding begun_params
 no_params n strict result body d = λ i. record { nodes = append-nil d.nodes i; blocks = append-nil d.blocks i; place = after_nothing d.place i }
 
 plain_more : (n : Numbers) (result : Ty) (body : ℕ) (rest : Params) (x : List ℕ × Ty) (d : Draft) →
-    begun_params n false result rest body (begun (place 1 0 1 0) body d) ≡ begun_params n false result (x ∷ rest) body d
+    begun_params n false result rest body (begun (place 1 0 1 0 0) body d) ≡ begun_params n false result (x ∷ rest) body d
 unfolding begun_params begun
 plain_more n result body rest x d = λ i. record {
   nodes = (append_assoc d.nodes (body ∷ []) (param_firsts false rest (Many d) body) ∙ ap (λ k. d.nodes ++ (k ∷ param_firsts false rest (Many d) body)) (sym (params_body rest (Many d) body))) i;
@@ -57,7 +57,7 @@ plain_more n result body rest x d = λ i. record {
 }
 
 strict_more : (n : Numbers) (result : Ty) (body : ℕ) (rest : Params) (x : List ℕ × Ty) (d : Draft) →
-    begun_params n true result rest body (pushed (returns (null_of n.fixed result)) (pushed (branches false (is_null n.fixed x.1 d.place.slot) (Many d + 1) (param_first true rest (Many d + 2) body)) (begun (place 1 0 1 0) (Many d) d)))
+    begun_params n true result rest body (pushed (returns (null_of n.fixed result)) (pushed (branches false (is_null n.fixed x.1 d.place.slot) (Many d + 1) (param_first true rest (Many d + 2) body)) (begun (place 1 0 1 0 0) (Many d) d)))
     ≡ begun_params n true result (x ∷ rest) body d
 unfolding begun_params begun extended
 strict_more n result body rest x d =
@@ -75,19 +75,19 @@ strict_more n result body rest x d =
     ∙ (λ i. record {
       nodes = append_assoc d.nodes (Many d ∷ []) (param_firsts true rest (Many d + 2) body) i;
       blocks = joined i;
-      place = after d.place (place (suc (length rest)) 0 (suc (length rest)) 0);
+      place = after d.place (place (suc (length rest)) 0 (suc (length rest)) 0 0);
     })
 
 module _ (n : Numbers) (result : Ty) (body : ℕ) where
   pub params_end : (strict : Bool) (ps : Params) (d e : Draft) → ps ≡ [] → begun_params n strict result ps body d ≡ e → d ≡ e
   params_end strict ps d e none kept = sym (no_params n strict result body d) ∙ ap (λ qs. begun_params n strict result qs body d) (sym none) ∙ kept
 
-  pub plain_param : (strict : Bool) (ps rest : Params) (x : List ℕ × Ty) (d d' e : Draft) → strict ≡ false → ps ≡ x ∷ rest → d' ≡ begun (place 1 0 1 0) body d → begun_params n strict result ps body d ≡ e → begun_params n strict result rest body d' ≡ e
+  pub plain_param : (strict : Bool) (ps rest : Params) (x : List ℕ × Ty) (d d' e : Draft) → strict ≡ false → ps ≡ x ∷ rest → d' ≡ begun (place 1 0 1 0 0) body d → begun_params n strict result ps body d ≡ e → begun_params n strict result rest body d' ≡ e
   plain_param strict ps rest x d d' e off split made kept =
       (λ i. begun_params n (off i) result rest body (made i)) ∙ plain_more n result body rest x d ∙ (λ i. begun_params n (sym off i) result (sym split i) body d) ∙ kept
 
   pub strict_param : (strict : Bool) (ps rest : Params) (x : List ℕ × Ty) (next one : ℕ) (d d1 d2 d3 e : Draft) → strict ≡ true → ps ≡ x ∷ rest → next ≡ first_from (length rest) (Many d + 2) body → one ≡ Many d + 1 →
-      d1 ≡ begun (place 1 0 1 0) (Many d) d → d2 ≡ pushed (branches false (is_null n.fixed x.1 d.place.slot) one next) d1 → d3 ≡ pushed (returns (null_of n.fixed result)) d2 →
+      d1 ≡ begun (place 1 0 1 0 0) (Many d) d → d2 ≡ pushed (branches false (is_null n.fixed x.1 d.place.slot) one next) d1 → d3 ≡ pushed (returns (null_of n.fixed result)) d2 →
       begun_params n strict result ps body d ≡ e → begun_params n strict result rest body d3 ≡ e
   strict_param strict ps rest x next one d d1 d2 d3 e on split next_is one_is e1 e2 e3 kept =
       (λ i. begun_params n (on i) result rest body ((e3 ∙ ap (pushed (returns (null_of n.fixed result))) (e2 ∙ (λ j. pushed (branches false (is_null n.fixed x.1 d.place.slot) (one_is j) ((next_is ∙ sym (params_left rest (Many d + 2) body)) j)) (e1 j)))) i))
