@@ -7,15 +7,10 @@
 use Rattle.std.specs.Prelude.{
   ◌≡◌,
   ℕ,
-  ◌+◌,
-  ◌==◌,
-  nat_lt,
   Bool,
   true,
   false,
   not,
-  ◌&&◌,
-  if◌then◌else◌,
   List,
   [],
   ◌∷◌,
@@ -23,7 +18,6 @@ use Rattle.std.specs.Prelude.{
   Some,
   None,
   codes,
-  bytes_eq,
 }
 use Rattle.std.specs.List.{list_any}
 use Rattle.away_grammar.specs.declared.grammar.Mark.{Mark}
@@ -33,6 +27,11 @@ use Rattle.away_grammar.specs.declared.grammar.Attribute.{Attribute}
 use Rattle.away_grammar.specs.declared.grammar.Attribute.TheVariants as attribute
 use Rattle.away_values.specs.declared.types.Ty.{Ty}
 use Rattle.away_trees.specs.declared.queries.Expr.{Expr}
+use Rattle.away_trees.specs.declared.queries.Expr.TheViews.{roll-Select}
+use Rattle.away_trees.specs.declared.queries.FromItem.{FromItem}
+use Rattle.away_trees.specs.declared.queries.Item.{Item}
+use Rattle.away_trees.specs.declared.queries.Key.{Key}
+use Rattle.away_trees.specs.declared.queries.Select.{Select}
 use Rattle.away_trees.specs.declared.statements.Decl.{Decl}
 use Rattle.away_trees.specs.declared.statements.Arm.{Arm}
 use Rattle.away_trees.specs.declared.statements.LoopKind.{LoopKind}
@@ -50,9 +49,35 @@ use Rattle.away_grammar.specs.Terminals.{
   quote,
   token_terminals,
 }
-use Rattle.away_grammar.specs.Grammar.{at, Reads, perhaps, schema_qualified, not_null, type_named}
+use Rattle.away_grammar.specs.Grammar.{
+  at,
+  items,
+  from_clause,
+  where_clause,
+  order_clause,
+  limit_clause,
+  Reads,
+  perhaps,
+  schema_qualified,
+  not_null,
+  type_named,
+}
 use Rattle.away_grammar.specs.Tokens.{Lexeme}
 use Rattle.away_grammar.specs.FunctionFile.{LexesFile}
+pub use Rattle.away_grammar.specs.Attributes.{
+  times,
+  is_language,
+  is_body,
+  is_volatility,
+  is_null_input,
+  is_leakproof,
+  is_parallel,
+  is_cost,
+  may_stand,
+  makes_strict,
+  one_word,
+  may_run,
+}
 
 -- ---- what may be written
 
@@ -106,59 +131,9 @@ loop_opens (_ ∷ ts) behind = loop_opens ts false
 abbrev pub opens_loop : List Terminal → Bool
 opens_loop ts = loop_opens ts false
 
--- ---- conditions on attributes
-
-abbrev pub times : (Attribute → Bool) → List Attribute → ℕ
-times of_group [] = 0
-times of_group (a ∷ more) = if of_group a then 1 + times of_group more else times of_group more
-
-abbrev pub is_language : Attribute → Bool
-is_language attribute.Language = true
-is_language _ = false
-
-abbrev pub is_body : Attribute → Bool
-is_body attribute.Body = true
-is_body _ = false
-
-abbrev pub is_volatility : Attribute → Bool
-is_volatility attribute.Volatility = true
-is_volatility _ = false
-
-abbrev pub is_null_input : Attribute → Bool
-is_null_input (attribute.NullInput strict) = true
-is_null_input _ = false
-
-abbrev pub is_leakproof : Attribute → Bool
-is_leakproof attribute.Leakproof = true
-is_leakproof _ = false
-
-abbrev pub is_parallel : Attribute → Bool
-is_parallel attribute.Parallel = true
-is_parallel _ = false
-
-abbrev pub is_cost : Attribute → Bool
-is_cost attribute.Cost = true
-is_cost _ = false
-
--- LANGUAGE and AS stand once each, and no group stands twice.
-abbrev pub may_stand : List Attribute → Bool
-may_stand found =
-    times is_language found == 1 && times is_body found == 1 && nat_lt (times is_volatility found) 2 && nat_lt (times is_null_input found) 2
-    && nat_lt (times is_leakproof found) 2 && nat_lt (times is_parallel found) 2 && nat_lt (times is_cost found) 2
-
-abbrev pub makes_strict : Attribute → Bool
-makes_strict (attribute.NullInput strict) = strict
-makes_strict _ = false
-
--- the attributes of one word
-abbrev pub one_word : List ℕ → Option Attribute
-one_word z =
-    if list_any (bytes_eq z) (codes "immutable" ∷ codes "stable" ∷ codes "volatile" ∷ []) then Some attribute.Volatility
-    else (if bytes_eq z (codes "leakproof") then Some attribute.Leakproof else None)
-
--- what may stand behind PARALLEL
-abbrev pub may_run : List ℕ → Bool
-may_run z = list_any (bytes_eq z) (codes "safe" ∷ codes "restricted" ∷ codes "unsafe" ∷ [])
+-- a target of INTO, which has no slot before names are resolved
+abbrev pub Target : Type 0
+Target = List ℕ × Option ℕ
 
 -- ---- the grammar
 
@@ -177,6 +152,11 @@ pub data Part : Type 0 where
   otherwise : Part
   -- WHEN and a condition
   condition : Part
+  targets : Part
+  -- what stands behind INTO: whether it is STRICT, and its targets
+  into : Part
+  -- what stands behind a list and the INTO with it: the other clauses of the select
+  clauses : List Item → Part
   -- a block behind its label
   block : Option (List ℕ) → Part
   -- a loop behind its label
@@ -207,6 +187,9 @@ PartTree elsifs = List Arm
 PartTree whens = List Arm
 PartTree otherwise = Option (List Stmt)
 PartTree condition = Option Expr
+PartTree targets = List Target
+PartTree into = Bool × List Target
+PartTree (clauses list) = Select
 PartTree (block label) = Stmt
 PartTree (repeated label) = Stmt
 PartTree kind = LoopKind
@@ -303,6 +286,34 @@ pub data ReadsPart : (p : Part) → List Terminal → PartTree p → List Termin
   raise_state : {rest : List Terminal} {z : List ℕ} (w : Bool)
       → ReadsPart statement (mark m.Raise ∷ perhaps w (name (codes "exception")) (name (codes "sqlstate") ∷ string z ∷ mark m.Semicolon ∷ rest))
       (s.Raise (r.State z)) rest
+  -- name {, name}, up to the first token that is no comma
+  last_target : {rest : List Terminal} {n : List ℕ}
+      → ReadsPart targets (name n ∷ rest) ((n, None) ∷ []) rest
+  another_target : {middle rest : List Terminal} {n : List ℕ} {ns : List Target}
+      → ReadsPart targets middle ns rest
+      → ReadsPart targets (name n ∷ mark m.Comma ∷ middle) ((n, None) ∷ ns) rest
+  -- [STRICT] name {, name}
+  into_of : {ts rest : List Terminal} {ns : List Target} (w : Bool) → ReadsPart targets ts ns rest
+      → ReadsPart into (perhaps w (mark m.Strict) ts) (w, ns) rest
+  -- [FROM from {, from}] [WHERE expr] [ORDER BY key {, key}] [LIMIT expr]
+  clauses_of : {ts after middle before rest : List Terminal} {xs : List Item}
+      {fs : List FromItem} {w : Option Expr} {ks : List Key} {n : Option Expr}
+      → Reads from_clause ts fs after → Reads where_clause after w middle
+      → Reads order_clause middle ks before → Reads limit_clause before n rest
+      → ReadsPart (clauses xs) ts
+      (roll-Select (record { list = xs; from = fs; filter = w; order = ks; limit = n })) rest
+  -- SELECT INTO [STRICT] name {, name} item {, item} clauses ;
+  select_into : {ts after middle rest : List Terminal} {w : Bool} {ns : List Target}
+      {xs : List Item} {q : Select}
+      → ReadsPart into ts (w, ns) after → Reads items after xs middle
+      → ReadsPart (clauses xs) middle q (mark m.Semicolon ∷ rest)
+      → ReadsPart statement (mark m.Select ∷ mark m.Into ∷ ts) (s.Into w ns q) rest
+  -- SELECT item {, item} INTO [STRICT] name {, name} clauses ;
+  list_into : {ts after middle rest : List Terminal} {w : Bool} {ns : List Target}
+      {xs : List Item} {q : Select}
+      → Reads items ts xs (mark m.Into ∷ after) → ReadsPart into after (w, ns) middle
+      → ReadsPart (clauses xs) middle q (mark m.Semicolon ∷ rest)
+      → ReadsPart statement (mark m.Select ∷ ts) (s.Into w ns q) rest
   -- {stmt}
   no_statement : {ts : List Terminal} → ReadsPart statements ts [] ts
   another_statement : {ts middle rest : List Terminal} {x : Stmt} {xs : List Stmt}

@@ -8,6 +8,7 @@ pub mod FunctionFile
 pub mod Terminals
 pub mod Grammar
 pub mod Printing
+pub mod Attributes
 pub mod FunctionGrammar
 pub mod OutsideWords
 pub mod Texts

@@ -27,7 +27,7 @@ outside_words =
     ∷ codes "delete" ∷ codes "diagnostics" ∷ codes "distinct" ∷ codes "execute" ∷ codes "fetch"
     ∷ codes "foreach" ∷ codes "full" ∷ codes "get" ∷ codes "group"
     ∷ codes "having" ∷ codes "ilike" ∷ codes "info" ∷ codes "inout" ∷ codes "insert" ∷ codes "int" ∷ codes "int4"
-    ∷ codes "integer" ∷ codes "intersect" ∷ codes "into"
+    ∷ codes "integer" ∷ codes "intersect"
     ∷ codes "join" ∷ codes "left" ∷ codes "like" ∷ codes "log" ∷ codes "merge" ∷ codes "move"
     ∷ codes "next" ∷ codes "notice" ∷ codes "numeric" ∷ codes "open"
     ∷ codes "out" ∷ codes "over" ∷ codes "perform" ∷ codes "query" ∷ codes "record" ∷ codes "right" ∷ codes "rollback"

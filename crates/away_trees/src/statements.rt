@@ -69,7 +69,7 @@ pub enum Stmt {
     Continue(Option<Name>, Option<Expr>),
     Return(Expr),
     Raise(Raised),
-    /// SELECT INTO; no reader makes it yet.
+    /// SELECT INTO: whether it is STRICT, its targets with their slots once names are resolved, and its select.
     Into {
         strict: bool,
         targets: Items<(Name, Option<u32>)>,

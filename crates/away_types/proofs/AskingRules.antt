@@ -1,5 +1,5 @@
 -- What a statement asks of types, by its parts.
-use Rattle.std.proofs.Common.{◌≡◌, refl, ap, ◌∙◌, ℕ, Bool, true, List, map, length, Option, Some, None, option_map}
+use Rattle.std.proofs.Common.{◌≡◌, refl, ap, ◌∙◌, ℕ, Bool, List, map, length, Option, Some, None, option_map}
 use Rattle.away_values.specs.declared.types.Ty.TheVariants.{Boolean}
 use Rattle.away_trees.specs.declared.queries.Expr.{Expr}
 use Rattle.away_trees.specs.declared.queries.Select.{Select}
@@ -11,8 +11,7 @@ use Rattle.away_trees.specs.declared.statements.Stmt.{Stmt}
 use Rattle.away_trees.specs.declared.statements.Stmt.TheVariants as stmt
 use Rattle.away_trees.specs.StatementAlgebra.{stmt_of, branch_of}
 use Rattle.away_trees.proofs.StatementEquations as e
-use Rattle.away_names.specs.declared.rule.Rule.TheVariants as rule
-use Rattle.away_names.specs.Notes.{breaks, clean}
+use Rattle.away_names.specs.Notes.{clean}
 use Rattle.away_names.specs.Lookups.{Name}
 use Rattle.away_names.proofs.NamingRules.{fold_map}
 use Rattle.away_types.specs.Findings.{own, own_with, followed, branched}
@@ -69,7 +68,7 @@ pub raise_asks : (a : Asked) (r : Raised) → asked_stmt a (stmt.Raise r) ≡ ow
 unfolding asked_stmt
 raise_asks a r = refl
 
-pub into_asks : (a : Asked) (strict : Bool) (targets : List (Name × Option ℕ)) (query : Select) → asked_stmt a (stmt.Into strict targets query) ≡ own_with (length targets) (breaks rule.Types true)
+pub into_asks : (a : Asked) (strict : Bool) (targets : List (Name × Option ℕ)) (query : Select) → asked_stmt a (stmt.Into strict targets query) ≡ own_with (length targets) (t.asked_of_targets a targets query)
 unfolding asked_stmt
 into_asks a strict targets query = refl
 

@@ -98,7 +98,7 @@ unfolding resolved_stmt
 raise_rule raised spot slots = refl
 
 pub into_rule : (strict : Bool) (targets : List (Name × Option ℕ)) (query : Select) (spot : Spot) (slots : Slots) →
-    resolved_stmt spot slots (stmt.Into strict targets query) ≡ n.into_with strict targets query slots
+    resolved_stmt spot slots (stmt.Into strict targets query) ≡ n.into_with spot strict targets query slots
 unfolding resolved_stmt
 into_rule strict targets query spot slots = refl
 

@@ -30,7 +30,8 @@ with_param s p = record { slots = with_slot p.1 false s.slots; variables = with_
 
 -- the parameters have the first slots
 abbrev pub start : List (Name × Ty) → Start
-start params = fold with_param (record { slots = record { shown = []; hidden = [] }; variables = [] }) params
+start params = fold with_param
+    (record { slots = record { shown = []; hidden = []; picked = [] }; variables = [] }) params
 
 -- what a function's statements see: its parameters and the tables
 abbrev pub entry : Schema → List (Name × Ty) → Spot
@@ -40,7 +41,7 @@ abbrev pub body_of : Schema → Function → Resolved Stmt
 body_of s f = resolved_stmt (entry s f.params) (start f.params).slots f.body
 
 abbrev pub in_order : Slots → List Slot
-in_order slots = slots.shown ++ slots.hidden
+in_order slots = slots.shown ++ (slots.hidden ++ slots.picked)
 
 -- parameters, declarations and FOR variables, and behind them what is hidden
 abbrev pub slots_of : Schema → Function → List Slot

@@ -40,6 +40,10 @@ takes_twice params = has_double (map (λ p. p.0) params)
 abbrev pub declares_twice : List Decl → Bool
 declares_twice decls = has_double (map (λ (d : Decl). d.name) decls)
 
+-- two targets of one INTO have one name
+abbrev pub sets_twice : List (Name × Option ℕ) → Bool
+sets_twice targets = has_double (map (λ t. t.0) targets)
+
 -- ---- Labels (X10)
 
 abbrev pub has_label : Name → Around → Bool

@@ -1,9 +1,27 @@
 -- The types that a function's statements ask of their expressions, and that no aggregate stands in
 -- these.
-use Rattle.std.specs.Prelude.{ℕ, true, not, ◌||◌, List, fold, length, Option, Some, None, slice_get}
+use Rattle.std.specs.Prelude.{
+  ℕ,
+  Bool,
+  true,
+  false,
+  not,
+  ◌&&◌,
+  ◌||◌,
+  List,
+  [],
+  ◌∷◌,
+  fold,
+  length,
+  Option,
+  Some,
+  None,
+  slice_get,
+}
 use Rattle.away_values.specs.declared.types.Ty.{Ty}
 use Rattle.away_values.specs.declared.types.Ty.TheVariants.{Bigint, Boolean}
 use Rattle.away_trees.specs.declared.queries.Expr.{Expr}
+use Rattle.away_trees.specs.declared.queries.Select.{Select}
 use Rattle.away_trees.specs.declared.statements.Arm.{Arm}
 use Rattle.away_trees.specs.declared.statements.Decl.{Decl}
 use Rattle.away_trees.specs.declared.statements.LoopKind.{LoopKind}
@@ -15,11 +33,13 @@ use Rattle.away_trees.specs.StatementAlgebra.{StatementAlgebra, stmt_of, branch_
 use Rattle.away_trees.specs.StatementEquations.{statement_algebra}
 use Rattle.away_names.specs.declared.rule.Rule.TheVariants as rule
 use Rattle.away_names.specs.declared.note.Note.{Note}
+use Rattle.away_names.specs.Lookups.{Name}
 use Rattle.away_names.specs.Notes.{clean, joined, breaks, all_notes}
+use Rattle.away_typing.specs.declared.kind.Kind.{Kind}
 use Rattle.away_typing.specs.Kinds.{fits}
 use Rattle.away_typing.specs.Aggregates.{outside}
 use Rattle.away_typing.specs.Typing.{Places}
-use Rattle.away_typing.specs.Trees.{kind_of, uses_of}
+use Rattle.away_typing.specs.Trees.{kind_of, uses_of, uses_of_select, kinds_of_select}
 use Rattle.away_types.specs.declared.finding.Report.{Report}
 use Rattle.away_types.specs.Findings.{own, own_with, nothing, followed, branched}
 
@@ -43,6 +63,32 @@ asked_of_slot a (Some ty) e = asked a ty e
 abbrev pub slot_of : Asked → Option ℕ → Option Ty
 slot_of a None = None
 slot_of a (Some i) = slice_get a.places.slots i
+
+-- ---- SELECT INTO
+
+unfoldable pub takes : Option Ty → Kind → Bool
+takes None k = false
+takes (Some ty) k = fits ty k
+
+-- the variable of each target takes the item at its place
+abbrev pub all_taken : Asked → List (Name × Option ℕ) → List Kind → Bool
+all_taken a [] [] = true
+all_taken a (t ∷ ts) (k ∷ ks) = takes (slot_of a t.1) k && all_taken a ts ks
+all_taken a _ _ = false
+
+-- there is a target, and one for each item
+unfoldable pub takes_list : Asked → List (Name × Option ℕ) → Option (List Kind) → Bool
+takes_list a [] kinds = false
+takes_list a (t ∷ ts) None = false
+takes_list a (t ∷ ts) (Some ks) = all_taken a (t ∷ ts) ks
+
+unfoldable pub asked_of_targets : Asked → List (Name × Option ℕ) → Select → Note
+asked_of_targets a targets query = joined
+    (breaks rule.Types (not (takes_list a targets (kinds_of_select query a.places)) ||
+    (uses_of_select query).limited))
+    (breaks rule.Aggregates (uses_of_select query).misused)
+
+-- ---- statements
 
 abbrev pub By : Type 0
 By = Asked → Report
@@ -73,7 +119,8 @@ statement (st.Exit label when) a = own 1 (maybe_asked a Boolean when)
 statement (st.Continue label when) a = own 1 (maybe_asked a Boolean when)
 statement (st.Return e) a = own 1 (asked a a.result e)
 statement (st.Raise r) a = own 1 clean
-statement (st.Into strict targets query) a = own_with (length targets) (breaks rule.Types true)
+statement (st.Into strict targets query) a =
+    own_with (length targets) (asked_of_targets a targets query)
 statement st.Nothing a = own 1 clean
 
 abbrev pub arm : Arm-F By By → By

@@ -10,11 +10,14 @@ use Rattle.std.specs.Prelude.{
   [],
   ◌∷◌,
   ◌++◌,
+  map,
   fold,
   length,
+  slice_get,
   Option,
   Some,
   None,
+  option_and_then,
 }
 use Rattle.away_values.specs.declared.types.Ty.{Ty}
 use Rattle.away_values.specs.declared.types.Ty.TheVariants.{Bigint}
@@ -41,13 +44,14 @@ use Rattle.away_types.specs.declared.around.Around.{Around}
 use Rattle.away_types.specs.declared.resolved.Resolved.{Resolved}
 use Rattle.away_types.specs.declared.resolved.Declared.{Declared}
 use Rattle.away_types.specs.declared.resolved.Headed.{Headed}
-use Rattle.away_names.specs.Notes.{clean, joined, breaks, held}
+use Rattle.away_names.specs.Notes.{clean, joined, breaks, noted, also, each, held}
 use Rattle.away_names.specs.Lookups.{Name, Scope, variable_named}
 use Rattle.away_names.specs.Naming.{written, maybe_written}
-use Rattle.away_names.specs.Trees.{named_expr}
+use Rattle.away_names.specs.Trees.{named_expr, named_select}
 use Rattle.away_types.specs.Findings.{own, own_with, nothing, followed, branched as branch_reports}
 use Rattle.away_types.specs.StatementRules.{
   declares_twice,
+  sets_twice,
   may_exit,
   may_continue,
   closes,
@@ -93,6 +97,23 @@ unfoldable pub with_hidden : Slots → Slots
 with_hidden slots =
     let one : Slot = record { ty = Bigint; not_null = false } in
     record slots { hidden = slots.hidden ++ one ∷ one ∷ one ∷ [] }
+
+-- The type of the variable of a target. Where the target is none, which breaks a rule, it's bigint.
+abbrev pub type_or_bigint : Option Slot → Ty
+type_or_bigint None = Bigint
+type_or_bigint (Some x) = x.ty
+
+abbrev pub picked_for : List Slot → Option ℕ → Slot
+picked_for shown slot = record {
+  ty = type_or_bigint (option_and_then (λ i. slice_get shown i) slot);
+  not_null = false;
+}
+
+-- one for each target of an INTO, of the type of its variable
+unfoldable pub with_targets : List (Name × Option ℕ) → Slots → Slots
+with_targets targets slots = record slots {
+  picked = slots.picked ++ map (λ t. picked_for slots.shown t.1) targets;
+}
 
 -- a default sees the declarations before it
 abbrev pub declared : Decl → Scope → Noted Decl
@@ -201,13 +222,28 @@ assign_with spot name e slots =
 abbrev pub raise_with : Raised → Slots → Resolved Stmt
 raise_with r slots = record { it = stmt.Raise r; note = own 1 (breaks rule.Raises (not (may_raise r))); slots = slots }
 
--- no reader gives INTO yet, and it has no type
-abbrev pub into_with : Bool → List (Name × Option ℕ) → Select → Slots → Resolved Stmt
-into_with strict targets query slots = record {
-  it = stmt.Into strict targets query;
-  note = own_with (length targets) (breaks rule.Types true);
-  slots = slots;
-}
+-- a target is no reference: it's a variable, whatever columns are in sight
+unfoldable pub target_by : Name → Option Variable → Noted (Name × Option ℕ)
+target_by name None = noted (breaks rule.Names true) (name, None)
+target_by name (Some v) = noted (breaks rule.Constants v.constant) (name, Some v.slot)
+
+abbrev pub target : Scope → Name → Noted (Name × Option ℕ)
+target scope name =
+    also (written scope name) (target_by name (variable_named name scope.variables))
+
+abbrev pub targeted : Scope → List (Name × Option ℕ) → Noted (List (Name × Option ℕ))
+targeted scope targets = each (λ t. target scope t.0) targets
+
+abbrev pub into_with : Spot → Bool → List (Name × Option ℕ) → Select → Slots → Resolved Stmt
+into_with spot strict targets query slots =
+    let ts = targeted spot.scope targets in
+    let q = named_select query spot.scope in
+    record {
+      it = stmt.Into strict ts.it q.it.it;
+      note = own_with (length targets)
+          (joined (breaks rule.Duplicates (sets_twice targets)) (joined ts.note q.note));
+      slots = with_targets ts.it slots;
+    }
 
 abbrev pub statement : Stmt-F (By Stmt) (By Arm) → By Stmt
 statement (st.Block label decls body closing) spot slots =
@@ -223,7 +259,7 @@ statement (st.Exit label when) spot slots = jump (λ label when. stmt.Exit label
 statement (st.Continue label when) spot slots = jump (λ label when. stmt.Continue label when) may_continue label when spot slots
 statement (st.Return e) spot slots = let x = named_expr e spot.scope in record { it = stmt.Return x.it; note = own 1 x.note; slots = slots }
 statement (st.Raise r) spot slots = raise_with r slots
-statement (st.Into strict targets query) spot slots = into_with strict targets query slots
+statement (st.Into strict targets query) spot slots = into_with spot strict targets query slots
 statement st.Nothing spot slots = record { it = stmt.Nothing; note = own 1 clean; slots = slots }
 
 abbrev pub arm : Arm-F (By Stmt) (By Arm) → By Arm

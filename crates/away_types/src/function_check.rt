@@ -87,8 +87,13 @@ fn with_all(first: Items<Slot>, more: &[Slot]) -> Result<Items<Slot>, NoMemory>
 fn in_order(slots: Slots) -> Result<Items<Slot>, NoMemory>
     ensures { IfOk result (λ all. all ≡ spec.in_order slots) }
 {
-    let Slots { shown, hidden } = slots;
-    with_all(shown, hidden.as_slice())
+    let Slots {
+        shown,
+        hidden,
+        picked,
+    } = slots;
+    let rest = with_all(hidden, picked.as_slice())?;
+    with_all(shown, rest.as_slice())
 }
 
 fn slot_types(alloc: Global, slots: &[Slot]) -> Result<Items<Ty>, NoMemory>

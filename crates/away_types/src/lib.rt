@@ -10,6 +10,7 @@ mod checked_schema;
 mod declarations;
 mod finding;
 mod function_check;
+mod into;
 mod labels;
 mod laws;
 mod parameters;

@@ -30,6 +30,7 @@ pub fn started(alloc: Global, params: &[(Name, Ty)]) -> Result<Start, NoMemory>
     let mut slots = Slots {
         shown: Items::new(alloc),
         hidden: Items::new(alloc),
+        picked: Items::new(alloc),
     };
     let mut variables = Items::new(alloc);
     for p in params {

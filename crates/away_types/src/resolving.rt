@@ -8,10 +8,11 @@ ghost use Rattle.away_types.specs.Statements as spec;
 use crate::around::Spot;
 use crate::declarations::declared_all;
 use crate::finding::{branched, followed, nothing, own};
+use crate::into::into_of;
 use crate::labels::around_with;
 use crate::resolved::{Declared, Headed, Resolved};
 use crate::slots::Slots;
-use crate::steps::{assign_of, block_of, continue_of, exit_of, headed, into_of, loop_of, raise_of};
+use crate::steps::{assign_of, block_of, continue_of, exit_of, headed, loop_of, raise_of};
 use away_names::naming::named_expr;
 use away_names::note::clean;
 use away_names::scope::{Scope, Variable};
@@ -130,7 +131,7 @@ pub fn resolved_stmt(
             strict,
             targets,
             query,
-        } => into_of(alloc, *strict, targets, query, slots),
+        } => into_of(alloc, spot, *strict, targets.as_slice(), query, slots),
         Stmt::Nothing => Ok(Resolved {
             it: Stmt::Nothing,
             note: own(1, clean()),

@@ -11,9 +11,10 @@ pub struct Slot {
     pub not_null: bool,
 }
 
-/// The variables so far, and the hidden ones of each FOR.
+/// The variables so far, the hidden ones of each FOR, and those of the targets of each INTO.
 #[derive(Drop)]
 pub struct Slots {
     pub shown: Items<Slot>,
     pub hidden: Items<Slot>,
+    pub picked: Items<Slot>,
 }

@@ -7,11 +7,12 @@ ghost use Rattle.away_types.specs.StatementTypes as spec;
 use crate::finding::{Report, branched, followed, nothing, own, own_with};
 use away_names::note::{Note, breaks, clean, joined};
 use away_names::rule::Rule;
-use away_trees::{Arm, Decl, Expr, LoopKind, Stmt};
-use away_typing::kind::fits;
-use away_typing::types::{Places, kind};
-use away_typing::uses::{outside, used};
-use away_values::{NoMemory, Ty};
+use away_trees::{Arm, Decl, Expr, LoopKind, Select, Stmt};
+use away_typing::kind::{Kind, fits};
+use away_typing::types::{Places, kind, select_shape};
+use away_typing::uses::{outside, select_used, used};
+use away_values::{Name, NoMemory, Ty};
+use sqlite_items::Items;
 use std::alloc::Global;
 
 /// What the expressions of a function see, and the type of its result.
@@ -59,6 +60,67 @@ fn asked_of_slot(alloc: Global, a: &Asking<'_>, ty: Option<Ty>, e: &Expr) -> Res
         None => Ok(breaks(Rule::Types, true)),
         Some(ty) => asked(alloc, a, ty, e),
     }
+}
+
+#[tactic(auto, unfolding(crate::specs::StatementTypes::takes))]
+fn takes(ty: Option<Ty>, k: Kind) -> bool
+    ensures { result ≡ spec.takes ty k }
+{
+    match ty {
+        None => false,
+        Some(ty) => fits(ty, k),
+    }
+}
+
+fn all_taken(a: &Asking<'_>, targets: &[(Name, Option<u32>)], kinds: &[Kind]) -> bool
+    ensures { result ≡ spec.all_taken (asked_by a.now) targets.now kinds.now }
+{
+    let mut ts = targets;
+    let mut ks = kinds;
+    while let [t, more @ ..] = ts {
+        let [k, others @ ..] = ks else {
+            return false;
+        };
+        if !takes(slot_type(a, t.1), *k) {
+            return false;
+        }
+        ts = more;
+        ks = others;
+    }
+    ks.is_empty()
+}
+
+#[tactic(auto, unfolding(crate::specs::StatementTypes::takes_list))]
+fn takes_list(a: &Asking<'_>, targets: &[(Name, Option<u32>)], kinds: &Option<Items<Kind>>) -> bool
+    ensures { result ≡ spec.takes_list (asked_by a.now) targets.now kinds.now }
+{
+    if targets.is_empty() {
+        return false;
+    }
+    match kinds {
+        None => false,
+        Some(list) => all_taken(a, targets, list.as_slice()),
+    }
+}
+
+/// What INTO asks of its select. The manual: 43.5.3, where the items have the number and the types of the targets. That this is
+/// judged before a run is our own choice.
+#[tactic(auto, unfolding(crate::specs::StatementTypes::asked_of_targets))]
+fn asked_of_targets(
+    alloc: Global,
+    a: &Asking<'_>,
+    targets: &[(Name, Option<u32>)],
+    query: &Select,
+) -> Result<Note, NoMemory>
+    ensures { IfOk result (λ n. n
+        ≡ spec.asked_of_targets (asked_by a.now) targets.now query.now) }
+{
+    let kinds = select_shape(alloc, query, &a.places)?;
+    let u = select_used(query)?;
+    Ok(joined(
+        breaks(Rule::Types, !takes_list(a, targets, &kinds) || u.limited),
+        breaks(Rule::Aggregates, u.misused),
+    ))
 }
 
 fn defaults(alloc: Global, decls: &[Decl], a: &Asking<'_>) -> Result<Note, NoMemory>
@@ -131,7 +193,10 @@ pub fn asked_stmt(alloc: Global, a: &Asking<'_>, s: &Stmt) -> Result<Report, NoM
             Ok(own(1, x))
         }
         Stmt::Raise(_) => Ok(own(1, clean())),
-        Stmt::Into { targets, .. } => own_with(targets.len(), breaks(Rule::Types, true)),
+        Stmt::Into { targets, query, .. } => {
+            let x = asked_of_targets(alloc, a, targets.as_slice(), query)?;
+            own_with(targets.len(), x)
+        }
         Stmt::Nothing => Ok(own(1, clean())),
     }
 }

@@ -27,7 +27,7 @@ use away_names::note::{Note, Noted, breaks, clean, joined};
 use away_names::references::{maybe_written, written};
 use away_names::rule::Rule;
 use away_names::scope::{Scope, Variable};
-use away_trees::{Decl, Expr, LoopKind, Raised, Select, Stmt};
+use away_trees::{Decl, Expr, LoopKind, Raised, Stmt};
 use away_values::{Name, NoMemory, Ty};
 use sqlite_items::{Boxed, Items};
 use std::alloc::Global;
@@ -259,42 +259,6 @@ pub fn raise_of(alloc: Global, raised: &Raised, slots: Slots) -> Result<Resolved
     Ok(Resolved {
         it: Stmt::Raise(raised.copy(alloc)?),
         note: own(1, breaks(Rule::Raises, !may_raise(raised))),
-        slots,
-    })
-}
-
-fn copy_targets(
-    alloc: Global,
-    targets: &[(Name, Option<u32>)],
-) -> Result<Items<(Name, Option<u32>)>, NoMemory>
-    ensures { IfOk result (λ all. all ≡ targets.now) }
-{
-    let mut all = Items::new(alloc);
-    for i in 0..targets.len() {
-        all.push((targets[i].0.copy(alloc)?, targets[i].1))?;
-    }
-    Ok(all)
-}
-
-/// INTO, which isn't judged yet: no reader gives it.
-pub fn into_of(
-    alloc: Global,
-    strict: bool,
-    targets: &Items<(Name, Option<u32>)>,
-    query: &Select,
-    slots: Slots,
-) -> Result<Resolved<Stmt>, NoMemory>
-    ensures { IfOk result (λ x. x ≡ spec.into_with strict targets.now query.now slots) }
-{
-    let note = own_with(targets.len(), breaks(Rule::Types, true))?;
-    let targets = copy_targets(alloc, targets.as_slice())?;
-    Ok(Resolved {
-        it: Stmt::Into {
-            strict,
-            targets,
-            query: query.copy(alloc)?,
-        },
-        note,
         slots,
     })
 }

@@ -48,9 +48,17 @@ pub fn with_variable(
 pub fn with_slot(ty: Ty, not_null: bool, slots: Slots) -> Result<Slots, NoMemory>
     ensures { IfOk result (λ s. s ≡ spec.with_slot ty not_null slots) }
 {
-    let Slots { mut shown, hidden } = slots;
+    let Slots {
+        mut shown,
+        hidden,
+        picked,
+    } = slots;
     shown.push(Slot { ty, not_null })?;
-    Ok(Slots { shown, hidden })
+    Ok(Slots {
+        shown,
+        hidden,
+        picked,
+    })
 }
 
 /// The counter, the last value and the step of a FOR.
@@ -63,9 +71,54 @@ pub fn with_hidden(slots: Slots) -> Result<Slots, NoMemory>
         ty: Ty::Bigint,
         not_null: false,
     };
-    let Slots { shown, mut hidden } = slots;
+    let Slots {
+        shown,
+        mut hidden,
+        picked,
+    } = slots;
     hidden.push(one)?;
     hidden.push(one)?;
     hidden.push(one)?;
-    Ok(Slots { shown, hidden })
+    Ok(Slots {
+        shown,
+        hidden,
+        picked,
+    })
+}
+
+fn picked_for(shown: &[Slot], slot: Option<u32>) -> Slot
+    ensures { result ≡ spec.picked_for shown.now slot }
+{
+    let variable = match slot {
+        None => None,
+        Some(i) => shown.get(i as usize),
+    };
+    let ty = match variable {
+        None => Ty::Bigint,
+        Some(x) => x.ty,
+    };
+    Slot {
+        ty,
+        not_null: false,
+    }
+}
+
+/// One for each target of an INTO, which holds its value until all have theirs.
+#[tactic(auto, unfolding(crate::specs::Statements::with_targets))]
+pub fn with_targets(targets: &[(Name, Option<u32>)], slots: Slots) -> Result<Slots, NoMemory>
+    ensures { IfOk result (λ s. s ≡ spec.with_targets targets.now slots) }
+{
+    let Slots {
+        shown,
+        hidden,
+        mut picked,
+    } = slots;
+    for t in targets {
+        picked.push(picked_for(shown.as_slice(), t.1))?;
+    }
+    Ok(Slots {
+        shown,
+        hidden,
+        picked,
+    })
 }

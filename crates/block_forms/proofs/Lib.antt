@@ -4,6 +4,7 @@ pub mod SameLists
 pub mod Keys
 pub mod AlikeMachines
 pub mod SourceEquations
+pub mod TypeEquations
 pub mod WorkedForms
 pub mod Exits
 pub mod SlotCounts

@@ -4,11 +4,15 @@ use Rattle.std.specs.Prelude.{slice_get, Some}
 use Rattle.std.proofs.lemmas.Option.{same_Some}
 use Rattle.away_trees.specs.declared.statements.Stmt.TheBlock as b
 use Rattle.away_trees.specs.declared.queries.Expr.TheBlock as e
+use Rattle.away_trees.specs.declared.queries.Expr.TheViews as view
 use Rattle.block_forms.specs.Laid.{laid}
 use Rattle.block_forms.specs.Forms.{Block}
 use Rattle.block_forms.specs.Expressions.{sources}
 use Rattle.block_forms.specs.Places.{Each}
 use Rattle.block_forms.specs.Lowered.{AllStand, all_parts, EachOnce, BlockBelow, owners, sharers, end_leads}
+use Rattle.block_forms.specs.Intos.{intos}
+use Rattle.block_forms.specs.Slots.{variables, own_slots}
+use Rattle.block_forms.specs.WorkedInto.{only_key, only_key_slots, only_key_form, swapped, swapped_slots, swapped_form}
 use Rattle.block_forms.specs.Worked.{sign_of, sign_of_form, collatz, collatz_form, count_up, count_up_form, count_up_slots, bigint, shared_entry, with_continue, with_exit, WorkedForms, WorkedTable, WorkedRuns}
 
 sign_of_stands : AllStand sign_of_form.blocks (all_parts sign_of (bigint ∷ []) sign_of_form)
@@ -22,6 +26,18 @@ collatz_stands = search rules
 count_up_stands : AllStand count_up_form.blocks (all_parts count_up count_up_slots count_up_form)
 unfolding laid b.hidden-the_row-Stmt-0 b.hidden-the_row-Arm-1 e.hidden-the_row-Expr-0 e.hidden-the_row-Expr-Chain-1-2-1 denote.Hole.Carrier.hidden
 count_up_stands = search rules
+
+only_key_stands : AllStand only_key_form.blocks (all_parts only_key only_key_slots only_key_form)
+unfolding laid b.hidden-the_row-Stmt-0 b.hidden-the_row-Arm-1 e.hidden-the_row-Expr-0 e.hidden-the_row-Expr-Chain-1-2-1 e.hidden-the_row-Select-5 e.hidden-the_row-Item-6 e.hidden-the_row-FromItem-7 e.hidden-the_row-Key-8 view.roll-Select view.roll-Query denote.Hole.Carrier.hidden denote.Hole.Carrier.roll
+only_key_stands = search rules
+
+swapped_stands : AllStand swapped_form.blocks (all_parts swapped swapped_slots swapped_form)
+unfolding laid b.hidden-the_row-Stmt-0 b.hidden-the_row-Arm-1 e.hidden-the_row-Expr-0 e.hidden-the_row-Expr-Chain-1-2-1 e.hidden-the_row-Select-5 e.hidden-the_row-Item-6 e.hidden-the_row-FromItem-7 e.hidden-the_row-Key-8 view.roll-Select view.roll-Query denote.Hole.Carrier.hidden denote.Hole.Carrier.roll
+swapped_stands = search rules
+
+slots_are : own_slots only_key ≡ only_key_slots
+unfolding laid intos variables b.hidden-the_row-Stmt-0 b.hidden-the_row-Arm-1 e.hidden-the_row-Expr-0 e.hidden-the_row-Expr-Chain-1-2-1 e.hidden-the_row-Select-5 e.hidden-the_row-Item-6 e.hidden-the_row-FromItem-7 e.hidden-the_row-Key-8 view.roll-Select view.roll-Query denote.Hole.Carrier.hidden denote.Hole.Carrier.roll
+slots_are = refl
 
 sign_of_once : EachOnce (all_parts sign_of (bigint ∷ []) sign_of_form) sign_of_form.blocks
 unfolding laid b.hidden-the_row-Stmt-0 b.hidden-the_row-Arm-1 e.hidden-the_row-Expr-0 e.hidden-the_row-Expr-Chain-1-2-1 denote.Hole.Carrier.hidden
@@ -82,12 +98,15 @@ forms_stand = record {
   count_up_stands = count_up_stands;
   continue_at_entry_stands = continue_at_entry;
   exit_at_entry = λ h. exit_at_entry h.stand;
+  only_key_stands = only_key_stands;
+  swapped_stands = swapped_stands;
+  slots_are = slots_are;
 }
 
 pub table_is : WorkedTable
-unfolding sources b.hidden-the_row-Stmt-0 b.hidden-the_row-Arm-1 e.hidden-the_row-Expr-0 e.hidden-the_row-Expr-Chain-1-2-1 denote.Hole.Carrier.hidden
-table_is = record { first = refl; second = refl; last = refl; many = refl }
+unfolding sources variables b.hidden-the_row-Stmt-0 b.hidden-the_row-Arm-1 e.hidden-the_row-Expr-0 e.hidden-the_row-Expr-Chain-1-2-1 e.hidden-the_row-Select-5 e.hidden-the_row-Item-6 e.hidden-the_row-FromItem-7 e.hidden-the_row-Key-8 view.roll-Select view.roll-Query denote.Hole.Carrier.hidden denote.Hole.Carrier.roll view.out-Select denote.Hole.Carrier.out denote.Hole.Carrier.shown e.shown-the_row-Key-8
+table_is = record { first = refl; second = refl; last = refl; many = refl; strict = refl; picked = refl }
 
 pub runs_are : WorkedRuns
-unfolding sources b.hidden-the_row-Stmt-0 b.hidden-the_row-Arm-1 e.hidden-the_row-Expr-0 e.hidden-the_row-Expr-Chain-1-2-1 denote.Hole.Carrier.hidden
-runs_are = record { ends = refl; goes_on = refl }
+unfolding sources variables b.hidden-the_row-Stmt-0 b.hidden-the_row-Arm-1 e.hidden-the_row-Expr-0 e.hidden-the_row-Expr-Chain-1-2-1 e.hidden-the_row-Select-5 e.hidden-the_row-Item-6 e.hidden-the_row-FromItem-7 e.hidden-the_row-Key-8 view.roll-Select view.roll-Query denote.Hole.Carrier.hidden denote.Hole.Carrier.roll view.out-Select denote.Hole.Carrier.out denote.Hole.Carrier.shown e.shown-the_row-Key-8
+runs_are = record { ends = refl; goes_on = refl; swaps = refl }

@@ -1,10 +1,26 @@
 -- The expression table: a function's source expressions in the order of its text, whole expressions
--- alone, and behind them a fixed list.
-use Rattle.std.specs.Prelude.{ℕ, zero, suc, List, [], ◌∷◌, ◌++◌, slice_get, Option, Some, None, Ok}
+-- alone, and behind them a fixed list. A SELECT INTO has its tests and picks; what stands in its
+-- select isn't a source expression of its own.
+use Rattle.std.specs.Prelude.{
+  ℕ,
+  zero,
+  suc,
+  Bool,
+  List,
+  [],
+  ◌∷◌,
+  ◌++◌,
+  slice_get,
+  Option,
+  Some,
+  None,
+  Ok,
+}
 use Rattle.away_values.specs.declared.values.Value.{Value}
 use Rattle.away_values.specs.declared.values.Value.TheVariants as val
 use Rattle.away_values.specs.Results.{Or}
 use Rattle.away_trees.specs.declared.queries.Expr.{Expr}
+use Rattle.away_trees.specs.declared.queries.Select.{Select}
 use Rattle.away_trees.specs.declared.statements.Arm.{Arm}
 use Rattle.away_trees.specs.declared.statements.Decl.{Decl}
 use Rattle.away_trees.specs.declared.statements.Function.{Function}
@@ -18,7 +34,10 @@ use Rattle.sql_meaning.specs.Context.{Rows}
 use Rattle.sql_meaning.specs.Meaning.{value}
 use Rattle.sql_meaning.specs.OneReturn.{body}
 use Rattle.sql_meaning.specs.Reads.{slots_of}
+use Rattle.select_into.specs.Entries.{Target, into_entries}
+use Rattle.plsql_meaning.specs.Sight.{query_of}
 use Rattle.block_forms.specs.FixedList.{fixed_list}
+use Rattle.block_forms.specs.Slots.{shown_types}
 
 -- ---- source expressions
 
@@ -49,33 +68,50 @@ abbrev pub of_else : Option (List Sources) → Sources
 of_else None = []
 of_else (Some body) = in_turn body
 
--- INTO isn't read yet, and has no expression of its own
-abbrev of_statement : Stmt-F Sources Sources → Sources
-of_statement (st.Block _ decls body _) = defaults decls ++ in_turn body
-of_statement (st.Assign _ _ e) = e ∷ []
-of_statement (st.If arms other) = in_turn arms ++ of_else other
-of_statement (st.Cases arms other) = in_turn arms ++ of_else other
-of_statement (st.Loop _ k body _) = of_kind k ++ in_turn body
-of_statement (st.Exit _ when) = if_there when
-of_statement (st.Continue _ when) = if_there when
-of_statement (st.Return e) = e ∷ []
-of_statement (st.Raise _) = []
-of_statement (st.Into _ _ _) = []
-of_statement st.Nothing = []
+-- the expressions of a SELECT INTO, by its parts
+abbrev pub Entries : Type 0
+Entries = Bool → List Target → Select → Sources
 
-abbrev pub sourcing : StatementAlgebra
-sourcing = record { AStmt = Sources; AnArm = Sources; stmt = of_statement; arm = λ a. a.test ∷ in_turn a.body }
+module _ (entries : Entries) where
+  abbrev of_statement : Stmt-F Sources Sources → Sources
+  of_statement (st.Block _ decls body _) = defaults decls ++ in_turn body
+  of_statement (st.Assign _ _ e) = e ∷ []
+  of_statement (st.If arms other) = in_turn arms ++ of_else other
+  of_statement (st.Cases arms other) = in_turn arms ++ of_else other
+  of_statement (st.Loop _ k body _) = of_kind k ++ in_turn body
+  of_statement (st.Exit _ when) = if_there when
+  of_statement (st.Continue _ when) = if_there when
+  of_statement (st.Return e) = e ∷ []
+  of_statement (st.Raise _) = []
+  of_statement (st.Into strict targets query) = entries strict targets query
+  of_statement st.Nothing = []
 
-unfoldable pub sources : Stmt → Sources
-sources s = stmt_of sourcing s
+  abbrev pub sourcing : StatementAlgebra
+  sourcing = record {
+    AStmt = Sources;
+    AnArm = Sources;
+    stmt = of_statement;
+    arm = λ a. a.test ∷ in_turn a.body;
+  }
 
-unfoldable pub sources_of_arm : Arm → Sources
-sources_of_arm x = branch_of sourcing x
+  unfoldable pub sources : Stmt → Sources
+  sources s = stmt_of sourcing s
+
+  unfoldable pub sources_of_arm : Arm → Sources
+  sources_of_arm x = branch_of sourcing x
+
+-- the select of a SELECT INTO as one expression
+abbrev pub whole_select : Entries
+whole_select strict targets query = query_of query ∷ []
+
+-- those of a function: a SELECT INTO has its tests and its picks
+abbrev pub source_expressions : Function → Sources
+source_expressions f = sources (into_entries (shown_types f)) f.body
 
 -- ---- the table
 
 abbrev pub expressions : Function → Sources
-expressions f = sources f.body ++ fixed_list
+expressions f = source_expressions f ++ fixed_list
 
 -- ---- the value of an entry
 

@@ -4,6 +4,7 @@ use Rattle.std.specs.Prelude.{
   zero,
   suc,
   ◌+◌,
+  Bool,
   true,
   false,
   List,
@@ -31,6 +32,7 @@ use Rattle.away_trees.specs.StatementAlgebra.{StatementAlgebra, stmt_of, branch_
 use Rattle.away_types.specs.declared.slots.Slot.{Slot}
 use Rattle.plsql_meaning.specs.Outcomes.{Label, case_not_found}
 use Rattle.plsql_meaning.specs.Statements.{class_of}
+use Rattle.select_into.specs.Entries.{Target, checks}
 use Rattle.block_forms.specs.declared.places.Position.{Position}
 use Rattle.block_forms.specs.declared.places.Numbers.{Numbers}
 use Rattle.block_forms.specs.Around.{Around, exit_to, again_to}
@@ -40,7 +42,6 @@ use Rattle.block_forms.specs.Patterns.{
   own,
   shared,
   same,
-  never,
   source_term,
   null_of,
   branches,
@@ -54,26 +55,30 @@ use Rattle.block_forms.specs.Patterns.{
   exit_parts,
   for_parts,
   for_test,
+  into_parts,
 }
 
 -- ---- how much a statement has
 
-abbrev pub place : ℕ → ℕ → ℕ → ℕ → Position
-place node expr slot fors = record { node = node; expr = expr; slot = slot; fors = fors }
+abbrev pub place : ℕ → ℕ → ℕ → ℕ → ℕ → Position
+place node expr slot fors targets =
+    record { node = node; expr = expr; slot = slot; fors = fors; targets = targets }
 
 abbrev pub after : Position → Position → Position
-after p q = place (p.node + q.node) (p.expr + q.expr) (p.slot + q.slot) (p.fors + q.fors)
+after p q =
+    place (p.node + q.node) (p.expr + q.expr) (p.slot + q.slot) (p.fors + q.fors)
+    (p.targets + q.targets)
 
 abbrev pub nothing : Position
-nothing = place 0 0 0 0
+nothing = place 0 0 0 0 0
 
 -- a node by itself
 abbrev pub a_node : Position
-a_node = place 1 0 0 0
+a_node = place 1 0 0 0 0
 
 -- a node with one expression
 abbrev pub with_expr : Position
-with_expr = place 1 1 0 0
+with_expr = place 1 1 0 0 0
 
 abbrev pub one_if : {X : Type 0} → Option X → ℕ
 one_if None = 0
@@ -81,7 +86,7 @@ one_if (Some _) = 1
 
 -- a declaration is a node and a variable
 abbrev pub decl_size : Decl → Position
-decl_size d = place 1 (one_if d.default) 1 0
+decl_size d = place 1 (one_if d.default) 1 0 0
 
 abbrev pub decls_size : List Decl → Position
 decls_size [] = nothing
@@ -91,7 +96,12 @@ decls_size (d ∷ ds) = after (decl_size d) (decls_size ds)
 abbrev pub kind_size : LoopKind → Position
 kind_size kind.Plain = a_node
 kind_size (kind.While _) = with_expr
-kind_size (kind.Count _ _ _ _ by) = place 1 (2 + one_if by) 1 1
+kind_size (kind.Count _ _ _ _ by) = place 1 (2 + one_if by) 1 1 0
+
+-- a target is a node, and has a pick
+abbrev pub into_size : Bool → List Target → Position
+into_size strict targets =
+    place (1 + length targets) (checks strict + length targets) 0 0 (length targets)
 
 -- ---- what it asks
 
@@ -212,7 +222,6 @@ module _ (s : Setting) where
       kind_parts k p (first_block (length body) (p.node + 1) (again_of k p)) next
       ++ row_parts body (after p (kind_size k)) (record { label = label; exit = next; again = Some (again_of k p) } ∷ around) (again_of k p)
 
--- INTO isn't read yet, and no form has it
 abbrev of_statement : Stmt-F Laid LaidArm → Laid
 of_statement (st.Block label decls body _) = record {
   size = after (after a_node (decls_size decls)) (row_size body);
@@ -232,11 +241,11 @@ of_statement (st.Loop label k body _) = record {
   parts = λ s. loop_parts s label k body;
 }
 of_statement (st.Exit label when) = record {
-  size = place 1 (one_if when) 0 0;
+  size = place 1 (one_if when) 0 0 0;
   parts = λ s p around next. exit_parts s.goto s.numbers when p.expr (node s.goto p.node) (exit_to s.goto.finish around label) next;
 }
 of_statement (st.Continue label when) = record {
-  size = place 1 (one_if when) 0 0;
+  size = place 1 (one_if when) 0 0 0;
   parts = λ s p around next. leave_parts s.goto s.numbers when p.expr (node s.goto p.node) (again_to s.goto.finish around label) next;
 }
 of_statement (st.Return e) = record {
@@ -247,7 +256,10 @@ of_statement (st.Raise r) = record {
   size = a_node;
   parts = λ s p around next. shared (node s.goto p.node) (fails (class_of r)) ∷ [];
 }
-of_statement (st.Into _ targets _) = record { size = place (1 + length targets) 0 0 0; parts = λ s p around next. never ∷ [] }
+of_statement (st.Into strict targets query) = record {
+  size = into_size strict targets;
+  parts = λ s p around next. into_parts s.goto s.numbers s.slots strict targets query p next;
+}
 of_statement st.Nothing = record {
   size = a_node;
   parts = λ s p around next. own (node s.goto p.node) (jumps false next) ∷ [];

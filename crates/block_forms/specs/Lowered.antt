@@ -3,6 +3,7 @@ use Rattle.std.specs.Prelude.{
   ◌≡◌,
   ℕ,
   ◌+◌,
+  ◌*◌,
   ◌<◌,
   ◌≤◌,
   Bool,
@@ -77,8 +78,13 @@ sharers b (never ∷ ps) = sharers b ps
 
 -- ---- the whole
 
+-- behind the slots of the text come those of FORs, and behind these those of targets
 abbrev pub numbers_of : Function → Numbers
-numbers_of f = record { fixed = (laid f.body).size.expr; counters = length f.params + (laid f.body).size.slot }
+numbers_of f = record {
+  fixed = (laid f.body).size.expr;
+  counters = length f.params + (laid f.body).size.slot;
+  targets = length f.params + (laid f.body).size.slot + 3 * (laid f.body).size.fors;
+}
 
 abbrev pub setting : Function → List Slot → Goto → Setting
 setting f slots g = record { goto = g; slots = slots; numbers = numbers_of f }
@@ -97,7 +103,7 @@ params_parts s strict result k (p ∷ ps) = param_parts s strict result k p.1 ++
 
 -- where the body begins
 abbrev pub body_place : Function → Position
-body_place f = place (length f.params) 0 (length f.params) 0
+body_place f = place (length f.params) 0 (length f.params) 0 0
 
 abbrev pub parts_in : Setting → Function → List Part
 parts_in s f =

@@ -13,6 +13,7 @@ use Rattle.std.specs.Prelude.{
   [],
   ◌∷◌,
   ◌++◌,
+  length,
   slice_get,
   Option,
   Some,
@@ -22,9 +23,17 @@ use Rattle.std.specs.Prelude.{
 use Rattle.away_values.specs.declared.types.Ty.{Ty}
 use Rattle.away_values.specs.declared.types.Ty.TheVariants as ty
 use Rattle.away_trees.specs.declared.queries.Expr.{Expr}
+use Rattle.away_trees.specs.declared.queries.Select.{Select}
 use Rattle.away_types.specs.declared.slots.Slot.{Slot}
 use Rattle.sql_meaning.specs.Reads.{slots_of}
-use Rattle.plsql_meaning.specs.Outcomes.{null_not_allowed, invalid_parameter}
+use Rattle.plsql_meaning.specs.Outcomes.{
+  null_not_allowed,
+  invalid_parameter,
+  no_data_found,
+  too_many_rows,
+}
+use Rattle.select_into.specs.Entries.{Target, checks}
+use Rattle.select_into.specs.Wrapped.{select_slots}
 use Rattle.block_forms.specs.declared.places.Position.{Position}
 use Rattle.block_forms.specs.declared.places.Numbers.{Numbers}
 use Rattle.block_forms.specs.declared.fixed_list.Fixed.{Fixed}
@@ -51,6 +60,10 @@ term k names = record { expr = k; names = names }
 
 abbrev pub source_term : ℕ → Expr → Term
 source_term k e = term k (slots_of e)
+
+-- an entry of a SELECT INTO, which reads what its select reads
+abbrev pub select_term : ℕ → Select → Term
+select_term k q = term k (select_slots q)
 
 abbrev pub entry_term : ℕ → Fixed → List ℕ → Term
 entry_term S e names = term (S + position e) names
@@ -249,3 +262,65 @@ module _ (g : Goto) (n : Numbers) where
       ++ (step_parts by (p.expr + 2) (after_bound g (after_bound g (node g p.node))) (cur_of p.fors + 2) (for_head g by (node g p.node))
       ++ turn_parts reverse p.slot (cur_of p.fors) (cur_of p.fors + 1) (cur_of p.fors + 2)
       (for_head g by (node g p.node)) (for_test reverse p.fors) body next))
+
+-- where what comes before the rest leads: to the rest, or behind it
+abbrev pub onward : {A : Type 0} → List A → ℕ → ℕ → ℕ
+onward [] rest behind = behind
+onward (_ ∷ _) rest behind = rest
+
+module _ (g : Goto) (n : Numbers) where
+  -- ---- SELECT INTO
+
+  -- with STRICT no row is a fault, and so is a second one; what follows begins at the first target
+  abbrev pub check_parts : Bool → ℕ → ℕ → Select → ℕ → List Part
+  check_parts false b k q first = same b first ∷ []
+  check_parts true b k q first =
+      own b (branches false (select_term k q) (yes_of g b) (no_of g b))
+      ∷ shared (yes_of g b) (fails no_data_found)
+      ∷ own (no_of g b) (branches false (select_term (k + 1) q) (yes_of g (no_of g b)) first)
+      ∷ shared (yes_of g (no_of g b)) (fails too_many_rows)
+      ∷ []
+
+  -- each target's hidden slot takes its pick, from a node, an entry and a hidden slot on; the last
+  -- one leads to where the targets are set
+  abbrev pub pick_parts : List Target → ℕ → ℕ → ℕ → Select → ℕ → List Part
+  pick_parts [] i k hidden q puts = []
+  pick_parts (_ ∷ ts) i k hidden q puts =
+      own (node g i) (sets hidden (select_term k q) (onward ts (node g (i + 1)) puts))
+      ∷ pick_parts ts (i + 1) (k + 1) (hidden + 1) q puts
+
+  abbrev pub put_part : List Slot → Option ℕ → ℕ → ℕ → ℕ → List Part
+  put_part slots None b hidden next = own b (jumps false next) ∷ []
+  put_part slots (Some slot) b hidden next =
+      slot_parts g n (slice_get slots slot) b slot (copy n.fixed hidden) next
+
+  -- where the blocks lead that begin at b and set a slot
+  abbrev pub after_set : Bool → ℕ → ℕ
+  after_set false b = jump_of g b
+  after_set true b = no_of g (jump_of g b)
+
+  abbrev pub after_slot : Option Slot → ℕ → ℕ
+  after_slot None b = after_set false b
+  after_slot (Some s) b = after_set s.not_null b
+
+  abbrev pub after_put : List Slot → Option ℕ → ℕ → ℕ
+  after_put slots None b = after_set false b
+  after_put slots (Some slot) b = after_slot (slice_get slots slot) b
+
+  -- each target is set from its hidden slot
+  abbrev pub put_parts : List Slot → List Target → ℕ → ℕ → ℕ → List Part
+  put_parts slots [] b hidden next = []
+  put_parts slots (t ∷ ts) b hidden next =
+      put_part slots t.1 b hidden (onward ts (after_put slots t.1 b) next)
+      ++ put_parts slots ts (after_put slots t.1 b) (hidden + 1) next
+
+  -- the first block that sets a target: the last pick leads to it
+  abbrev pub puts_of : List Target → ℕ → ℕ
+  puts_of ts i = jump_of g (node g (i + length ts))
+
+  abbrev pub into_parts : List Slot → Bool → List Target → Select → Position → ℕ → List Part
+  into_parts slots strict ts q p next =
+      check_parts strict (node g p.node) p.expr q (onward ts (node g (p.node + 1)) next)
+      ++ (pick_parts ts (p.node + 1) (p.expr + checks strict) (n.targets + p.targets) q
+      (puts_of ts p.node)
+      ++ put_parts slots ts (puts_of ts p.node) (n.targets + p.targets) next)

@@ -1,9 +1,10 @@
--- The slots that assignments set, in the order of the text.
+-- The slots that assignments and SELECT INTO set, in the order of the text.
 use Rattle.std.specs.Prelude.{ℕ, List, [], ◌∷◌, ◌++◌, Option, Some, None}
 use Rattle.away_trees.specs.declared.statements.Stmt.{Stmt}
 use Rattle.away_trees.specs.declared.statements.Stmt.TheOpen.{Stmt-F, Arm-F}
 use Rattle.away_trees.specs.declared.statements.Stmt.TheOpen as st
 use Rattle.away_trees.specs.StatementAlgebra.{StatementAlgebra, stmt_of}
+use Rattle.select_into.specs.Entries.{Target}
 
 abbrev pub Targets : Type 0
 Targets = List ℕ
@@ -20,7 +21,10 @@ abbrev pub else_targets : Option (List Targets) → Targets
 else_targets None = []
 else_targets (Some body) = row_targets body
 
--- the targets of INTO aren't read yet
+abbrev pub named_targets : List Target → Targets
+named_targets [] = []
+named_targets (t ∷ ts) = one_target t.1 ++ named_targets ts
+
 abbrev of_statement : Stmt-F Targets Targets → Targets
 of_statement (st.Block _ _ body _) = row_targets body
 of_statement (st.Assign _ slot _) = one_target slot
@@ -31,7 +35,7 @@ of_statement (st.Exit _ _) = []
 of_statement (st.Continue _ _) = []
 of_statement (st.Return _) = []
 of_statement (st.Raise _) = []
-of_statement (st.Into _ _ _) = []
+of_statement (st.Into _ targets _) = named_targets targets
 of_statement st.Nothing = []
 
 abbrev pub targeting : StatementAlgebra

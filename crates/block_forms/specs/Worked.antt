@@ -1,4 +1,4 @@
--- Worked examples: three functions with their goto forms, the expressions of one, and its runs.
+-- Worked examples: five functions with their goto forms, expressions of two, and runs of two.
 use Rattle.std.specs.Prelude.{
   ℕ,
   ◌≡◌,
@@ -36,6 +36,17 @@ use Rattle.block_forms.specs.Lowered.{AllStand, all_parts, Lowered}
 use Rattle.block_forms.specs.Machines.{ran}
 use Rattle.block_forms.specs.Patterns.{term, sets, branches, jumps, returns, fails}
 use Rattle.block_forms.specs.Runs.{goto_runs}
+use Rattle.block_forms.specs.Slots.{own_slots}
+use Rattle.block_forms.specs.WorkedInto.{
+  key_of,
+  only_key,
+  only_key_slots,
+  only_key_form,
+  swapped,
+  swapped_slots,
+  swapped_form,
+}
+use Rattle.select_into.specs.Wrapped.{no_row, pick}
 
 abbrev literal : ℕ → Expr
 literal k = expr.Int (pos k)
@@ -205,17 +216,26 @@ pub record WorkedForms : Type 0 where
   pub count_up_stands : AllStand count_up_form.blocks (all_parts count_up count_up_slots count_up_form)
   pub continue_at_entry_stands : AllStand shared_entry.blocks (all_parts with_continue [] shared_entry)
   pub exit_at_entry : Lowered with_exit [] shared_entry → ⊥
+  pub only_key_stands :
+      AllStand only_key_form.blocks (all_parts only_key only_key_slots only_key_form)
+  pub swapped_stands : AllStand swapped_form.blocks (all_parts swapped swapped_slots swapped_form)
+  pub slots_are : own_slots only_key ≡ only_key_slots
 
--- the expressions of collatz are those of its text, in order: 0, n <> 1, n % 2 = 0, n / 2, 3 * n +
--- 1, steps + 1, steps; then seventeen fixed ones
+-- The expressions of collatz are those of its text, in order: 0, n <> 1, n % 2 = 0, n / 2, 3 * n +
+-- 1, steps + 1, steps; then seventeen fixed ones. A SELECT INTO has its tests and its picks.
 pub record WorkedTable : Type 0 where
   pub first : slice_get (expressions collatz) 0 ≡ Some (literal 0)
   pub second : slice_get (expressions collatz) 1 ≡ Some (expr.Compare cmp.Ne (expr.Slot 0) (literal 1))
   pub last : slice_get (expressions collatz) 6 ≡ Some (expr.Slot 1)
   pub many : length (expressions collatz) ≡ 24
+  pub strict : slice_get (expressions only_key) 1 ≡ Some (no_row key_of)
+  pub picked : slice_get (expressions only_key) 3 ≡ Some (pick key_of 0)
 
 -- From 2 collatz takes one step, with two visits of the head: eight visits tell so, and seven
 -- don't.
 pub record WorkedRuns : Type 0 where
   pub ends : goto_runs (frame_of collatz 2 collatz_form []) collatz_form (val.Int (pos 2) ∷ []) 8 ≡ ran (answer.Value (val.Int (pos 1))) 2
   pub goes_on : goto_runs (frame_of collatz 2 collatz_form []) collatz_form (val.Int (pos 2) ∷ []) 7 ≡ ran answer.More 2
+  pub swaps : goto_runs (frame_of swapped 4 swapped_form []) swapped_form
+      (val.Int (pos 1) ∷ val.Int (pos 2) ∷ []) 6
+      ≡ ran (answer.Value (val.Int (pos 2))) 0

@@ -11,7 +11,7 @@ pub fn runs_that_end_stay()
     ensures ssa_heads { SsaHeads }
 {}
 
-/// Three functions and their forms, the expression table of one, and its runs.
+/// Five functions and their forms, expressions of two, and runs of two.
 pub fn worked_forms_are_lowered()
     ensures forms { WorkedForms }
     ensures table { WorkedTable }

@@ -8,6 +8,7 @@ mod forms;
 mod laws;
 mod places;
 mod same;
+mod shown_types;
 mod stage;
 #[cfg(test)]
 mod tests;

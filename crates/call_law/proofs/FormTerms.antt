@@ -1,5 +1,5 @@
 -- In the forms of a function each term has one name for each slot of its expression, and each fail has a class.
-use Rattle.std.proofs.Common.{◌≡◌, refl, ap, sym, ◌∙◌, subst, ℕ, zero, suc, ◌+◌, ◌<◌, Bool, true, false, List, [], ◌∷◌, ◌++◌, length, get_or, slice_get, Option, Some, None, arith}
+use Rattle.std.proofs.Common.{◌≡◌, refl, ap, sym, ◌∙◌, subst, ℕ, zero, suc, ◌+◌, ◌<◌, Bool, true, false, List, [], ◌∷◌, length, get_or, slice_get, Some, None, arith}
 use Rattle.away_values.specs.Classes.{is_class}
 use Rattle.away_values.specs.declared.types.Ty.{Ty}
 use Rattle.away_trees.specs.declared.queries.Expr.{Expr}
@@ -7,20 +7,19 @@ use Rattle.away_trees.specs.declared.queries.Expr.TheVariants as expr
 use Rattle.away_trees.specs.declared.statements.Function.{Function}
 use Rattle.away_types.specs.declared.slots.Slot.{Slot}
 use Rattle.sql_meaning.specs.Reads.{slots_of}
-use Rattle.block_forms.specs.declared.forms.Block.{Block}
 use Rattle.block_forms.specs.declared.forms.End.{End}
 use Rattle.block_forms.specs.declared.forms.End.TheVariants as jump
 use Rattle.block_forms.specs.declared.forms.Goto.{Goto}
 use Rattle.block_forms.specs.declared.forms.Ssa.{Ssa}
 use Rattle.block_forms.specs.declared.forms.SsaBlock.{SsaBlock}
 use Rattle.block_forms.specs.declared.forms.Term.{Term}
-use Rattle.block_forms.specs.Expressions.{sources, sourcing, expressions}
+use Rattle.block_forms.specs.Expressions.{sources, source_expressions, expressions}
 use Rattle.block_forms.specs.FixedList.{fixed_list}
 use Rattle.block_forms.specs.Forms.{Assignment, Pairs}
-use Rattle.block_forms.specs.Laid.{Setting, laying, laid}
+use Rattle.block_forms.specs.Laid.{Setting, laid}
 use Rattle.block_forms.specs.Lowered.{Lowered, setting, all_parts, param_parts, params_parts, body_place, numbers_of}
 use Rattle.block_forms.specs.Named.{Named, TermRenamed, AssignmentRenamed, EndRenamed}
-use Rattle.block_forms.specs.Patterns.{Part, node}
+use Rattle.block_forms.specs.Slots.{shown_types}
 use Rattle.block_forms.specs.Places.{Each}
 use Rattle.call_forms.specs.declared.forms.Anf.{Anf}
 use Rattle.call_forms.specs.declared.forms.AnfBlock.{AnfBlock}
@@ -30,7 +29,7 @@ use Rattle.call_forms.specs.Called.{Called, EndCalled}
 use Rattle.call_law.proofs.Labels.{element_there}
 use Rattle.call_law.specs.Terms.{OneForEach, SetOneForEach, EndOneForEach, BlockOneForEach, EndHasClass, FailsByClass}
 use Rattle.call_law.proofs.PartTerms.{AllFit, BlockFits, EndFits, FixedFits, fit_both, fits_at, fixed_fits, sources_sit}
-use Rattle.call_law.proofs.StatementTerms.{StatementFits, statement_fits}
+use Rattle.call_law.proofs.StatementTerms.{statement_fits}
 
 inside : {X : Type 0} (xs : List X) (i : ℕ) (x : X) → slice_get xs i ≡ Some x → i < length xs
 inside [] i x h = absurd (cc)
@@ -44,19 +43,19 @@ module _ (f : Function) (slots : List Slot) (g : Goto) (low : Lowered f slots g)
   abbrev table : List Expr
   table = expressions f
 
-  fixed_by : (n : ℕ) → n ≡ length (sources f.body) → FixedFits table n
-  fixed_by n h = subst (FixedFits table) (sym h) (fixed_fits (sources f.body))
+  fixed_by : (n : ℕ) → n ≡ length (source_expressions f) → FixedFits table n
+  fixed_by n h = subst (FixedFits table) (sym h) (fixed_fits (source_expressions f))
 
-  body_count : (laid f.body).size.expr ≡ length (sources f.body)
+  body_count : (laid f.body).size.expr ≡ length (source_expressions f)
   unfolding laid sources
-  body_count = (statement_fits table (record s { numbers = record (numbers_of f) { fixed = length (sources f.body) } }) (fixed_fits (sources f.body)) f.body).count
+  body_count = (statement_fits (shown_types f) table (record s { numbers = record (numbers_of f) { fixed = length (source_expressions f) } }) (fixed_fits (source_expressions f)) f.body).count
 
   fixed : FixedFits table s.numbers.fixed
   fixed = fixed_by s.numbers.fixed body_count
 
   body_fits : AllFit table ((laid f.body).parts s (body_place f) [] g.finish)
   unfolding laid sources
-  body_fits = (statement_fits table s fixed f.body).goes (body_place f) [] g.finish (sources_sit (sources f.body) fixed_list)
+  body_fits = (statement_fits (shown_types f) table s fixed f.body).goes (body_place f) [] g.finish (sources_sit (source_expressions f) fixed_list)
 
   param_fits : (strict : Bool) (result : Ty) (i : ℕ) (t : Ty) → AllFit table (param_parts s strict result i t)
   param_fits false result i t = (tt, tt)

@@ -1,29 +1,42 @@
 -- The parts of each statement fit the expressions that it has in the table.
-use Rattle.std.proofs.Common.{◌≡◌, refl, ap, sym, ◌∙◌, subst, ℕ, zero, suc, ◌+◌, ◌≤◌, ◌<◌, Bool, true, false, List, [], ◌∷◌, ◌++◌, length, slice_get, length-append, Option, Some, None, arith}
+use Rattle.std.proofs.Common.{◌≡◌, refl, ap, sym, ◌∙◌, subst, ℕ, zero, suc, ◌+◌, Bool, true, false, List, [], ◌∷◌, ◌++◌, length, map, get_or, slice_get, length-append, Option, Some, None, arith}
+use Rattle.std.proofs.lemmas.List.{length-map}
 use Rattle.away_values.specs.Classes.{is_class}
 use Rattle.away_values.specs.declared.types.Ty.{Ty}
 use Rattle.away_values.specs.declared.types.Ty.TheVariants as ty
 use Rattle.away_values.specs.declared.values.Class.{Class}
 use Rattle.away_trees.specs.declared.queries.Expr.{Expr}
+use Rattle.away_trees.specs.declared.queries.Expr.TheVariants as expr
+use Rattle.away_trees.specs.declared.queries.Select.{Select}
 use Rattle.away_trees.specs.declared.statements.Decl.{Decl}
 use Rattle.away_trees.specs.declared.statements.LoopKind.{LoopKind}
 use Rattle.away_trees.specs.declared.statements.LoopKind.TheVariants as kind
 use Rattle.away_trees.specs.declared.statements.Stmt.{Stmt}
 use Rattle.away_trees.specs.declared.statements.Stmt.TheBlock as b
-use Rattle.away_trees.specs.StatementAlgebra.{stmt_of, stmts_of, branches_of, else_of}
+use Rattle.away_trees.specs.StatementAlgebra.{StatementAlgebra, stmt_of, stmts_of, branches_of, else_of}
 use Rattle.away_types.specs.declared.slots.Slot.{Slot}
+use Rattle.sql_meaning.specs.Reads.{slots_of}
+use Rattle.sql_meaning.specs.Template.{below, count_from}
 use Rattle.plsql_meaning.specs.Outcomes.{Label, case_not_found, invalid_parameter}
+use Rattle.select_into.specs.Entries.{Target, checks, check_entries, into_entries, pick_entries, target_types, type_of}
+use Rattle.select_into.specs.Laws.{HasSlots}
+use Rattle.select_into.specs.Wrapped.{no_row, more_rows, pick, picked}
+use Rattle.select_into.proofs.SourceReads.{no_row_slots, more_rows_slots, pick_slots}
 use Rattle.block_forms.specs.declared.forms.Term.{Term}
 use Rattle.block_forms.specs.declared.places.Position.{Position}
 use Rattle.block_forms.specs.Around.{Around, exit_to, again_to}
 use Rattle.block_forms.specs.Expressions.{Sources, in_turn, if_there, defaults, of_kind, of_else, sourcing}
-use Rattle.block_forms.specs.Laid.{Setting, Laid, LaidArm, laying, after, a_node, with_expr, decl_size, decls_size, kind_size, row_size, arms_size, else_size, first_block, row_parts, default_term, decl_parts, decls_parts, assign_parts, arms_parts, lack, lack_parts, else_parts, branch_parts, inside_of, block_parts, again_of, kind_parts, loop_parts, one_if}
-use Rattle.block_forms.specs.Patterns.{Part, own, shared, branches, fails, not_positive, node, jump_of, yes_of, no_of, source_term, null_of, set_parts, slot_parts, leave_parts, exit_parts, bound_parts, step_parts, turn_parts, for_parts, cur_of, after_bound, for_head, for_test}
+use Rattle.block_forms.specs.Laid.{Setting, Laid, LaidArm, laying, after, a_node, with_expr, decl_size, decls_size, kind_size, row_size, arms_size, else_size, into_size, first_block, row_parts, default_term, decl_parts, decls_parts, arms_parts, lack, lack_parts, else_parts, branch_parts, inside_of, block_parts, again_of, kind_parts, loop_parts, one_if}
+use Rattle.block_forms.specs.Patterns.{Part, own, shared, branches, fails, not_positive, node, jump_of, yes_of, no_of, source_term, select_term, copy, check_parts, pick_parts, put_part, put_parts, puts_of, after_put, onward, into_parts, set_parts, slot_parts, leave_parts, exit_parts, bound_parts, step_parts, turn_parts, for_parts, cur_of, after_bound, for_head, for_test}
 use Rattle.block_forms.proofs.Exits.{exit_either}
 use Rattle.call_law.specs.Terms.{OneForEach}
 use Rattle.call_law.proofs.PartTerms.{AllFit, fit_both, Sits, sits_left, sits_right, source_fits, FixedFits, is_class_of}
 
-module _ (table : List Expr) (s : Setting) (fixed : FixedFits table s.numbers.fixed) where
+length_from : (n : ℕ) (k : ℕ) → length (count_from k n) ≡ n
+length_from zero k = refl
+length_from (suc n) k = let e : length (count_from (suc k) n) ≡ n = length_from n (suc k) in omega (arith, e)
+
+module _ (types : List Ty) (table : List Expr) (s : Setting) (fixed : FixedFits table s.numbers.fixed) where
   abbrev Fit : List Part → Type 0
   Fit = AllFit table
 
@@ -76,8 +89,8 @@ module _ (table : List Expr) (s : Setting) (fixed : FixedFits table s.numbers.fi
   at_same : (j k : ℕ) (es : List Expr) → j ≡ k → At j es → At k es
   at_same j k es e h = subst (λ n. At n es) e h
 
-  no_row : RowFits [] []
-  no_row = record { count = refl; goes = λ p around next h. tt }
+  no_rows : RowFits [] []
+  no_rows = record { count = refl; goes = λ p around next h. tt }
 
   more_row : (x : Laid) (es : Sources) (xs : List Laid) (ess : List Sources) → StatementFits x es → RowFits xs ess → RowFits (x ∷ xs) (es ∷ ess)
   more_row x es xs ess f r = record {
@@ -240,28 +253,92 @@ module _ (table : List Expr) (s : Setting) (fixed : FixedFits table s.numbers.fi
     goes = λ p around next h. slot_fits (slice_get s.slots slot) (node s.goto p.node) slot next (source_term p.expr e) (source_fits table p.expr e h.0);
   }
 
+  -- ---- SELECT INTO
+
+  select_fits : (k : ℕ) (q : Select) (e : Expr) → HasSlots q e → get_or table k expr.Null ≡ e → OneForEach table (select_term k q)
+  select_fits k q e h at = record { as_many = ap (λ ns. length ns) (sym h.same) ∙ ap (λ x. length (slots_of x)) (sym at) }
+
+  checks_fit : (strict : Bool) (c k first : ℕ) (q : Select) → At k (check_entries strict q) → Fit (check_parts s.goto s.numbers strict c k q first)
+  checks_fit false c k first q h = (tt, tt)
+  checks_fit true c k first q h =
+      let second : At (k + 1) (more_rows q ∷ []) = at_same (suc k) (k + 1) (more_rows q ∷ []) (omega arith) h.1 in
+      ((tt, select_fits k q (no_row q) (no_row_slots q) h.0), ((tt, refl), ((tt, select_fits (k + 1) q (more_rows q) (more_rows_slots q) second.0), ((tt, refl), tt))))
+
+  picks_fit : (kinds : List Ty) (q : Select) (ts : List Target) (places : List ℕ) (i k hidden puts : ℕ) → length places ≡ length ts
+      → At k (map (λ place. pick (picked kinds q) place) places) → Fit (pick_parts s.goto s.numbers ts i k hidden q puts)
+  picks_fit kinds q [] places i k hidden puts e h = tt
+  picks_fit kinds q (t ∷ ts) [] i k hidden puts e h = absurd (omega (arith, e))
+  picks_fit kinds q (t ∷ ts) (place ∷ places) i k hidden puts e h = (
+    (select_fits k q (pick (picked kinds q) place) (pick_slots kinds q place) h.0, tt),
+    picks_fit kinds q ts places (i + 1) (k + 1) (hidden + 1) puts (omega (arith, e))
+        (at_same (suc k) (k + 1) (map (λ place. pick (picked kinds q) place) places) (omega arith) h.1),
+  )
+
+  put_fits : (o : Option ℕ) (c hidden next : ℕ) → Fit (put_part s.goto s.numbers s.slots o c hidden next)
+  put_fits None c hidden next = ((tt, tt), tt)
+  put_fits (Some slot) c hidden next = slot_fits (slice_get s.slots slot) c slot next (copy s.numbers.fixed hidden) (fixed.copies hidden)
+
+  puts_fit : (ts : List Target) (c hidden next : ℕ) → Fit (put_parts s.goto s.numbers s.slots ts c hidden next)
+  puts_fit [] c hidden next = tt
+  puts_fit (t ∷ ts) c hidden next =
+      let after_it = after_put s.goto s.numbers s.slots t.1 c in
+      fit_both table (put_part s.goto s.numbers s.slots t.1 c hidden (onward ts after_it next)) (put_parts s.goto s.numbers s.slots ts after_it (hidden + 1) next)
+      (put_fits t.1 c hidden (onward ts after_it next)) (puts_fit ts after_it (hidden + 1) next)
+
+  check_count : (strict : Bool) (q : Select) → checks strict ≡ length (check_entries strict q)
+  check_count true q = refl
+  check_count false q = refl
+
+  kinds_count : (ts : List Target) → length (target_types types ts) ≡ length ts
+  kinds_count ts = length-map ts (λ (t : Target). type_of types t.1)
+
+  picks_count : (ts : List Target) (q : Select) → length (pick_entries (target_types types ts) q) ≡ length ts
+  picks_count ts q = length-map (below (length (target_types types ts))) (λ place. pick (picked (target_types types ts) q) place) ∙ (length_from (length (target_types types ts)) 0 ∙ kinds_count ts)
+
+  into_fits : (strict : Bool) (ts : List Target) (q : Select) (p : Position) (next : ℕ) → At p.expr (into_entries types strict ts q)
+      → Fit (into_parts s.goto s.numbers s.slots strict ts q p next)
+  into_fits strict ts q p next h =
+      let first = onward ts (node s.goto (p.node + 1)) next in
+      let puts = puts_of s.goto s.numbers ts p.node in
+      let kinds = target_types types ts in
+      let hidden = s.numbers.targets + p.targets in
+      let tests = check_parts s.goto s.numbers strict (node s.goto p.node) p.expr q first in
+      let picks = pick_parts s.goto s.numbers ts (p.node + 1) (p.expr + checks strict) hidden q puts in
+      let sets = put_parts s.goto s.numbers s.slots ts puts hidden next in
+      fit_both table tests (picks ++ sets) (checks_fit strict (node s.goto p.node) p.expr first q (sits_left table p.expr (check_entries strict q) (pick_entries kinds q) h))
+      (fit_both table picks sets
+      (picks_fit kinds q ts (below (length kinds)) (p.node + 1) (p.expr + checks strict) hidden puts (length_from (length kinds) 0 ∙ kinds_count ts)
+      (behind p.expr (checks strict) (check_entries strict q) (pick_entries kinds q) (check_count strict q) h))
+      (puts_fit ts puts hidden next))
+
+  into_count : (strict : Bool) (ts : List Target) (q : Select) → (into_size strict ts).expr ≡ length (into_entries types strict ts q)
+  into_count strict ts q = omega (arith, check_count strict q, picks_count ts q, length-append (check_entries strict q) (pick_entries (target_types types ts) q))
+
+  abbrev entries : StatementAlgebra
+  entries = sourcing (into_entries types)
+
   leave_count : (when : Option Expr) → one_if when ≡ length (if_there when)
   leave_count None = refl
   leave_count (Some e) = refl
 
   mutual
-    pub statement_fits : (x : Stmt) → StatementFits (stmt_of laying x) (stmt_of sourcing x)
+    pub statement_fits : (x : Stmt) → StatementFits (stmt_of laying x) (stmt_of entries x)
     statement_fits (b.Block' label decls _ body closing) = record {
-      count = omega (arith, decls_count decls, (row_fits body).count, length-append (defaults decls) (in_turn (stmts_of sourcing body)));
-      goes = block_fits label decls (stmts_of laying body) (stmts_of sourcing body) (row_fits body);
+      count = omega (arith, decls_count decls, (row_fits body).count, length-append (defaults decls) (in_turn (stmts_of entries body)));
+      goes = block_fits label decls (stmts_of laying body) (stmts_of entries body) (row_fits body);
     }
     statement_fits (b.Assign name slot e) = assign_fits name slot e
     statement_fits (b.If' _ arms other) = record {
-      count = omega (arith, (arms_fit arms).count, (else_fits other).count, length-append (in_turn (branches_of sourcing arms)) (of_else (else_of sourcing other)));
-      goes = branch_fits (branches_of laying arms) (branches_of sourcing arms) (else_of laying other) (else_of sourcing other) (arms_fit arms) (else_fits other) None tt;
+      count = omega (arith, (arms_fit arms).count, (else_fits other).count, length-append (in_turn (branches_of entries arms)) (of_else (else_of entries other)));
+      goes = branch_fits (branches_of laying arms) (branches_of entries arms) (else_of laying other) (else_of entries other) (arms_fit arms) (else_fits other) None tt;
     }
     statement_fits (b.Cases' _ arms other) = record {
-      count = omega (arith, (arms_fit arms).count, (else_fits other).count, length-append (in_turn (branches_of sourcing arms)) (of_else (else_of sourcing other)));
-      goes = branch_fits (branches_of laying arms) (branches_of sourcing arms) (else_of laying other) (else_of sourcing other) (arms_fit arms) (else_fits other) (Some case_not_found) refl;
+      count = omega (arith, (arms_fit arms).count, (else_fits other).count, length-append (in_turn (branches_of entries arms)) (of_else (else_of entries other)));
+      goes = branch_fits (branches_of laying arms) (branches_of entries arms) (else_of laying other) (else_of entries other) (arms_fit arms) (else_fits other) (Some case_not_found) refl;
     }
     statement_fits (b.Loop' label kind _ body closing) = record {
-      count = omega (arith, kind_count kind, (row_fits body).count, length-append (of_kind kind) (in_turn (stmts_of sourcing body)));
-      goes = loop_fits label kind (stmts_of laying body) (stmts_of sourcing body) (row_fits body);
+      count = omega (arith, kind_count kind, (row_fits body).count, length-append (of_kind kind) (in_turn (stmts_of entries body)));
+      goes = loop_fits label kind (stmts_of laying body) (stmts_of entries body) (row_fits body);
     }
     statement_fits (b.Exit label when) = record {
       count = leave_count when;
@@ -273,18 +350,21 @@ module _ (table : List Expr) (s : Setting) (fixed : FixedFits table s.numbers.fi
     }
     statement_fits (b.Return e) = record { count = refl; goes = λ p around next h. ((tt, source_fits table p.expr e h.0), tt) }
     statement_fits (b.Raise raised) = record { count = refl; goes = λ p around next h. ((tt, is_class_of raised), tt) }
-    statement_fits (b.Into strict targets query) = record { count = refl; goes = λ p around next h. (tt, tt) }
+    statement_fits (b.Into strict targets query) = record {
+      count = into_count strict targets query;
+      goes = λ p around next h. into_fits strict targets query p next h;
+    }
     statement_fits b.Nothing = record { count = refl; goes = λ p around next h. ((tt, tt), tt) }
 
-    row_fits : {m : _} → (r : b.Row_of-Stmt m) → RowFits (stmts_of laying r) (stmts_of sourcing r)
-    row_fits b.end_of-Stmt = no_row
-    row_fits (b.more_of-Stmt x rest) = more_row (stmt_of laying x) (stmt_of sourcing x) (stmts_of laying rest) (stmts_of sourcing rest) (statement_fits x) (row_fits rest)
+    row_fits : {m : _} → (r : b.Row_of-Stmt m) → RowFits (stmts_of laying r) (stmts_of entries r)
+    row_fits b.end_of-Stmt = no_rows
+    row_fits (b.more_of-Stmt x rest) = more_row (stmt_of laying x) (stmt_of entries x) (stmts_of laying rest) (stmts_of entries rest) (statement_fits x) (row_fits rest)
 
-    arms_fit : {m : _} → (r : b.Row_of-Arm m) → ArmsFit (branches_of laying r) (branches_of sourcing r)
+    arms_fit : {m : _} → (r : b.Row_of-Arm m) → ArmsFit (branches_of laying r) (branches_of entries r)
     arms_fit b.end_of-Arm = no_arms
     arms_fit (b.more_of-Arm test _ body rest) =
-        more_arms test (stmts_of laying body) (stmts_of sourcing body) (branches_of laying rest) (branches_of sourcing rest) (row_fits body) (arms_fit rest)
+        more_arms test (stmts_of laying body) (stmts_of entries body) (branches_of laying rest) (branches_of entries rest) (row_fits body) (arms_fit rest)
 
-    else_fits : (r : b.Held-Stmt-If-1) → ElseFits (else_of laying r) (else_of sourcing r)
+    else_fits : (r : b.Held-Stmt-If-1) → ElseFits (else_of laying r) (else_of entries r)
     else_fits b.None' = no_else
-    else_fits (b.Some' _ body) = some_else (stmts_of laying body) (stmts_of sourcing body) (row_fits body)
+    else_fits (b.Some' _ body) = some_else (stmts_of laying body) (stmts_of entries body) (row_fits body)

@@ -263,20 +263,26 @@ fn answers<'x>(
     Ok(())
 }
 
-#[test]
-fn functions_answer_as_their_queries(rt: HostRuntime) -> Result<(), Fail> {
-    for row in ROWS.iter() {
+/// Each function of the rows answers as its query does.
+pub fn all_answer(
+    rt: &(impl Abort + AllocGlobal),
+    rows: &[(&str, &[&str], &str, &str, u8, &str)],
+) -> Result<(), Fail> {
+    for row in rows {
         let compiled = run(rt.alloc(), &["compile", "s.sql", "f.sql"], row.0, b"", b"")?;
         assert_eq!(rt; code(&compiled.status), 0);
-        answers(&rt, row, compiled.sink.written())?;
+        answers(rt, row, compiled.sink.written())?;
     }
     Ok(())
 }
 
-#[test]
-fn certificates_are_accepted(rt: HostRuntime) -> Result<(), Fail> {
+/// The certificate of each function of the rows is accepted, and the query beside it is that of `compile`.
+pub fn all_are_certified(
+    rt: &(impl Abort + AllocGlobal),
+    rows: &[(&str, &[&str], &str, &str, u8, &str)],
+) -> Result<(), Fail> {
     let alloc = rt.alloc();
-    for (function, _, _, _, _, _) in ROWS.iter() {
+    for (function, _, _, _, _, _) in rows {
         let compiled = run(alloc, &["compile", "s.sql", "f.sql"], function, b"", b"")?;
         let certified = run(alloc, &["certify", "s.sql", "f.sql"], function, b"", b"")?;
         assert_eq!(rt; code(&certified.status), 0);
@@ -285,7 +291,7 @@ fn certificates_are_accepted(rt: HostRuntime) -> Result<(), Fail> {
         let query = parts.next().unwrap_or(b"");
         assert_eq!(rt; query, compiled.sink.written());
         show(
-            &rt,
+            rt,
             &run(
                 alloc,
                 &["check", "s.sql", "f.sql", "q.sql", "c.json"],
@@ -298,4 +304,14 @@ fn certificates_are_accepted(rt: HostRuntime) -> Result<(), Fail> {
         );
     }
     Ok(())
+}
+
+#[test]
+fn functions_answer_as_their_queries(rt: HostRuntime) -> Result<(), Fail> {
+    all_answer(&rt, &ROWS)
+}
+
+#[test]
+fn certificates_are_accepted(rt: HostRuntime) -> Result<(), Fail> {
+    all_are_certified(&rt, &ROWS)
 }

@@ -29,6 +29,8 @@ mod rows;
 #[cfg(test)]
 mod rules;
 #[cfg(test)]
+mod selects_into;
+#[cfg(test)]
 mod system;
 #[cfg(test)]
 mod walks;

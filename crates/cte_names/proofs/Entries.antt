@@ -1,5 +1,5 @@
 -- Each entry of a checked function's table is clear where the query has it.
-use Rattle.std.proofs.Common.{◌≡◌, refl, ap, sym, subst, ◌∙◌, ℕ, ℤ, zero, suc, pos, ◌==◌, true, false, List, [], ◌∷◌, map, get_or}
+use Rattle.std.proofs.Common.{◌≡◌, refl, ap, sym, subst, ◌∙◌, ℕ, ℤ, zero, suc, ◌+◌, ◌<◌, ◌≤◌, arith, pos, ◌==◌, Bool, true, false, List, [], ◌∷◌, map, length, get_or}
 use Rattle.std.proofs.lemmas.Bool.{eqb-true, eq-eqb}
 use Rattle.away_values.specs.declared.operators.ChainOp.TheVariants as chain
 use Rattle.away_values.specs.declared.operators.CmpOp.{CmpOp}
@@ -14,20 +14,33 @@ use Rattle.away_trees.specs.declared.queries.Expr.{Expr}
 use Rattle.away_trees.specs.declared.queries.Expr.TheVariants as expr
 use Rattle.away_trees.specs.declared.queries.Expr.TheBlock as b
 use Rattle.away_trees.specs.declared.schemas.Schema.{Schema}
-use Rattle.away_trees.specs.Algebra.{Algebra}
+use Rattle.away_trees.specs.declared.queries.Expr.TheViews.{out-Select}
+use Rattle.away_trees.specs.declared.queries.Select.{Select}
+use Rattle.away_trees.specs.declared.statements.Function.{Function}
+use Rattle.away_trees.specs.Algebra.{Algebra, expr_of, select_of}
+use Rattle.away_trees.specs.Count.{nodes}
+use Rattle.away_trees.specs.Limits.{most_nodes}
 use Rattle.away_trees.proofs.Equations as eq
-use Rattle.away_names.specs.Lookups.{Scope}
+use Rattle.away_names.specs.Lookups.{Scope, inside}
 use Rattle.away_names.specs.Trees.{named_expr}
 use Rattle.sql_meaning.specs.Placed.{column_of, placed, placed_at}
-use Rattle.sql_meaning.specs.Reads.{reads, slots_of}
+use Rattle.sql_meaning.specs.Reads.{Reads, reading, reads, slots_of}
+use Rattle.sql_meaning.specs.Template.{count_from}
+use Rattle.plsql_meaning.specs.Sight.{query_of}
+use Rattle.select_into.specs.Entries.{Target, target_types, check_entries, pick_entries, into_entries}
+use Rattle.select_into.specs.Wrapped.{count_compared, pick, picked}
+use Rattle.away_types.specs.declared.slots.Slot.{Slot}
+use Rattle.away_types.specs.CheckedFunctions.{IsChecked}
 use Rattle.block_forms.specs.declared.fixed_list.Fixed.{Fixed}
 use Rattle.block_forms.specs.declared.fixed_list.Fixed.TheVariants as fix
-use Rattle.block_forms.specs.Expressions.{sources, expressions}
+use Rattle.block_forms.specs.Expressions.{sources, source_expressions, expressions, whole_select}
 use Rattle.block_forms.specs.FixedList.{a, b as second, null_as, a_is_null, of_two, compared, expression, entries, fixed_list}
+use Rattle.block_forms.specs.Intos.{Into, intos}
 use Rattle.block_forms.specs.Places.{Each}
+use Rattle.block_forms.specs.Slots.{shown_types}
 use Rattle.type_soundness.specs.Sorts.{Every}
 use Rattle.type_soundness.proofs.Lists.{every_append}
-use Rattle.qualified_names.specs.Unambiguous.{value, IsClear}
+use Rattle.qualified_names.specs.Unambiguous.{value, select, IsClear}
 use Rattle.qualified_names.specs.Unambiguous as c
 use Rattle.cte_names.specs.Own.{SeesTables, IsOwn}
 use Rattle.cte_names.specs.ExpressionLaws.{PlacedAreClear}
@@ -35,6 +48,11 @@ use Rattle.cte_names.proofs.Standing.{placing, Allowed}
 use Rattle.cte_names.proofs.PlacedTrees.{expr_clear}
 use Rattle.cte_names.proofs.OwnLeaves.{own_leaves}
 use Rattle.cte_names.proofs.ReadSlots.{is_in, stands, reads_own}
+use Rattle.cte_names.proofs.FewTargets.{IsFew, few_targets}
+use Rattle.cte_names.proofs.IntoClear.{select_inside, test_clear, pick_clear, of_test, of_pick, as_expression}
+use Rattle.cte_names.proofs.IntoLists.{HasItsList, checked_lists}
+use Rattle.cte_names.proofs.ItemsTyped.{picked_length, picked_reads, picked_clear}
+use Rattle.cte_names.proofs.SourceEntries.{stmt_goes}
 use Rattle.cte_names.proofs.Sources.{IsResolved, checked_sources}
 
 -- clear at each place that sees the schema's tables, where its slots are columns of the query's own
@@ -73,6 +91,15 @@ module _ (s : Scope) (ref : ℕ → Col) where
 
 -- ---- source expressions
 
+-- two facts of each element
+both : {A : Type 0} (P Q : A → Type 0) (xs : List A) → Every P xs → Every Q xs → Every (λ x. P x × Q x) xs
+both P Q [] h k = tt
+both P Q (x ∷ xs) h k = ((h.0, k.0), both P Q xs h.1 k.1)
+
+as_many_types : (types : List Ty) (targets : List Target) → length (target_types types targets) ≡ length targets
+as_many_types types [] = refl
+as_many_types types (t ∷ ts) = ap (λ n. suc n) (as_many_types types ts)
+
 module _ (schema : Schema) where
   source_placed : (e : Expr) → IsResolved schema e → Placed schema e
   source_placed e r t s ref tables own = whole s ref t e (subst (λ e. IsClear value s (placed ref e)) r.resolved at)
@@ -82,12 +109,63 @@ module _ (schema : Schema) where
 
       at : IsClear value s (placed ref (named_expr r.written r.scope).it)
       at =
-          expr_clear s (is_in (slots_of e)) (column_of ref) (own_leaves s (is_in (slots_of e)) ref owned) r.written r.scope r.plain.in_function (λ x k. tables.tables x k ∙ ap (λ f. f x) (sym r.plain.tables)) r.plain.no_levels r.clean
+          expr_clear s (is_in (slots_of e)) (column_of ref) (own_leaves s (is_in (slots_of e)) ref owned) r.written r.scope [] r.plain.in_function (λ x k. tables.tables x k ∙ ap (λ f. f x) (sym r.plain.tables)) r.plain.no_levels tt r.clean
           (subst (λ x. Allowed (is_in (slots_of e)) (reads x)) (sym r.resolved) (reads_own e))
 
-  sources_placed : (es : List Expr) → Every (IsResolved schema) es → Every (Placed schema) es
-  sources_placed [] h = tt
-  sources_placed (e ∷ es) h = (source_placed e h.0, sources_placed es h.1)
+  -- ---- the tests and the picks of a SELECT INTO
+
+  module _ (s : Scope) (ref : ℕ → Col) (tables : SeesTables schema s) (e : Expr) (own : Each (λ k. IsOwn s.levels (ref k)) (slots_of e)) where
+    owned_by : (i : ℕ) → is_in (slots_of e) i ≡ true → IsOwn s.levels (ref i)
+    owned_by i h = let p = stands (slots_of e) i h in own p.place i p.there
+
+    -- the select is clear one select further in, if it reads slots of the entry alone
+    select_placed : (q : Select) → IsResolved schema (query_of q) → Allowed (is_in (slots_of e)) (select_of reading q 1) → IsClear select (inside [] s) (select_of (placing (column_of ref)) q 1)
+    select_placed q r h =
+        select_inside (column_of ref) (inside [] s) q 1
+        (subst (λ x. IsClear value (inside [] s) (expr_of (placing (column_of ref)) x 1)) r.resolved
+        (expr_clear s (is_in (slots_of e)) (column_of ref) (own_leaves s (is_in (slots_of e)) ref owned_by) r.written r.scope ([] ∷ []) r.plain.in_function (λ x k. tables.tables x k ∙ ap (λ f. f x) (sym r.plain.tables)) r.plain.no_levels (refl, tt) r.clean
+        (subst (λ x. Allowed (is_in (slots_of e)) (expr_of reading x 1)) (sym r.resolved) (as_expression (is_in (slots_of e)) q 1 h))))
+
+  test_of : (op : CmpOp) (than : ℤ) (q : Select) → IsResolved schema (query_of q) → length (out-Select q).list ≤ most_nodes → Placed schema (count_compared op q than)
+  test_of op than q r few t s ref tables own =
+      let e : Expr = count_compared op q than in
+      whole s ref t e (test_clear (column_of ref) s q few (select_placed s ref tables e own q r (of_test (is_in (slots_of e)) op than q (reads_own e))) op than)
+
+  pick_of : (types : List Ty) (q : Select) → IsResolved schema (query_of q) → length (out-Select q).list ≤ most_nodes → (place : ℕ) → place < length (out-Select q).list → Placed schema (pick (picked types q) place)
+  pick_of types q r few place lt t s ref tables own =
+      let p : Select = picked types q in
+      let e : Expr = pick p place in
+      let may = subst (λ (x : Reads). Allowed (is_in (slots_of e)) (x 1)) (picked_reads types q) (of_pick (is_in (slots_of e)) place p (reads_own e)) in
+      whole s ref t e
+      (pick_clear (column_of ref) s p (omega (arith, few, picked_length types q)) (picked_clear (column_of ref) (inside [] s) 1 types q (select_placed s ref tables e own q r may)) place (omega (arith, lt, picked_length types q)))
+
+  checks_placed : (strict : Bool) (q : Select) → IsResolved schema (query_of q) → length (out-Select q).list ≤ most_nodes → Every (Placed schema) (check_entries strict q)
+  checks_placed true q r few = (test_of cmp.Eq (pos 0) q r few, (test_of cmp.Gt (pos 1) q r few, tt))
+  checks_placed false q r few = tt
+
+  picks_placed : (types : List Ty) (q : Select) → IsResolved schema (query_of q) → length (out-Select q).list ≤ most_nodes → (i n : ℕ) → i + n ≤ length (out-Select q).list
+      → Every (Placed schema) (map (λ place. pick (picked types q) place) (count_from i n))
+  picks_placed types q r few i zero lt = tt
+  picks_placed types q r few i (suc n) lt = (pick_of types q r few i (omega (arith, lt)), picks_placed types q r few (suc i) n (omega (arith, lt)))
+
+  abbrev Fits : Into → Type 0
+  Fits i = HasItsList i × IsFew most_nodes i
+
+  into_placed : (types : List Ty) (strict : Bool) (targets : List Target) (q : Select) → Fits (record { targets = targets; query = q }) → Every (IsResolved schema) (whole_select strict targets q)
+      → Every (Placed schema) (into_entries types strict targets q)
+  into_placed types strict targets q f r =
+      let own : List Ty = target_types types targets in
+      let few : length (out-Select q).list ≤ most_nodes = omega (arith, f.0, f.1) in
+      every_append (Placed schema) (check_entries strict q) (pick_entries own q) (checks_placed strict q r.0 few)
+      (picks_placed own q r.0 few 0 (length own) (omega (arith, f.0, as_many_types types targets)))
+
+  -- ---- all of a function
+
+  sources_placed : (written f : Function) (slots : List Slot) → IsChecked schema written f slots → nodes f ≤ most_nodes → Every (Placed schema) (source_expressions f)
+  unfolding sources intos
+  sources_placed written f slots h few =
+      stmt_goes whole_select (into_entries (shown_types f)) (IsResolved schema) (Placed schema) Fits source_placed (into_placed (shown_types f)) f.body
+      (both HasItsList (IsFew most_nodes) (intos f.body) (checked_lists schema written f slots h) (few_targets f most_nodes few)) (checked_sources schema written f slots h)
 
   -- ---- the fixed list
 
@@ -153,5 +231,5 @@ module _ (schema : Schema) where
   at_place (e ∷ es) h (suc i) = at_place es h.1 i
 
 pub placed_are_clear : PlacedAreClear
-placed_are_clear schema written f slots h i t s ref tables own =
-    at_place schema (expressions f) (every_append (Placed schema) (sources f.body) fixed_list (sources_placed schema (sources f.body) (checked_sources schema written f slots h)) (fixed_placed schema)) i t s ref tables own
+placed_are_clear schema written f slots h few i t s ref tables own =
+    at_place schema (expressions f) (every_append (Placed schema) (source_expressions f) fixed_list (sources_placed schema written f slots h few) (fixed_placed schema)) i t s ref tables own

@@ -40,10 +40,13 @@ nearest_further a n d k (l ∷ ls) =
 -- nothing of the function's own has the alias
 past_own : (a n : Name) → is_kept a ≡ true → (k : ℕ) (ls ms more : List Level) → LevelsSo ls ms → nearest (by_alias a n) k (ms ++ more) ≡ nearest (by_alias a n) (k + length ms) more
 past_own a n h k [] [] more r = ap (λ j. nearest (by_alias a n) j more) (let z : k ≡ k + 0 = omega arith in z)
+past_own a n h k [] (m ∷ ms) more r =
+    ap (λ o. or_else o (nearest (by_alias a n) (k + 1) (ms ++ more))) (ap (in_item a n k 0) r.0)
+    ∙ (past_own a n h (k + 1) [] ms more r.1 ∙ ap (λ j. nearest (by_alias a n) j more) (let z : k + 1 + length ms ≡ k + length (m ∷ ms) = omega arith in z))
+past_own a n h k (l ∷ ls) [] more r = absurd r
 past_own a n h k (l ∷ ls) (m ∷ ms) more r =
     ap (λ o. or_else o (nearest (by_alias a n) (k + 1) (ms ++ more))) (not_here a n h k 0 l m r.0)
     ∙ (past_own a n h (k + 1) ls ms more r.1 ∙ ap (λ j. nearest (by_alias a n) j more) (let z : k + 1 + length ms ≡ k + length (m ∷ ms) = omega arith in z))
-past_own a n h k _ _ more r = absurd r
 
 pub found_further : (a n : Name) → is_kept a ≡ true → (ls ms more : List Level) → LevelsSo ls ms → (c : Col) → column_qualified a n more ≡ Some (record { column = c; many = false })
     → column_qualified a n (ms ++ more) ≡ Some (record { column = further (length ms) c; many = false })

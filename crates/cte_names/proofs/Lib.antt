@@ -8,10 +8,16 @@ pub mod PlacedTrees
 pub mod OwnLeaves
 pub mod ReadSlots
 pub mod Sources
-pub mod Entries
+pub mod SourceEntries
+pub mod IntoLists
+pub mod FewTargets
 pub mod Differences
 pub mod OwnNames
 pub mod OwnColumns
+pub mod IntoNames
+pub mod ItemsTyped
+pub mod IntoClear
+pub mod Entries
 pub mod PassedNames
 pub mod ItemsSeen
 pub mod SmallParts

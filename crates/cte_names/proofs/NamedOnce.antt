@@ -102,8 +102,8 @@ module _ (schema : Schema) (m : Making) (narrow : length m.tail.columns < 2 ^ 64
       }
 
 pub table_named_once : TableIsNamedOnce
-table_named_once schema written f slots g z a r q checked columned templated fits =
+table_named_once schema written f slots g z a r q checked few columned templated fits =
     let m : Making = making_of f slots z a r in
-    let clears : TableClears schema m.table = table_clears schema written f slots checked in
+    let clears : TableClears schema m.table = table_clears schema written f slots checked few in
     named_once schema m fits.columns g.entry (start_clear schema m clears fits.columns (plain_tables schema) (sees_plain schema) g.entry)
     (rows_clear schema m clears fits.columns (plain_tables schema) (sees_plain schema) slots z.names columned.as_many columned.each templated.trees fits)

@@ -171,9 +171,9 @@ module _ (q : Scope) (slots : ℕ → Bool) (leaf : ℕ → ℕ → Expr) (leave
         sel.query_clear q slots leaf s ms f xs (firsts (λ x y z. part.Selects q slots leaf x) (part.Selects q slots leaf) (λ x y z r. r) xs ys zs r) (clean_parts (breaks rule.Types (is_some x)) (n.united xs s).note g).1 a;
   }
 
-  -- an expression under no select
-  pub expr_clear : (e : Expr) (s : Scope) → s.in_function ≡ true → ((x : Name) → is_kept x ≡ false → q.table x ≡ s.table x) → s.levels ≡ [] → Clean (named_expr e s).note
-      → Allowed slots (expr_of reading (named_expr e s).it 0) → IsClear value q (expr_of P (named_expr e s).it 0)
+  -- an expression under no select of the function, and perhaps under some of the query's own where nothing is in sight
+  pub expr_clear : (e : Expr) (s : Scope) (ms : List Level) → s.in_function ≡ true → ((x : Name) → is_kept x ≡ false → q.table x ≡ s.table x) → s.levels ≡ [] → LevelsSo [] ms → Clean (named_expr e s).note
+      → Allowed slots (expr_of reading (named_expr e s).it (length ms)) → IsClear value (under ms q) (expr_of P (named_expr e s).it (length ms))
   unfolding named_expr
-  expr_clear e s h tables l g a =
-      (expr_related naming naming naming relation steps e s [] (record { in_function = h; tables = tables; so = subst (λ ls. LevelsSo ls []) (sym l) tt }) g a).clear
+  expr_clear e s ms h tables l so g a =
+      (expr_related naming naming naming relation steps e s ms (record { in_function = h; tables = tables; so = subst (λ ls. LevelsSo ls ms) (sym l) so }) g a).clear

@@ -28,8 +28,12 @@ pub record SeenSo (o p : Seen) : Type 0 where
 abbrev pub LevelSo : Level → Level → Type 0
 LevelSo = Zipped SeenSo
 
+-- the function's selects, and behind them some of the query's own where nothing is in sight
 abbrev pub LevelsSo : List Level → List Level → Type 0
-LevelsSo = Zipped LevelSo
+LevelsSo [] [] = Unit {0}
+LevelsSo [] (m ∷ ms) = (m ≡ []) × LevelsSo [] ms
+LevelsSo (l ∷ ls) [] = ⊥
+LevelsSo (l ∷ ls) (m ∷ ms) = LevelSo l m × LevelsSo ls ms
 
 never : (b : Bool) → b ≡ true → b ≡ false → ⊥
 never true h k = cc
@@ -86,7 +90,7 @@ abbrev pub by_alias : Name → Name → ℕ → Level → Option Hit
 by_alias a n depth level = in_item a n depth 0 level
 
 nearest_still : (a n : Name) → is_kept n ≡ false → (k : ℕ) (ls ms more : List Level) → LevelsSo ls ms → (hit : Hit) → nearest (by_alias a n) k ls ≡ Some hit → nearest (by_alias a n) k (ms ++ more) ≡ Some hit
-nearest_still a n h k [] [] more r hit e = absurd cc
+nearest_still a n h k [] ms more r hit e = absurd cc
 nearest_still a n h k (l ∷ ls) (m ∷ ms) more r hit e =
     ap (λ o. or_else o (nearest (by_alias a n) (k + 1) (ms ++ more))) (same_item a n h k 0 l m r.0) ∙ by (nearest_still a n h (k + 1) ls ms more r.1 hit) (in_item a n k 0 l) refl e
   where
@@ -94,7 +98,7 @@ nearest_still a n h k (l ∷ ls) (m ∷ ms) more r hit e =
         → or_else (in_item a n k 0 l) (nearest (by_alias a n) (k + 1) (ms ++ more)) ≡ Some hit
     by go (Some x) is e = ap (λ o. or_else o (nearest (by_alias a n) (k + 1) (ms ++ more))) is ∙ e
     by go None is e = ap (λ o. or_else o (nearest (by_alias a n) (k + 1) (ms ++ more))) is ∙ go e
-nearest_still a n h k _ _ more r hit e = absurd r
+nearest_still a n h k (l ∷ ls) [] more r hit e = absurd r
 
 pub found_still : (a n : Name) → is_kept n ≡ false → (ls ms more : List Level) → LevelsSo ls ms → (hit : Hit) → column_qualified a n ls ≡ Some hit → column_qualified a n (ms ++ more) ≡ Some hit
 unfolding column_qualified
@@ -119,6 +123,12 @@ beside R [] [] r i x e = absurd (none_some x e)
 beside R (x ∷ xs) (y ∷ ys) r zero z e = record { other = y; there = refl; same = subst (λ w. R w y) (some_is x z e) r.0 }
 beside R (x ∷ xs) (y ∷ ys) r (suc i) z e = let b = beside R xs ys r.1 i z e in record { other = b.other; there = b.there; same = b.same }
 beside R _ _ r i x e = absurd r
+
+beside_level : (ls ms : List Level) → LevelsSo ls ms → (i : ℕ) (x : Level) → slice_get ls i ≡ Some x → Beside LevelSo ms i x
+beside_level [] ms r i x e = absurd (none_some x e)
+beside_level (l ∷ ls) [] r i x e = absurd r
+beside_level (l ∷ ls) (m ∷ ms) r zero z e = record { other = m; there = refl; same = subst (λ w. LevelSo w m) (some_is l z e) r.0 }
+beside_level (l ∷ ls) (m ∷ ms) r (suc i) z e = let b = beside_level ls ms r.1 i z e in record { other = b.other; there = b.there; same = b.same }
 
 still_there : {A : Type 0} (xs ys : List A) (i : ℕ) (x : A) → slice_get xs i ≡ Some x → slice_get (xs ++ ys) i ≡ Some x
 still_there [] ys i x e = absurd (none_some x e)
@@ -177,7 +187,7 @@ is_called levels c a n h =
 pub called_still : (ls ms more : List Level) → LevelsSo ls ms → (c : Col) (a n : Name) → reference ls c ≡ expr.Dotted a n → reference (ms ++ more) c ≡ expr.Dotted a n
 called_still ls ms more r c a n e =
     let h = called_by ls c a n e in
-    let l = beside LevelSo ls ms r c.level h.level h.level_there in
+    let l = beside_level ls ms r c.level h.level h.level_there in
     let o = beside SeenSo h.level l.other l.same c.item h.item h.item_there in
     let x = beside NameSo h.item.columns o.other.columns o.same.columns c.column (Some n) h.name_there in
     is_called (ms ++ more) c a n (record {

@@ -1,7 +1,10 @@
 -- Each source expression of a checked function is a written one whose names are resolved where the function's variables and the schema's tables are in
--- sight alone, and break no rule.
-use Rattle.std.proofs.Common.{length, ◌≡◌, refl, sym, subst, true, false, List, [], ◌∷◌, ◌++◌, map, fold, Option, Some, None, option_map}
+-- sight alone, and break no rule. The select of a SELECT INTO counts as one expression here.
+use Rattle.std.proofs.Common.{length, ◌≡◌, refl, ap, sym, subst, ◌∙◌, true, false, List, [], ◌∷◌, ◌++◌, map, fold, Option, Some, None, option_map}
 use Rattle.away_trees.specs.declared.queries.Expr.{Expr}
+use Rattle.away_trees.specs.declared.queries.Expr.TheOpen as ex
+use Rattle.away_trees.specs.declared.queries.Expr.TheViews.{roll-Query}
+use Rattle.away_trees.specs.declared.queries.Select.{Select}
 use Rattle.away_trees.specs.declared.schemas.Schema.{Schema}
 use Rattle.away_trees.specs.declared.statements.Arm.{Arm}
 use Rattle.away_trees.specs.declared.statements.Decl.{Decl}
@@ -12,14 +15,18 @@ use Rattle.away_trees.specs.declared.statements.Stmt.{Stmt}
 use Rattle.away_trees.specs.declared.statements.Stmt.TheVariants as stmt
 use Rattle.away_trees.specs.declared.statements.Stmt.TheOpen as st
 use Rattle.away_trees.specs.declared.statements.Stmt.TheBlock as b
-use Rattle.away_trees.specs.StatementAlgebra.{stmt_of, branch_of, stmts_of, branches_of, else_of}
+use Rattle.away_trees.specs.Algebra.{expr_of, select_of}
+use Rattle.away_trees.specs.StatementAlgebra.{StatementAlgebra, stmt_of, branch_of, stmts_of, branches_of, else_of}
+use Rattle.away_trees.proofs.Equations as tree
 use Rattle.away_trees.proofs.StatementEquations as eq
 use Rattle.away_names.specs.declared.rule.Rule.TheVariants as rule
 use Rattle.away_names.specs.declared.scope.Variable.{Variable}
 use Rattle.away_names.specs.Lookups.{Name, Scope, variable_named}
-use Rattle.away_names.specs.Notes.{breaks, held}
+use Rattle.away_names.specs.Naming.{naming, term, whole}
+use Rattle.away_names.specs.Notes.{breaks, clean, held, joined}
+use Rattle.away_names.specs.Rules.{lesser}
 use Rattle.away_names.specs.Tables.{table_of}
-use Rattle.away_names.specs.Trees.{named_expr}
+use Rattle.away_names.specs.Trees.{named_expr, named_select}
 use Rattle.away_types.specs.declared.resolved.Declared.{Declared}
 use Rattle.away_types.specs.declared.resolved.Resolved.{Resolved}
 use Rattle.away_types.specs.declared.slots.Slot.{Slot}
@@ -29,10 +36,11 @@ use Rattle.away_types.specs.FunctionChecks.{entry, start, body_of, function_note
 use Rattle.away_types.specs.ResolvedBodies.{resolved_stmt}
 use Rattle.away_types.specs.Statements as n
 use Rattle.away_types.specs.Statements.{Spot, By, resolving, assigned}
-use Rattle.block_forms.specs.Expressions.{Sources, sourcing, sources, in_turn, if_there, defaults, of_kind, of_else}
+use Rattle.plsql_meaning.specs.Sight.{query_of}
+use Rattle.block_forms.specs.Expressions.{Sources, sourcing, sources, in_turn, if_there, defaults, of_kind, of_else, whole_select}
 use Rattle.type_soundness.specs.Sorts.{Every}
 use Rattle.away_types.proofs.ClearReports.{Clear, clear_own, clear_parts, clear_within, clear_branches, clear_bodies}
-use Rattle.type_soundness.proofs.CleanNotes.{Clean, clean_parts, not_broken}
+use Rattle.type_soundness.proofs.CleanNotes.{Clean, clean_parts}
 use Rattle.type_soundness.proofs.Lists.{every_append}
 
 -- a place of a function under no select, where the schema's tables are seen
@@ -40,6 +48,10 @@ pub record Plain (schema : Schema) (s : Scope) : Type 0 where
   pub in_function : s.in_function ≡ true
   pub no_levels : s.levels ≡ []
   pub tables : s.table ≡ table_of schema
+
+-- the expressions of a text, where the select of a SELECT INTO is one
+abbrev pub texts : StatementAlgebra
+texts = sourcing whole_select
 
 pub record IsResolved (schema : Schema) (e : Expr) : Type 0 where
   pub written : Expr
@@ -105,10 +117,10 @@ module _ (schema : Schema) where
   -- ---- statements, by their parts
 
   abbrev of_stmt : Stmt → Sources
-  of_stmt x = stmt_of sourcing x
+  of_stmt x = stmt_of texts x
 
   abbrev of_arm : Arm → Sources
-  of_arm x = branch_of sourcing x
+  of_arm x = branch_of texts x
 
   by_parts : (u v : Sources) → u ≡ v → All v → All u
   by_parts u v e h = subst All (sym e) h
@@ -123,7 +135,7 @@ module _ (schema : Schema) where
       let xs = n.each_resolved gs inner ds.slots in
       let whole = clear_within _ _ xs.note c in
       let own = clean_parts _ ds.note whole.0 in
-      by_parts _ _ (eq.of_block sourcing label ds.it xs.it closing)
+      by_parts _ _ (eq.of_block texts label ds.it xs.it closing)
       (behind (defaults ds.it) (in_turn (map of_stmt xs.it)) (defaults_resolved ds.it (decls_resolved spot.scope p decls (n.none_declared spot.scope slots) (λ c. tt) own.1))
       (each_resolved of_stmt gs h inner ds.slots (seen_plain spot.scope ds.variables p) whole.1))
 
@@ -164,13 +176,31 @@ module _ (schema : Schema) where
       let xs = n.each_resolved gs inner head.slots in
       let whole = clear_within _ _ xs.note c in
       let own = clean_parts _ head.note whole.0 in
-      by_parts _ _ (eq.of_loop sourcing label head.it xs.it closing)
+      by_parts _ _ (eq.of_loop texts label head.it xs.it closing)
       (behind (of_kind head.it) (in_turn (map of_stmt xs.it)) (head_resolved k spot.scope slots p own.1) (each_resolved of_stmt gs h inner head.slots (seen_plain spot.scope head.variables p) whole.1))
 
   assign_resolved : (name : Name) (e : Expr) (spot : Spot) → Plain schema spot.scope → (v : Option Variable) → Clean (assigned name v (named_expr e spot.scope)).note → All (of_stmt (assigned name v (named_expr e spot.scope)).it)
   unfolding assigned
   assign_resolved name e spot p None c = one_resolved e spot.scope p (clean_parts (breaks rule.Names true) (named_expr e spot.scope).note c).1
   assign_resolved name e spot p (Some v) c = one_resolved e spot.scope p (clean_parts (breaks rule.Constants v.constant) (named_expr e spot.scope).note c).1
+
+  -- ---- SELECT INTO
+
+  scalar_is : (q : Select) → expr_of naming (query_of q) ≡ term (ex.Scalar (whole (record { recursive = None; selects = select_of naming q ∷ [] })))
+  scalar_is q = tree.of_scalar naming (roll-Query (record { recursive = None; selects = q ∷ [] })) ∙ ap (λ w. term (ex.Scalar w)) (tree.of_query naming (q ∷ []))
+
+  into_resolved : (q : Select) (scope : Scope) → Plain schema scope → Clean (named_select q scope).note → All (query_of (named_select q scope).it.it ∷ [])
+  unfolding named_expr named_select joined breaks clean lesser
+  into_resolved q scope p c = (
+    record {
+      written = query_of q;
+      scope = scope;
+      plain = p;
+      clean = ap (λ t. (t.judge scope).note.least) (scalar_is q) ∙ c;
+      resolved = ap (λ t. (t.judge scope).it) (scalar_is q);
+    },
+    tt,
+  )
 
   -- ---- all statements
 
@@ -181,14 +211,14 @@ module _ (schema : Schema) where
     pub stmt_resolved : (x : Stmt) → ResolvesBy of_stmt (stmt_of resolving x)
     stmt_resolved (b.Block' label decls m body closing) = block_resolved label decls (stmts_of resolving body) closing (stmts_resolved body)
     stmt_resolved (b.Assign name slot e) = λ spot slots p c. assign_resolved name e spot p (variable_named name spot.scope.variables) (clean_parts _ _ (clear_own 1 _ c)).1
-    stmt_resolved (b.If' m arms o) = branched_resolved (λ arms o. stmt.If arms o) (λ arms o. eq.of_if sourcing arms o) (branches_of resolving arms) (else_of resolving o) (branches_resolved arms) (else_resolved o)
-    stmt_resolved (b.Cases' m arms o) = branched_resolved (λ arms o. stmt.Cases arms o) (λ arms o. eq.of_cases sourcing arms o) (branches_of resolving arms) (else_of resolving o) (branches_resolved arms) (else_resolved o)
+    stmt_resolved (b.If' m arms o) = branched_resolved (λ arms o. stmt.If arms o) (λ arms o. eq.of_if texts arms o) (branches_of resolving arms) (else_of resolving o) (branches_resolved arms) (else_resolved o)
+    stmt_resolved (b.Cases' m arms o) = branched_resolved (λ arms o. stmt.Cases arms o) (λ arms o. eq.of_cases texts arms o) (branches_of resolving arms) (else_of resolving o) (branches_resolved arms) (else_resolved o)
     stmt_resolved (b.Loop' label k m body closing) = loop_resolved label k (stmts_of resolving body) closing (stmts_resolved body)
     stmt_resolved (b.Exit label when) = λ spot slots p c. maybe_resolved when spot.scope p (clean_parts _ _ (clean_parts _ _ (clear_own 1 _ c)).1).1
     stmt_resolved (b.Continue label when) = λ spot slots p c. maybe_resolved when spot.scope p (clean_parts _ _ (clean_parts _ _ (clear_own 1 _ c)).1).1
     stmt_resolved (b.Return e) = λ spot slots p c. one_resolved e spot.scope p (clear_own 1 _ c)
     stmt_resolved (b.Raise raised) = λ spot slots p c. tt
-    stmt_resolved (b.Into strict targets query) = λ spot slots p c. absurd (not_broken rule.Types (clear_own _ _ c))
+    stmt_resolved (b.Into strict targets query) = λ spot slots p c. into_resolved query spot.scope p (clean_parts _ _ (clean_parts _ _ (clear_own _ _ c)).1).1
     stmt_resolved b.Nothing = λ spot slots p c. tt
 
     stmts_resolved : {m : _} (body : b.Row_of-Stmt m) → Every (ResolvesBy of_stmt) (stmts_of resolving body)
@@ -205,12 +235,12 @@ module _ (schema : Schema) where
 
 -- ---- a whole function
 
-body_resolved : (schema : Schema) (f : Function) → Clear (function_note schema f) → Every (IsResolved schema) (sources (body_of schema f).it)
+body_resolved : (schema : Schema) (f : Function) → Clear (function_note schema f) → Every (IsResolved schema) (sources whole_select (body_of schema f).it)
 unfolding resolved_stmt sources
 body_resolved schema f c =
     let body = clear_bodies (length f.params) (head_note f) (body_of schema f).note (types_note schema f) c in
     stmt_resolved schema f.body (entry schema f.params) (start f.params).slots (record { in_function = refl; no_levels = refl; tables = refl }) body.0
 
-pub checked_sources : (schema : Schema) (written f : Function) (slots : List Slot) → IsChecked schema written f slots → Every (IsResolved schema) (sources f.body)
+pub checked_sources : (schema : Schema) (written f : Function) (slots : List Slot) → IsChecked schema written f slots → Every (IsResolved schema) (sources whole_select f.body)
 checked_sources schema written f slots h =
-    subst (λ (f : Function). Every (IsResolved schema) (sources f.body)) (sym h.function) (body_resolved schema written h.unbroken)
+    subst (λ (f : Function). Every (IsResolved schema) (sources whole_select f.body)) (sym h.function) (body_resolved schema written h.unbroken)

@@ -1,8 +1,10 @@
 -- What holds of the names of a function's query.
-use Rattle.std.specs.Prelude.{◌≡◌, List, length}
+use Rattle.std.specs.Prelude.{◌≡◌, ◌≤◌, List, length}
 use Rattle.away_trees.specs.declared.queries.Query.{Query}
 use Rattle.away_trees.specs.declared.schemas.Schema.{Schema}
 use Rattle.away_trees.specs.declared.statements.Function.{Function}
+use Rattle.away_trees.specs.Count.{nodes}
+use Rattle.away_trees.specs.Limits.{most_nodes}
 use Rattle.away_types.specs.declared.slots.Slot.{Slot}
 use Rattle.away_types.specs.CheckedFunctions.{IsChecked}
 use Rattle.away_names.specs.Files.{file}
@@ -19,11 +21,11 @@ use Rattle.cte_template.specs.Tree.{tree}
 use Rattle.qualified_names.specs.Trees.{qualified}
 use Rattle.qualified_names.specs.Unambiguous.{IsClearFile}
 
--- names are unambiguous in the query of a checked function
+-- names are unambiguous in the query of a checked function within the limits
 abbrev pub TreeIsClear : Type 0
 TreeIsClear =
     (schema : Schema) (written f : Function) (slots : List Slot) (g : Goto) (z : Ssa) (a : Anf) (r : Tail) (q : Query)
-    → IsChecked schema written f slots → Columned slots z a r
+    → IsChecked schema written f slots → nodes f ≤ most_nodes → Columned slots z a r
     → Templated f slots (length schema.tables) g z a r q → NumbersFit (making_of f slots z a r)
     → IsClearFile schema (tree (making_of f slots z a r) g.entry (length schema.tables))
 
@@ -36,6 +38,6 @@ pub record NamesTableOnce (schema : Schema) (q : Query) : Type 0 where
 abbrev pub TableIsNamedOnce : Type 0
 TableIsNamedOnce =
     (schema : Schema) (written f : Function) (slots : List Slot) (g : Goto) (z : Ssa) (a : Anf) (r : Tail) (q : Query)
-    → IsChecked schema written f slots → Columned slots z a r
+    → IsChecked schema written f slots → nodes f ≤ most_nodes → Columned slots z a r
     → Templated f slots (length schema.tables) g z a r q → NumbersFit (making_of f slots z a r)
     → NamesTableOnce schema (tree (making_of f slots z a r) g.entry (length schema.tables))

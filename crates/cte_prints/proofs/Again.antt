@@ -1,8 +1,10 @@
 -- The query of a function that was read reads again.
-use Rattle.std.proofs.Common.{◌<◌, ◌^◌, List, [], length, arith}
+use Rattle.std.proofs.Common.{◌<◌, ◌≤◌, ◌^◌, List, [], length, arith}
 use Rattle.away_grammar.specs.Grammar as grammar
 use Rattle.away_grammar.specs.Printing.{query_text}
 use Rattle.away_grammar.specs.Texts.{ReadsQuery}
+use Rattle.away_trees.specs.Count.{nodes}
+use Rattle.away_trees.specs.Limits.{most_nodes}
 use Rattle.away_trees.specs.declared.queries.Query.{Query}
 use Rattle.away_trees.specs.declared.schemas.Schema.{Schema}
 use Rattle.away_trees.specs.declared.statements.Function.{Function}
@@ -11,6 +13,7 @@ use Rattle.away_types.specs.declared.slots.Slot.{Slot}
 use Rattle.block_forms.specs.declared.forms.Goto.{Goto}
 use Rattle.block_forms.specs.declared.forms.Ssa.{Ssa}
 use Rattle.block_forms.specs.Expressions.{expressions}
+use Rattle.block_forms.specs.Intos.{intos}
 use Rattle.block_forms.specs.Lowered.{Lowered}
 use Rattle.block_forms.specs.Named.{Named}
 use Rattle.block_forms.specs.Places.{Each}
@@ -38,12 +41,14 @@ use Rattle.call_law.proofs.HasTrees.{labels_have_trees}
 use Rattle.cte_names.specs.TreeLaws as names
 use Rattle.cte_names.proofs.NamedOnce.{table_named_once}
 use Rattle.cte_names.proofs.TreesClear.{trees_clear}
+use Rattle.cte_types.specs.Linked.{HasLinkedItems}
 use Rattle.cte_types.specs.Whole.{IsTypable, TreeBreaksNoRule}
 use Rattle.cte_types.specs.Typed.{HasKind, NoIntegers}
 use Rattle.cte_prints.specs.Texts.{IsOfTexts, ReadsAgain, TreesReadAgain}
 use Rattle.cte_prints.proofs.ColumnTypes.{columns_of_texts, kinds_of_texts}
-use Rattle.cte_prints.proofs.FewLabels.{few_labels, few_parameters}
+use Rattle.cte_prints.proofs.FewLabels.{few_labels, few_of, few_parameters}
 use Rattle.cte_prints.proofs.Linked.{expressions_linked}
+use Rattle.cte_prints.proofs.LinkedItems.{intos_linked}
 
 -- what can be derived with few enough brackets
 derived_reads : (q : Query) → Derivable 216 grammar.file q → MayBeRead (query_text q) × ReadsQuery (query_text q) q
@@ -68,6 +73,12 @@ module _ (no_rule : TreeBreaksNoRule) (tree_derivable : TreeIsDerivable) (s : Sc
   columns : Each HasKind r.columns
   columns = columns_of_texts s f slots g z a r texts tight
 
+  nodes_few : nodes f ≤ most_nodes
+  nodes_few = few_of s texts.written f slots texts.checked texts.limits
+
+  items : Each HasLinkedItems (intos f.body)
+  items = intos_linked texts.function_text s texts.written f slots texts.function_fits texts.reads_function texts.checked
+
   numbers : names.NumbersFit m
   numbers = record { columns = fits.columns; aliases = fits.aliases }
 
@@ -79,10 +90,10 @@ module _ (no_rule : TreeBreaksNoRule) (tree_derivable : TreeIsDerivable) (s : Sc
   }
 
   clear : IsClearFile s q
-  clear = trees_clear s texts.written f slots g z a r q texts.checked columned templated numbers
+  clear = trees_clear s texts.written f slots g z a r q texts.checked nodes_few columned templated numbers
 
   once : names.NamesTableOnce s q
-  once = table_named_once s texts.written f slots g z a r q texts.checked columned templated numbers
+  once = table_named_once s texts.written f slots g z a r q texts.checked nodes_few columned templated numbers
 
   typable : IsTypable s f slots r
   typable = record {
@@ -90,11 +101,14 @@ module _ (no_rule : TreeBreaksNoRule) (tree_derivable : TreeIsDerivable) (s : Sc
     types = kinds;
     columns = columns;
     linked = expressions_linked texts.function_text s texts.written f slots texts.function_fits texts.reads_function texts.checked;
+    items = items;
   }
 
   writable : IsWritable f slots r (length f.params)
   writable = record {
+    few = nodes_few;
     types = kinds;
+    items = items;
     columns = columns;
     parameters = few_parameters s texts.written f slots texts.checked texts.limits;
     labels = few_labels s texts.written f slots g z a r (length slots) (length f.params) texts.checked texts.limits low named called merged;
@@ -103,7 +117,8 @@ module _ (no_rule : TreeBreaksNoRule) (tree_derivable : TreeIsDerivable) (s : Sc
   derivable : Derivable 216 grammar.file (qualified q)
   derivable =
       tree_derivable s texts.written f slots g z a r (length slots) (length f.params) texts.checked low named called merged columned tight writable numbers
-      (file_expressions_derivable texts.function_text texts.function_fits s texts.written f slots texts.checked texts.reads_function)
+      (file_expressions_derivable texts.function_text texts.function_fits s texts.written f slots texts.checked nodes_few
+      texts.reads_function)
 
   reads_again : ReadsAgain s q
   reads_again =

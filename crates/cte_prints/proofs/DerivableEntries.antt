@@ -1,5 +1,5 @@
 -- Each source expression of a checked function can be derived where the query has it.
-use Rattle.std.proofs.Common.{◌≡◌, refl, ap, sym, subst, ◌∙◌, ℕ, true, List, [], ◌∷◌}
+use Rattle.std.proofs.Common.{◌≡◌, refl, ap, sym, subst, ◌∙◌, ℕ, true, List, [], ◌++◌, length}
 use Rattle.away_values.specs.declared.types.Ty.{Ty}
 use Rattle.away_grammar.specs.declared.grammar.Level.TheVariants as l
 use Rattle.away_grammar.specs.declared.grammar.Mark.TheVariants as m
@@ -9,20 +9,20 @@ use Rattle.away_trees.specs.declared.queries.Expr.{Expr}
 use Rattle.away_trees.specs.declared.queries.Expr.TheVariants as expr
 use Rattle.away_trees.specs.declared.queries.Expr.TheBlock as b
 use Rattle.away_trees.specs.declared.schemas.Schema.{Schema}
-use Rattle.away_names.specs.Lookups.{Scope}
-use Rattle.away_names.specs.Trees.{named_expr}
+use Rattle.away_trees.specs.Algebra.{expr_of}
+use Rattle.away_names.specs.Lookups.{Level, Scope}
 use Rattle.sql_meaning.specs.Placed.{column_of, placed, placed_at}
-use Rattle.sql_meaning.specs.Reads.{reads, slots_of}
+use Rattle.sql_meaning.specs.Reads.{reading, slots_of}
 use Rattle.block_forms.specs.Places.{Each}
-use Rattle.type_soundness.specs.Sorts.{Every}
 use Rattle.qualified_names.specs.Trees.{qualified_expr}
 use Rattle.qualified_names.proofs.QualifyingRules as d
 use Rattle.cte_names.specs.Own.{SeesTables, IsOwn}
-use Rattle.cte_names.proofs.Standing.{Allowed}
+use Rattle.cte_names.proofs.Refined.{LevelsSo}
+use Rattle.cte_names.proofs.Standing.{Allowed, placing}
 use Rattle.cte_names.proofs.OwnLeaves.{own_leaves}
 use Rattle.cte_names.proofs.ReadSlots.{is_in, stands, reads_own}
 use Rattle.cte_prints.specs.Derivable.{Derivable}
-use Rattle.cte_prints.specs.Like.{IsCastable}
+use Rattle.cte_prints.specs.Like.{IsCastable, IsLike, value}
 use Rattle.cte_prints.proofs.ReadingDepth.{read_so}
 use Rattle.cte_prints.proofs.LikeDerivable.{like_derivable}
 use Rattle.cte_prints.proofs.NodesAlike.{derive_cast_to}
@@ -58,21 +58,26 @@ module _ (s : Scope) where
 
 -- ---- source expressions
 
+-- what a written expression is like at a place, under selects of the query's own where nothing is in sight
+module _ (schema : Schema) (s : Scope) (ref : ℕ → Col) (tables : SeesTables schema s) (sight : SightIsWritable s.levels)
+    (e : Expr) (own : Each (λ k. IsOwn s.levels (ref k)) (slots_of e)) where
+  abbrev leaf : ℕ → ℕ → Expr
+  leaf = column_of ref
+
+  owned : (i : ℕ) → is_in (slots_of e) i ≡ true → IsOwn s.levels (ref i)
+  owned i h = let p = stands (slots_of e) i h in own p.place i p.there
+
+  pub written_like : (x : Expr) (r : StandsFor (IsReadWithin 64) schema x) (ms : List Level) → LevelsSo [] ms
+      → Allowed (is_in (slots_of e)) (expr_of reading x (length ms))
+      → IsLike value r.written (qualified_expr (expr_of (placing leaf) x (length ms)) (ms ++ s.levels))
+  written_like x r ms so h =
+      subst (λ x. IsLike value r.written (qualified_expr (expr_of (placing leaf) x (length ms)) (ms ++ s.levels))) r.resolved
+      (expr_like s (is_in (slots_of e)) leaf (own_leaves s (is_in (slots_of e)) ref owned) (derivable_leaves s (is_in (slots_of e)) ref sight owned)
+      r.written (names_writable (read_so r.holds.reads) r.holds.writable).names r.scope ms r.plain.in_function
+      (λ x k. tables.tables x k ∙ ap (λ f. f x) (sym r.plain.tables)) r.plain.no_levels so r.clean
+      (subst (λ x. Allowed (is_in (slots_of e)) (expr_of reading x (length ms))) (sym r.resolved) h))
+
 module _ (schema : Schema) where
-  source_derivable : (e : Expr) → StandsFor (IsReadWithin 64) schema e → IsWritableName schema e
-  source_derivable e r t s ref h tables derivable own = whole s t ref e h (subst (λ e. IsDerivableAt s (placed ref e)) r.resolved at_place)
-    where
-      owned : (i : ℕ) → is_in (slots_of e) i ≡ true → IsOwn s.levels (ref i)
-      owned i h = let p = stands (slots_of e) i h in own p.place i p.there
-
-      at_place : IsDerivableAt s (placed ref (named_expr r.written r.scope).it)
-      at_place =
-          like_derivable r.holds.reads r.holds.writable _
-          (expr_like s (is_in (slots_of e)) (column_of ref) (own_leaves s (is_in (slots_of e)) ref owned) (derivable_leaves s (is_in (slots_of e)) ref derivable owned)
-          r.written (names_writable (read_so r.holds.reads) r.holds.writable).names r.scope r.plain.in_function
-          (λ x k. tables.tables x k ∙ ap (λ f. f x) (sym r.plain.tables)) r.plain.no_levels r.clean
-          (subst (λ x. Allowed (is_in (slots_of e)) (reads x)) (sym r.resolved) (reads_own e)))
-
-  pub sources_derivable : (es : List Expr) → Every (StandsFor (IsReadWithin 64) schema) es → Every (IsWritableName schema) es
-  sources_derivable [] h = tt
-  sources_derivable (e ∷ es) h = (source_derivable e h.0, sources_derivable es h.1)
+  pub source_derivable : (e : Expr) → StandsFor (IsReadWithin 64) schema e → IsWritableName schema e
+  source_derivable e r t s ref h tables sight own =
+      whole s t ref e h (like_derivable r.holds.reads r.holds.writable _ (written_like schema s ref tables sight e own e r [] tt (reads_own e)))

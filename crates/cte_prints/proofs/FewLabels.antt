@@ -29,6 +29,11 @@ pub few_parameters : (schema : Schema) (written f : Function) (slots : List Slot
 few_parameters schema written f slots checked limits =
     subst (λ (f : Function). length f.params ≤ 64) (sym checked.function) (of_variables written limits.few_variables)
 
+-- ---- nodes
+
+pub few_of : (schema : Schema) (written f : Function) (slots : List Slot) → IsChecked schema written f slots → KeepsLimits written → nodes f ≤ most_nodes
+few_of schema written f slots checked limits = few_nodes f slots (record { schema = schema; written = written; limits = limits; checked_is = checked })
+
 -- ---- labels
 
 weight_is : (f : Function) → nodes f ≤ most_nodes → weight f ≤ 8016
@@ -41,5 +46,5 @@ pub few_labels : (schema : Schema) (written f : Function) (slots : List Slot) (g
 few_labels schema written f slots g z a r count params checked limits low named called merged =
     let labels : length r.labels ≤ length a.blocks =
     at_most (length a.blocks) r.labels (differ_is r.labels merged.labels_differ) (below_each (length a.blocks) r.labels merged.labels_are_blocks) in
-    let few : nodes f ≤ most_nodes = few_nodes f slots (record { schema = schema; written = written; limits = limits; checked_is = checked }) in
+    let few : nodes f ≤ most_nodes = few_of schema written f slots checked limits in
     omega (arith, labels, called.as_many_blocks, named.as_many_blocks, few_blocks f slots g low, weight_is f few)

@@ -9,7 +9,7 @@ use Rattle.away_grammar.specs.Terminals.{Terminal, token_terminals}
 use Rattle.plsql_parse.specs.Refusals.{most_nesting}
 use Rattle.plsql_parse.proofs.OneFile.{file_given}
 use Rattle.plsql_parse.proofs.Sound.{sound}
-use Rattle.block_forms.specs.Expressions.{sources}
+use Rattle.block_forms.specs.Expressions.{sources, whole_select}
 use Rattle.block_forms.specs.Places.{Each}
 use Rattle.type_soundness.specs.Sorts.{Every}
 use Rattle.cte_prints.specs.FunctionLaws.{SourcesAreRead}
@@ -42,4 +42,4 @@ sources_are_read bytes f may reads =
     let w : PartWalk body most_nesting false (token_terminals inner) given.0 [] =
     walked (sound given.1) most_nesting (omega arith) false (room (token_terminals inner) most_nesting nested)
     (inner_writable bytes may.0 inner lists.text.utf8 lists.lists_are) in
-    subst (λ s. Each (IsReadWithin most_nesting) (sources s)) (sym (body_is (sound given.2))) (each_of (IsReadWithin most_nesting) (sources given.0) w.derivable)
+    subst (λ s. Each (IsReadWithin most_nesting) (sources whole_select s)) (sym (body_is (sound given.2))) (each_of (IsReadWithin most_nesting) (sources whole_select given.0) w.derivable)

@@ -17,6 +17,8 @@ pub mod PrintedTexts
 pub mod RoomLeft
 pub mod Passing
 pub mod Reading
+pub mod ReadElsewhere
+pub mod ReadSelects
 pub mod Bodies
 pub mod InsideWritable
 pub mod Files
@@ -28,6 +30,10 @@ pub mod LikeSelects
 pub mod LikeTrees
 pub mod WrittenSources
 pub mod DerivableEntries
+pub mod ScalarsInside
+pub mod PickedLike
+pub mod IntoDerivable
+pub mod DerivableIntos
 pub mod DerivableFixed
 pub mod DerivableExpressions
 pub mod OwnWritableNames
@@ -46,4 +52,5 @@ pub mod SlotTypes
 pub mod ColumnTypes
 pub mod FewLabels
 pub mod Linked
+pub mod LinkedItems
 pub mod Again

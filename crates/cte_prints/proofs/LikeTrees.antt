@@ -1,5 +1,5 @@
 -- A function's expression whose names can be written is like what stands for it in a query.
-use Rattle.std.proofs.Common.{◌≡◌, ap, sym, subst, ◌∙◌, ℕ, Bool, true, false, List, [], map, Option, None, option_map}
+use Rattle.std.proofs.Common.{◌≡◌, ap, sym, subst, ◌∙◌, ℕ, Bool, true, false, List, [], ◌++◌, map, length, Option, None, option_map}
 use Rattle.away_values.specs.declared.operators.ChainOp.{ChainOp}
 use Rattle.away_values.specs.declared.types.Ty.{Ty}
 use Rattle.away_values.specs.declared.types.Ty.TheVariants as ty
@@ -173,13 +173,14 @@ module _ (q : Scope) (slots : ℕ → Bool) (leaf : ℕ → ℕ → Expr) (leave
       subst (node.LikeQuery q slots leaf derive (roll-Query (record { recursive = None; selects = xs }))) (sym (eq.of_query naming xs))
       (sel.union q slots leaf derive xs (map (λ x. select_of naming x) xs) (all_like h))
 
-  -- an expression under no select
-  pub expr_like : (w : Expr) → NamesAreWritable value w → (s : Scope) → s.in_function ≡ true → ((x : Name) → is_kept x ≡ false → q.table x ≡ s.table x)
-      → s.levels ≡ [] → Clean (named_expr w s).note
-      → Allowed slots (expr_of reading (named_expr w s).it 0) → IsLike value w (qualified_expr (expr_of P (named_expr w s).it 0) q.levels)
+  -- an expression under no select of the function, and perhaps under some of the query's own where nothing is in sight
+  pub expr_like : (w : Expr) → NamesAreWritable value w → (s : Scope) (ms : List Level) → s.in_function ≡ true
+      → ((x : Name) → is_kept x ≡ false → q.table x ≡ s.table x) → s.levels ≡ [] → LevelsSo [] ms → Clean (named_expr w s).note
+      → Allowed slots (expr_of reading (named_expr w s).it (length ms))
+      → IsLike value w (qualified_expr (expr_of P (named_expr w s).it (length ms)) (ms ++ q.levels))
   unfolding named_expr
-  expr_like w h s f tables l g a =
-      all_like h s [] (record {
-        fits = record { in_function = f; tables = tables; so = subst (λ ls. LevelsSo ls []) (sym l) tt };
+  expr_like w h s ms f tables l so g a =
+      all_like h s ms (record {
+        fits = record { in_function = f; tables = tables; so = subst (λ ls. LevelsSo ls ms) (sym l) so };
         aliases = subst (Every (Every Aliased)) (sym l) tt;
       }) g a

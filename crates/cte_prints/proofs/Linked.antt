@@ -1,5 +1,5 @@
 -- No expression of a function that is read is a chain without links.
-use Rattle.std.proofs.Common.{◌≡◌, refl, subst, ℕ, zero, suc, true, false, List, [], ◌∷◌, ◌++◌, map, fold, Option, Some, None}
+use Rattle.std.proofs.Common.{◌≡◌, refl, subst, ℕ, zero, suc, true, false, List, [], ◌∷◌, ◌++◌, map, length, fold, Bool, Option, Some, None}
 use Rattle.away_grammar.specs.declared.grammar.Mark.{Mark}
 use Rattle.away_grammar.specs.declared.grammar.Mark.TheVariants as m
 use Rattle.away_grammar.specs.FunctionGrammar.{ReadsFunction}
@@ -16,18 +16,27 @@ use Rattle.away_names.specs.Trees.{named_expr}
 use Rattle.away_trees.specs.declared.queries.Expr.{Expr}
 use Rattle.away_trees.specs.declared.queries.Expr.TheBlock as b
 use Rattle.away_trees.specs.declared.queries.Expr.TheVariants as expr
+use Rattle.away_trees.specs.declared.queries.Select.{Select}
 use Rattle.away_trees.specs.declared.schemas.Schema.{Schema}
 use Rattle.away_trees.specs.declared.statements.Function.{Function}
+use Rattle.away_trees.specs.StatementAlgebra.{stmt_of}
 use Rattle.away_trees.specs.Algebra.{expr_of, exprs_of, head_or, links_of}
 use Rattle.away_types.specs.CheckedFunctions.{IsChecked}
 use Rattle.away_types.specs.declared.slots.Slot.{Slot}
 use Rattle.away_values.specs.declared.operators.ChainOp.{ChainOp}
-use Rattle.block_forms.specs.Expressions.{expressions, sources}
+use Rattle.away_values.specs.declared.types.Ty.{Ty}
+use Rattle.sql_meaning.specs.Template.{below}
+use Rattle.select_into.specs.Entries.{Target, target_types, check_entries, into_entries}
+use Rattle.select_into.specs.Wrapped.{pick, picked}
+use Rattle.block_forms.specs.Expressions.{expressions, sources, source_expressions, whole_select}
+use Rattle.block_forms.specs.Intos.{Into, selecting}
+use Rattle.block_forms.specs.Slots.{shown_types}
 use Rattle.block_forms.specs.declared.fixed_list.Fixed.{Fixed}
 use Rattle.block_forms.specs.declared.fixed_list.Fixed.TheVariants as fix
 use Rattle.block_forms.specs.FixedList.{expression, entries, fixed_list}
 use Rattle.block_forms.specs.Places.{Each}
 use Rattle.plsql_parse.specs.Refusals.{MayBeRead, most_nesting}
+use Rattle.cte_names.proofs.SourceEntries.{stmt_goes}
 use Rattle.cte_prints.proofs.Files.{sources_are_read}
 use Rattle.cte_prints.specs.Derivation.{IsReadWithin}
 use Rattle.cte_prints.proofs.ReadingDepth.{read_so}
@@ -59,7 +68,7 @@ abbrev TreeIsLinked : (n : Sort) → Tree n → Type 0
 TreeIsLinked (at level) x = IsLinked x
 TreeIsLinked _ x = Unit {0}
 
-read_linked : {n : Sort} {ts rest : List Terminal} {x : Tree n} → Reads n ts x rest → TreeIsLinked n x
+pub read_linked : {n : Sort} {ts rest : List Terminal} {x : Tree n} → Reads n ts x rest → TreeIsLinked n x
 read_linked (g.chain {first = first} {more = more} is d c) = chained_linked first more (read_linked d)
 read_linked (g.affirmed d) = read_linked d
 read_linked (g.untested d) = read_linked d
@@ -113,7 +122,7 @@ links_linked s x b.end_of-Expr-Chain-1-2 h = absurd h
 links_linked s x (b.more_of-Expr-Chain-1-2 op e rest) h =
     some_linked x _ (some_found (naming.linked s) (op, expr_of naming.naming e) (links_of naming.naming rest))
 
-resolved_linked : (e : Expr) (s : Scope) → IsLinked e → IsLinked (named_expr e s).it
+pub resolved_linked : (e : Expr) (s : Scope) → IsLinked e → IsLinked (named_expr e s).it
 unfolding named_expr naming.named naming.qualified naming.unwritten
 resolved_linked (b.Named n) s h = named_linked n (column_named n s.levels) (variable_named n s.variables)
 resolved_linked (b.Dotted a n) s h = qualified_linked a n (column_qualified a n s.levels)
@@ -122,9 +131,31 @@ resolved_linked _ s h = tt
 
 -- ---- the whole table
 
-all_linked : (schema : Schema) (es : List Expr) → Every (StandsFor IsLinked schema) es → Every IsLinked es
-all_linked schema [] h = tt
-all_linked schema (e ∷ es) h = (subst IsLinked h.0.resolved (resolved_linked h.0.written h.0.scope h.0.holds), all_linked schema es h.1)
+stands_linked : (schema : Schema) (e : Expr) → StandsFor IsLinked schema e → IsLinked e
+stands_linked schema e h = subst IsLinked h.resolved (resolved_linked h.written h.scope h.holds)
+
+checks_linked : (strict : Bool) (q : Select) → Every IsLinked (check_entries strict q)
+checks_linked true q = (tt, (tt, tt))
+checks_linked false q = tt
+
+picks_linked : (q : Select) (places : List ℕ) → Every IsLinked (map (λ place. pick q place) places)
+picks_linked q [] = tt
+picks_linked q (k ∷ ks) = (tt, picks_linked q ks)
+
+entries_linked : (types : List Ty) (strict : Bool) (targets : List Target) (q : Select) → Every IsLinked (into_entries types strict targets q)
+entries_linked types strict targets q =
+    let own : List Ty = target_types types targets in
+    every_append IsLinked (check_entries strict q) _ (checks_linked strict q) (picks_linked (picked own q) (below (length own)))
+
+any_into : (is : List Into) → Every (λ (i : Into). Unit {0}) is
+any_into [] = tt
+any_into (i ∷ is) = (tt, any_into is)
+
+sources_linked : (schema : Schema) (f : Function) → Every (StandsFor IsLinked schema) (sources whole_select f.body) → Every IsLinked (source_expressions f)
+unfolding sources
+sources_linked schema f h =
+    stmt_goes whole_select (into_entries (shown_types f)) (StandsFor IsLinked schema) IsLinked (λ (i : Into). Unit {0}) (stands_linked schema)
+    (λ strict targets q r k. entries_linked (shown_types f) strict targets q) f.body (any_into (stmt_of selecting f.body)) h
 
 every_read : (es : List Expr) → Each (IsReadWithin most_nesting) es → Every IsLinked es
 every_read [] h = tt
@@ -159,6 +190,6 @@ each_of (y ∷ ys) h (suc i) x e = each_of ys h.1 i x e
 pub expressions_linked : (bytes : List ℕ) (schema : Schema) (written f : Function) (slots : List Slot) → MayBeRead bytes → ReadsFunction bytes written
     → IsChecked schema written f slots → Each IsLinked (expressions f)
 expressions_linked bytes schema written f slots may reads checked =
-    let read : Every IsLinked (sources written.body) = every_read (sources written.body) (sources_are_read bytes written may reads) in
-    let stand : Every (StandsFor IsLinked schema) (sources f.body) = sources_stand IsLinked schema written f slots checked read in
-    each_of (expressions f) (every_append IsLinked (sources f.body) fixed_list (all_linked schema (sources f.body) stand) fixed_linked)
+    let read : Every IsLinked (sources whole_select written.body) = every_read (sources whole_select written.body) (sources_are_read bytes written may reads) in
+    let stand = sources_stand IsLinked schema written f slots checked read in
+    each_of (expressions f) (every_append IsLinked (source_expressions f) fixed_list (sources_linked schema f stand) fixed_linked)

@@ -30,17 +30,17 @@ goes_on_digit c h = let r : IsInRange 48 57 c = digit_from_value c h in grind (a
 low_digit : (c : ℕ) → digit_value c < 10 → to_ascii_lowercase c ≡ c
 low_digit c h = let r : IsInRange 48 57 c = digit_from_value c h in grind (arith, nat_tests, r)
 
-digits_go_on : (ds : List ℕ) → AllDigits 10 ds → list_all goes_on ds ≡ true
+pub digits_go_on : (ds : List ℕ) → AllDigits 10 ds → list_all goes_on ds ≡ true
 digits_go_on [] h = refl
 digits_go_on (c ∷ cs) h = ap (λ b. b && list_all goes_on cs) (goes_on_digit c h.0) ∙ digits_go_on cs h.1
 
-digits_folded : (ds : List ℕ) → AllDigits 10 ds → folded ds ≡ ds
+pub digits_folded : (ds : List ℕ) → AllDigits 10 ds → folded ds ≡ ds
 digits_folded [] h = refl
 digits_folded (c ∷ cs) h = λ i. low_digit c h.0 i ∷ digits_folded cs h.1 i
 
 -- ---- numbered names
 
-short_digits : (k : ℕ) → k < 2 ^ 64 → length (decimal k) ≤ 20
+pub short_digits : (k : ℕ) → k < 2 ^ 64 → length (decimal k) ≤ 20
 short_digits k fits = length-decimal-le 20 k (omega arith) (omega (arith, fits)) fits
 
 pub alias_writable : (k : ℕ) → k < 2 ^ 64 → NameIsWritable (alias_name k)

@@ -42,7 +42,7 @@ abbrev pub MaybeDerivableAt : ℕ → Sight → Option Expr → Type 0
 MaybeDerivableAt n s None = Unit {0}
 MaybeDerivableAt n s (Some e) = DerivableAt n s e
 
-item_is : (e : Expr) (s : Sight) → (qualified_item (tree.item e) s).it ≡ roll-Item (record { expr = qualified_expr e s; alias = None })
+pub item_is : (e : Expr) (s : Sight) → (qualified_item (tree.item e) s).it ≡ roll-Item (record { expr = qualified_expr e s; alias = None })
 item_is e s = ap (λ (c : Column). c.it) (d.item_rule (tree.item e) s)
 
 list_derives : (n : ℕ) (s : Sight) (es : List Expr) → Every (DerivableAt n s) es → Every (Derivable n item) (qualified_items s (map tree.item es)).it
@@ -55,10 +55,10 @@ maybe_derives n s (Some e) h = h
 
 -- ---- selects
 
-abbrev Fields : Type 0
+abbrev pub Fields : Type 0
 Fields = Select-F Expr Source FromItem Item Key Query Recursive Select
 
-qualified_fields : (x : Fields) (s : Sight) → qualified_select (roll-Select x) s ≡ qualified_over x ((qualified_from s x.from).seen ∷ s) (qualified_from s x.from).items
+pub qualified_fields : (x : Fields) (s : Sight) → qualified_select (roll-Select x) s ≡ qualified_over x ((qualified_from s x.from).seen ∷ s) (qualified_from s x.from).items
 qualified_fields x s = d.select_rule (roll-Select x) s ∙ ap (λ (x : Fields). qualified_over x ((qualified_from s x.from).seen ∷ s) (qualified_from s x.from).items)
     (out-roll-Select x)
 
@@ -107,7 +107,7 @@ select_over n s (e ∷ es) fs o some f h w = select_derives n s e es fs o f h w
 abbrev QueryFields : Type 0
 QueryFields = Query-F Expr Source FromItem Item Key Query Recursive Select
 
-query_is : (xs : List Select) (s : Sight) → (qualified_shown (roll-Query (record { recursive = None; selects = xs })) s).it ≡ roll-Query
+pub query_is : (xs : List Select) (s : Sight) → (qualified_shown (roll-Query (record { recursive = None; selects = xs })) s).it ≡ roll-Query
     (record { recursive = None; selects = (qualified_selects s xs).it })
 query_is xs s =
     let x : QueryFields = record { recursive = None; selects = xs } in

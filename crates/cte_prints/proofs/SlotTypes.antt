@@ -1,5 +1,6 @@
--- The slots of a function whose declarations have kinds have kinds: the hidden ones of FOR are of bigints.
-use Rattle.std.proofs.Common.{◌≡◌, refl, sym, subst, zero, suc, Bool, true, false, List, [], ◌∷◌, fold, Option, Some, None}
+-- The slots of a function whose declarations have kinds have kinds: the hidden ones of FOR are of bigints, and those of targets have the targets' types.
+use Rattle.std.specs.Prelude.{slice_get}
+use Rattle.std.proofs.Common.{◌≡◌, refl, sym, subst, zero, suc, Bool, true, false, List, [], ◌∷◌, ◌++◌, map, ℕ, fold, Option, Some, None}
 use Rattle.away_values.specs.declared.types.Ty.{Ty}
 use Rattle.away_values.specs.declared.types.Ty.TheVariants as ty
 use Rattle.away_trees.specs.declared.schemas.Schema.{Schema}
@@ -20,7 +21,7 @@ use Rattle.away_types.specs.CheckedFunctions.{IsChecked}
 use Rattle.away_types.specs.FunctionChecks.{start, entry, body_of, with_param, slots_of}
 use Rattle.away_types.specs.ResolvedBodies.{resolved_stmt}
 use Rattle.away_types.specs.Statements as n
-use Rattle.away_types.specs.Statements.{Spot, By, resolving, with_slot, with_hidden, with_declared}
+use Rattle.away_types.specs.Statements.{Spot, By, resolving, with_slot, with_hidden, with_targets, with_declared, picked_for, type_or_bigint}
 use Rattle.block_forms.specs.Places.{Each}
 use Rattle.type_soundness.specs.Sorts.{Every}
 use Rattle.type_soundness.proofs.Lists.{every_append, every_left, every_right}
@@ -33,6 +34,7 @@ SlotHasKind s = HasKind s.ty
 record Kinds (slots : Slots) : Type 0 where
   pub shown : Every SlotHasKind slots.shown
   pub hidden : Every SlotHasKind slots.hidden
+  pub picked : Every SlotHasKind slots.picked
 
 abbrev Keeps : {A : Type 0} → By A → Type 0
 Keeps g = (spot : Spot) (slots : Slots) → Kinds slots → Kinds (g spot slots).slots
@@ -43,11 +45,29 @@ slot_keeps : (t : Ty) (not_null : Bool) (slots : Slots) → HasKind t → Kinds 
 unfolding with_slot
 slot_keeps t not_null slots k h =
     let one : Slot = record { ty = t; not_null = not_null } in
-    record { shown = every_append SlotHasKind slots.shown (one ∷ []) h.shown (k, tt); hidden = h.hidden }
+    record { shown = every_append SlotHasKind slots.shown (one ∷ []) h.shown (k, tt); hidden = h.hidden; picked = h.picked }
 
 hidden_keep : (slots : Slots) → Kinds slots → Kinds (with_hidden slots)
 unfolding with_hidden
-hidden_keep slots h = record { shown = h.shown; hidden = every_append SlotHasKind slots.hidden _ h.hidden (tt, (tt, (tt, tt))) }
+hidden_keep slots h = record { shown = h.shown; hidden = every_append SlotHasKind slots.hidden _ h.hidden (tt, (tt, (tt, tt))); picked = h.picked }
+
+type_there : (shown : List Slot) (i : ℕ) → Every SlotHasKind shown → HasKind (type_or_bigint (slice_get shown i))
+type_there [] i h = tt
+type_there (x ∷ xs) zero h = h.0
+type_there (x ∷ xs) (suc i) h = type_there xs i h.1
+
+picked_kind : (shown : List Slot) (slot : Option ℕ) → Every SlotHasKind shown → HasKind (picked_for shown slot).ty
+picked_kind shown None h = tt
+picked_kind shown (Some i) h = type_there shown i h
+
+picked_keep : (shown : List Slot) (targets : List (Name × Option ℕ)) → Every SlotHasKind shown → Every SlotHasKind (map (λ t. picked_for shown t.1) targets)
+picked_keep shown [] h = tt
+picked_keep shown (t ∷ ts) h = (picked_kind shown t.1 h, picked_keep shown ts h)
+
+targets_keep : (targets : List (Name × Option ℕ)) (slots : Slots) → Kinds slots → Kinds (with_targets targets slots)
+unfolding with_targets
+targets_keep targets slots h =
+    record { shown = h.shown; hidden = h.hidden; picked = every_append SlotHasKind slots.picked _ h.picked (picked_keep slots.shown targets h.shown) }
 
 declared_keep : (scope : Scope) (ds : List Decl) → All (decl_types ds) → (a : Declared) → Kinds a.slots → Kinds (fold (with_declared scope) a ds).slots
 declared_keep scope [] k a h = h
@@ -102,7 +122,7 @@ mutual
   stmt_keeps (b.Continue label when) k spot slots h = h
   stmt_keeps (b.Return e) k spot slots h = h
   stmt_keeps (b.Raise r) k spot slots h = h
-  stmt_keeps (b.Into strict targets query) k spot slots h = h
+  stmt_keeps (b.Into strict targets query) k spot slots h = targets_keep (n.targeted spot.scope targets).it slots h
   stmt_keeps b.Nothing k spot slots h = h
 
   row_keeps : {m : _} (body : b.Row_of-Stmt m) → All (in_turn (stmts_of declaring body)) → Every Keeps (stmts_of resolving body)
@@ -138,7 +158,7 @@ body_kinds : (schema : Schema) (f : Function) → HasKinds f → Kinds (body_of 
 unfolding resolved_stmt
 body_kinds schema f h =
     stmt_keeps f.body h.decls (entry schema f.params) (start f.params).slots
-    (params_keep f.params h.params (record { slots = record { shown = []; hidden = [] }; variables = [] }) (record { shown = tt; hidden = tt }))
+    (params_keep f.params h.params (record { slots = record { shown = []; hidden = []; picked = [] }; variables = [] }) (record { shown = tt; hidden = tt; picked = tt }))
 
 pub no_integers : (schema : Schema) (written f : Function) (slots : List Slot) → IsChecked schema written f slots → HasKinds written → NoIntegers slots f.result
 no_integers schema written f slots checked h =
@@ -147,6 +167,6 @@ no_integers schema written f slots checked h =
     record {
       slots_are =
           subst (Each SlotHasKind) (sym checked.slots_are)
-          (each_of (slots_of schema written) (every_append SlotHasKind all.shown all.hidden kinds.shown kinds.hidden));
+          (each_of (slots_of schema written) (every_append SlotHasKind all.shown (all.hidden ++ all.picked) kinds.shown (every_append SlotHasKind all.hidden all.picked kinds.hidden kinds.picked)));
       result_is = subst (λ (f : Function). HasKind f.result) (sym checked.function) h.result;
     }

@@ -145,6 +145,12 @@ spelled (g.exit_of label d) = tt
 spelled (g.continue_of label d) = tt
 spelled (g.raise_message w) = tt
 spelled (g.raise_state w) = tt
+spelled g.last_target = tt
+spelled (g.another_target d) = tt
+spelled (g.into_of w d) = tt
+spelled (g.clauses_of d c e f) = tt
+spelled (g.select_into d c e) = tt
+spelled (g.list_into d c e) = tt
 spelled g.no_statement = tt
 spelled (g.another_statement {x = one} {xs = more} d c) = joined (of_stmt one) (in_turn (map of_stmt more)) (spelled d) (spelled c)
 spelled (g.body_of label w d) = spelled d

@@ -77,7 +77,7 @@ label_within labels b r same among None e = absurd (placed 0 r.labels b among.pl
 pub trees_derivable : TreeIsDerivable
 trees_derivable schema written f slots g z a r count params checked lowered named called merged columned tight writable fits derivable =
     let m : Making = making_of f slots z a r in
-    let clears : TableClears schema m.table = table_clears schema written f slots checked in
+    let clears : TableClears schema m.table = table_clears schema written f slots checked writable.few in
     let tables = beside_working schema (row_names (length r.columns)) in
     let sees = sees_beside schema (row_names (length r.columns)) in
     let typed : TypesAreDerivable m =
@@ -93,7 +93,7 @@ trees_derivable schema written f slots g z a r count params checked lowered name
     let bodies =
     labels_fit (column_types schema) (expressions f) (types_of slots z) f.result a r writable.labels tight.depths
     (fails_fit f slots g lowered count params z named a called)
-    (terms_typed schema f slots (facts schema written f slots checked) writable.types g lowered count params z named a called) in
+    (terms_typed schema f slots (facts schema written f slots checked) writable.types writable.items g lowered count params z named a called) in
     let some : 0 < length r.labels = omega (arith, slice_get_within r.labels merged.entry.place g.entry merged.entry.there) in
     let rows : Derivable 215 from_item (qualified_part (label_rows m) [] (row_of (length r.columns) ∷ [])).item =
     rows_derive schema m clears fits.columns typed 196 16 deeper tables sees writable.labels slots z.names columned.as_many columned.each trees bodies fits some in

@@ -1,7 +1,10 @@
 -- Each source expression of a checked function stands for a written one: its names are resolved where the schema's tables are in sight alone, and break
 -- no rule. What holds of all written source expressions holds of that one.
-use Rattle.std.proofs.Common.{length, ◌≡◌, refl, sym, subst, true, false, List, [], ◌∷◌, ◌++◌, map, fold, Option, Some, None, option_map}
+use Rattle.std.proofs.Common.{length, ◌≡◌, refl, ap, sym, subst, ◌∙◌, true, false, List, [], ◌∷◌, ◌++◌, map, fold, Option, Some, None, option_map}
 use Rattle.away_trees.specs.declared.queries.Expr.{Expr}
+use Rattle.away_trees.specs.declared.queries.Expr.TheOpen as ex
+use Rattle.away_trees.specs.declared.queries.Expr.TheViews.{roll-Query}
+use Rattle.away_trees.specs.declared.queries.Select.{Select}
 use Rattle.away_trees.specs.declared.schemas.Schema.{Schema}
 use Rattle.away_trees.specs.declared.statements.Arm.{Arm}
 use Rattle.away_trees.specs.declared.statements.Decl.{Decl}
@@ -12,13 +15,17 @@ use Rattle.away_trees.specs.declared.statements.Stmt.{Stmt}
 use Rattle.away_trees.specs.declared.statements.Stmt.TheVariants as stmt
 use Rattle.away_trees.specs.declared.statements.Stmt.TheOpen as st
 use Rattle.away_trees.specs.declared.statements.Stmt.TheBlock as b
+use Rattle.away_trees.specs.Algebra.{expr_of, select_of}
 use Rattle.away_trees.specs.StatementAlgebra.{stmt_of, branch_of, stmts_of, branches_of, else_of}
+use Rattle.away_trees.proofs.Equations as tree
 use Rattle.away_trees.proofs.StatementEquations as eq
 use Rattle.away_names.specs.declared.rule.Rule.TheVariants as rule
 use Rattle.away_names.specs.declared.scope.Variable.{Variable}
 use Rattle.away_names.specs.Lookups.{Name, Scope, variable_named}
-use Rattle.away_names.specs.Notes.{breaks, held}
-use Rattle.away_names.specs.Trees.{named_expr}
+use Rattle.away_names.specs.Naming.{naming, term, whole}
+use Rattle.away_names.specs.Notes.{breaks, clean, held, joined}
+use Rattle.away_names.specs.Rules.{lesser}
+use Rattle.away_names.specs.Trees.{named_expr, named_select}
 use Rattle.away_types.specs.declared.resolved.Declared.{Declared}
 use Rattle.away_types.specs.declared.resolved.Resolved.{Resolved}
 use Rattle.away_types.specs.declared.slots.Slot.{Slot}
@@ -28,12 +35,13 @@ use Rattle.away_types.specs.FunctionChecks.{entry, start, body_of, function_note
 use Rattle.away_types.specs.ResolvedBodies.{resolved_stmt}
 use Rattle.away_types.specs.Statements as n
 use Rattle.away_types.specs.Statements.{Spot, By, resolving, assigned}
-use Rattle.block_forms.specs.Expressions.{Sources, sourcing, sources, in_turn, if_there, defaults, of_kind, of_else}
+use Rattle.plsql_meaning.specs.Sight.{query_of}
+use Rattle.block_forms.specs.Expressions.{Sources, sources, whole_select, in_turn, if_there, defaults, of_kind, of_else}
 use Rattle.type_soundness.specs.Sorts.{Every}
 use Rattle.away_types.proofs.ClearReports.{Clear, clear_own, clear_parts, clear_within, clear_branches, clear_bodies}
-use Rattle.type_soundness.proofs.CleanNotes.{Clean, clean_parts, not_broken}
+use Rattle.type_soundness.proofs.CleanNotes.{Clean, clean_parts}
 use Rattle.type_soundness.proofs.Lists.{every_append, every_left, every_right}
-use Rattle.cte_names.proofs.Sources.{Plain}
+use Rattle.cte_names.proofs.Sources.{Plain, texts}
 
 -- what stands for a written expression of which this holds
 pub record StandsFor (P : Expr → Type 0) (schema : Schema) (e : Expr) : Type 0 where
@@ -108,10 +116,10 @@ module _ (P : Expr → Type 0) (schema : Schema) where
   -- ---- statements, by their parts
 
   abbrev of_stmt : Stmt → Sources
-  of_stmt x = stmt_of sourcing x
+  of_stmt x = stmt_of texts x
 
   abbrev of_arm : Arm → Sources
-  of_arm x = branch_of sourcing x
+  of_arm x = branch_of texts x
 
   by_parts : (u v : Sources) → u ≡ v → All v → All u
   by_parts u v e h = subst All (sym e) h
@@ -127,7 +135,7 @@ module _ (P : Expr → Type 0) (schema : Schema) where
       let xs = n.each_resolved gs inner ds.slots in
       let whole = clear_within _ _ xs.note c in
       let own = clean_parts _ ds.note whole.0 in
-      by_parts _ _ (eq.of_block sourcing label ds.it xs.it closing)
+      by_parts _ _ (eq.of_block texts label ds.it xs.it closing)
       (behind (defaults ds.it) (in_turn (map of_stmt xs.it))
       (defaults_resolved ds.it (decls_resolved spot.scope p decls q (n.none_declared spot.scope slots) (λ c. tt) own.1))
       (each_resolved of_stmt gs h inner ds.slots (seen_plain spot.scope ds.variables p) whole.1))
@@ -175,7 +183,7 @@ module _ (P : Expr → Type 0) (schema : Schema) where
       let xs = n.each_resolved gs inner head.slots in
       let whole = clear_within _ _ xs.note c in
       let own = clean_parts _ head.note whole.0 in
-      by_parts _ _ (eq.of_loop sourcing label head.it xs.it closing)
+      by_parts _ _ (eq.of_loop texts label head.it xs.it closing)
       (behind (of_kind head.it) (in_turn (map of_stmt xs.it)) (head_resolved k spot.scope slots q p own.1)
       (each_resolved of_stmt gs h inner head.slots (seen_plain spot.scope head.variables p) whole.1))
 
@@ -185,55 +193,75 @@ module _ (P : Expr → Type 0) (schema : Schema) where
   assign_resolved name e spot q p None c = one_resolved e spot.scope q p (clean_parts (breaks rule.Names true) (named_expr e spot.scope).note c).1
   assign_resolved name e spot q p (Some v) c = one_resolved e spot.scope q p (clean_parts (breaks rule.Constants v.constant) (named_expr e spot.scope).note c).1
 
+  -- ---- SELECT INTO
+
+  scalar_is : (q : Select) → expr_of naming (query_of q) ≡ term (ex.Scalar (whole (record { recursive = None; selects = select_of naming q ∷ [] })))
+  scalar_is q = tree.of_scalar naming (roll-Query (record { recursive = None; selects = q ∷ [] })) ∙ ap (λ w. term (ex.Scalar w)) (tree.of_query naming (q ∷ []))
+
+  into_resolved : (q : Select) (scope : Scope) → P (query_of q) → Plain schema scope → Clean (named_select q scope).note
+      → All (query_of (named_select q scope).it.it ∷ [])
+  unfolding named_expr named_select joined breaks clean lesser
+  into_resolved q scope h p c = (
+    record {
+      written = query_of q;
+      holds = h;
+      scope = scope;
+      plain = p;
+      clean = ap (λ t. (t.judge scope).note.least) (scalar_is q) ∙ c;
+      resolved = ap (λ t. (t.judge scope).it) (scalar_is q);
+    },
+    tt,
+  )
+
   -- ---- all statements
 
   some_same : {A : Type 0} (x y : A) → Some x ≡ Some y → x ≡ y
   some_same x y e = cc
 
   mutual
-    pub stmt_resolved : (x : Stmt) → Every P (stmt_of sourcing x) → ResolvesBy of_stmt (stmt_of resolving x)
+    pub stmt_resolved : (x : Stmt) → Every P (stmt_of texts x) → ResolvesBy of_stmt (stmt_of resolving x)
     stmt_resolved (b.Block' label decls m body closing) q =
-        let more : Sources = in_turn (stmts_of sourcing body) in
+        let more : Sources = in_turn (stmts_of texts body) in
         block_resolved label decls (stmts_of resolving body) closing (every_left P (defaults decls) more q)
         (stmts_resolved body (every_right P (defaults decls) more q))
     stmt_resolved (b.Assign name slot e) q =
         λ spot slots p c. assign_resolved name e spot q.0 p (variable_named name spot.scope.variables) (clean_parts _ _ (clear_own 1 _ c)).1
     stmt_resolved (b.If' m arms o) q =
-        let first : Sources = in_turn (branches_of sourcing arms) in
-        let more : Sources = of_else (else_of sourcing o) in
-        branched_resolved (λ arms o. stmt.If arms o) (λ arms o. eq.of_if sourcing arms o) (branches_of resolving arms) (else_of resolving o)
+        let first : Sources = in_turn (branches_of texts arms) in
+        let more : Sources = of_else (else_of texts o) in
+        branched_resolved (λ arms o. stmt.If arms o) (λ arms o. eq.of_if texts arms o) (branches_of resolving arms) (else_of resolving o)
         (branches_resolved arms (every_left P first more q)) (else_resolved o (every_right P first more q))
     stmt_resolved (b.Cases' m arms o) q =
-        let first : Sources = in_turn (branches_of sourcing arms) in
-        let more : Sources = of_else (else_of sourcing o) in
-        branched_resolved (λ arms o. stmt.Cases arms o) (λ arms o. eq.of_cases sourcing arms o) (branches_of resolving arms) (else_of resolving o)
+        let first : Sources = in_turn (branches_of texts arms) in
+        let more : Sources = of_else (else_of texts o) in
+        branched_resolved (λ arms o. stmt.Cases arms o) (λ arms o. eq.of_cases texts arms o) (branches_of resolving arms) (else_of resolving o)
         (branches_resolved arms (every_left P first more q)) (else_resolved o (every_right P first more q))
     stmt_resolved (b.Loop' label k m body closing) q =
-        let more : Sources = in_turn (stmts_of sourcing body) in
+        let more : Sources = in_turn (stmts_of texts body) in
         loop_resolved label k (stmts_of resolving body) closing (every_left P (of_kind k) more q) (stmts_resolved body (every_right P (of_kind k) more q))
     stmt_resolved (b.Exit label when) q = λ spot slots p c. maybe_resolved when spot.scope q p (clean_parts _ _ (clean_parts _ _ (clear_own 1 _ c)).1).1
     stmt_resolved (b.Continue label when) q = λ spot slots p c. maybe_resolved when spot.scope q p (clean_parts _ _ (clean_parts _ _ (clear_own 1 _ c)).1).1
     stmt_resolved (b.Return e) q = λ spot slots p c. one_resolved e spot.scope q.0 p (clear_own 1 _ c)
     stmt_resolved (b.Raise raised) q = λ spot slots p c. tt
-    stmt_resolved (b.Into strict targets query) q = λ spot slots p c. absurd (not_broken rule.Types (clear_own _ _ c))
+    stmt_resolved (b.Into strict targets query) q = λ spot slots p c. into_resolved query spot.scope q.0 p (clean_parts _ _ (clean_parts _ _ (clear_own _ _ c)).1).1
     stmt_resolved b.Nothing q = λ spot slots p c. tt
 
-    stmts_resolved : {m : _} (body : b.Row_of-Stmt m) → Every P (in_turn (stmts_of sourcing body)) → Every (ResolvesBy of_stmt) (stmts_of resolving body)
+    stmts_resolved : {m : _} (body : b.Row_of-Stmt m) → Every P (in_turn (stmts_of texts body)) → Every (ResolvesBy of_stmt) (stmts_of resolving body)
     stmts_resolved b.end_of-Stmt q = tt
     stmts_resolved (b.more_of-Stmt x rest) q =
-        let more : Sources = in_turn (stmts_of sourcing rest) in
-        (stmt_resolved x (every_left P (stmt_of sourcing x) more q), stmts_resolved rest (every_right P (stmt_of sourcing x) more q))
+        let more : Sources = in_turn (stmts_of texts rest) in
+        (stmt_resolved x (every_left P (stmt_of texts x) more q), stmts_resolved rest (every_right P (stmt_of texts x) more q))
 
-    branches_resolved : {m : _} (arms : b.Row_of-Arm m) → Every P (in_turn (branches_of sourcing arms))
+    branches_resolved : {m : _} (arms : b.Row_of-Arm m) → Every P (in_turn (branches_of texts arms))
         → Every (ResolvesBy of_arm) (branches_of resolving arms)
     branches_resolved b.end_of-Arm q = tt
     branches_resolved (b.more_of-Arm test m body rest) q =
-        let here : Sources = test ∷ in_turn (stmts_of sourcing body) in
-        let more : Sources = in_turn (branches_of sourcing rest) in
+        let here : Sources = test ∷ in_turn (stmts_of texts body) in
+        let more : Sources = in_turn (branches_of texts rest) in
         let one = every_left P here more q in
         (arm_resolved test (stmts_of resolving body) one.0 (stmts_resolved body one.1), branches_resolved rest (every_right P here more q))
 
-    else_resolved : (o : b.Held-Stmt-If-1) → Every P (of_else (else_of sourcing o)) → (gs : List (By Stmt)) → else_of resolving o ≡ Some gs
+    else_resolved : (o : b.Held-Stmt-If-1) → Every P (of_else (else_of texts o)) → (gs : List (By Stmt)) → else_of resolving o ≡ Some gs
         → Every (ResolvesBy of_stmt) gs
     else_resolved b.None' q gs e = cc
     else_resolved (b.Some' m body) q gs e = subst (Every (ResolvesBy of_stmt)) (some_same (stmts_of resolving body) gs e) (stmts_resolved body q)
@@ -241,15 +269,15 @@ module _ (P : Expr → Type 0) (schema : Schema) where
 -- ---- a whole function
 
 module _ (P : Expr → Type 0) where
-  body_resolved : (schema : Schema) (f : Function) → Every P (sources f.body) → Clear (function_note schema f)
-      → Every (StandsFor P schema) (sources (body_of schema f).it)
+  body_resolved : (schema : Schema) (f : Function) → Every P (sources whole_select f.body) → Clear (function_note schema f)
+      → Every (StandsFor P schema) (sources whole_select (body_of schema f).it)
   unfolding resolved_stmt sources
   body_resolved schema f q c =
       let body = clear_bodies (length f.params) (head_note f) (body_of schema f).note (types_note schema f) c in
       stmt_resolved P schema f.body q (entry schema f.params) (start f.params).slots (record { in_function = refl; no_levels = refl; tables = refl }) body.0
 
-  pub sources_stand : (schema : Schema) (written f : Function) (slots : List Slot) → IsChecked schema written f slots → Every P (sources written.body)
-      → Every (StandsFor P schema) (sources f.body)
+  pub sources_stand : (schema : Schema) (written f : Function) (slots : List Slot) → IsChecked schema written f slots → Every P (sources whole_select written.body)
+      → Every (StandsFor P schema) (sources whole_select f.body)
   sources_stand schema written f slots h q =
-      subst (λ (f : Function). Every (StandsFor P schema) (sources f.body)) (sym h.function)
+      subst (λ (f : Function). Every (StandsFor P schema) (sources whole_select f.body)) (sym h.function)
       (body_resolved schema written q h.unbroken)

@@ -1,5 +1,5 @@
 -- What holds of a function's expressions as a query has them.
-use Rattle.std.specs.Prelude.{◌≡◌, ℕ, List, get_or}
+use Rattle.std.specs.Prelude.{◌≡◌, ◌≤◌, ℕ, List, get_or}
 use Rattle.away_values.specs.declared.types.Ty.{Ty}
 use Rattle.away_values.specs.declared.types.Ty.TheVariants as ty
 use Rattle.away_grammar.specs.declared.grammar.Level.{Level}
@@ -9,6 +9,8 @@ use Rattle.away_trees.specs.declared.queries.Expr.{Expr}
 use Rattle.away_trees.specs.declared.queries.Expr.TheVariants as expr
 use Rattle.away_trees.specs.declared.schemas.Schema.{Schema}
 use Rattle.away_trees.specs.declared.statements.Function.{Function}
+use Rattle.away_trees.specs.Count.{nodes}
+use Rattle.away_trees.specs.Limits.{most_nodes}
 use Rattle.away_grammar.specs.FunctionGrammar.{ReadsFunction}
 use Rattle.away_grammar.specs.Terminals.{Terminal}
 use Rattle.away_grammar.specs.Grammar.{at, Reads}
@@ -17,12 +19,13 @@ use Rattle.away_types.specs.declared.slots.Slot.{Slot}
 use Rattle.away_types.specs.CheckedFunctions.{IsChecked}
 use Rattle.sql_meaning.specs.Placed.{placed_at}
 use Rattle.sql_meaning.specs.Reads.{slots_of}
-use Rattle.block_forms.specs.Expressions.{sources, expressions}
+use Rattle.block_forms.specs.Expressions.{sources, whole_select, expressions}
 use Rattle.block_forms.specs.FixedList.{null_as}
 use Rattle.block_forms.specs.Places.{Each}
 use Rattle.qualified_names.specs.Trees.{qualified_expr}
 use Rattle.plsql_parse.specs.Refusals.{MayBeRead, most_nesting}
 use Rattle.cte_names.specs.Own.{SeesTables, IsOwn}
+use Rattle.cte_types.specs.Typed.{NoIntegers}
 use Rattle.sql_printer.specs.Writable.{AllWritable}
 use Rattle.cte_prints.specs.Derivable.{Derivable}
 use Rattle.cte_prints.specs.Like.{IsCastable, value}
@@ -35,22 +38,28 @@ abbrev pub ReadNamesAreWritable : Type 0
 ReadNamesAreWritable = (level : Level) (ts : List Terminal) (x : Expr) (rest : List Terminal) → Reads (at level) ts x rest → AllWritable ts
     → NamesAreWritable value x
 
--- Each entry of a checked function's table can be derived where a query has it, in no more than 195
--- brackets one inside another: with the literals' casts, and CAST for each `::`, three times the 64
--- of the function's text and three. NULL of the type integer alone can't be derived, as no cast can
--- name that type.
-abbrev pub EntriesAreDerivable : (Function → Type 0) → Type 0
+-- Each entry of the table of a checked function within the limits can be derived where a query has
+-- it, in no more than 195 brackets one inside another: with the literals' casts, and CAST for each
+-- `::`, three times the 64 of the function's text and three. NULL of the type integer alone can't
+-- be derived, as no cast can name that type.
+abbrev pub EntriesAreDerivable : (Function → Function → List Slot → Type 0) → Type 0
 EntriesAreDerivable IsRead =
-    (schema : Schema) (written f : Function) (slots : List Slot) → IsChecked schema written f slots → IsRead written → (i : ℕ) (t : Ty) (s : Scope)
+    (schema : Schema) (written f : Function) (slots : List Slot) → IsChecked schema written f slots
+    → nodes f ≤ most_nodes → IsRead written f slots → (i : ℕ) (t : Ty) (s : Scope)
     (ref : ℕ → Col)
     → IsCastable t → (get_or (expressions f) i expr.Null ≡ null_as ty.Integer → ⊥)
     → SeesTables schema s → SightIsWritable s.levels → Each (λ k. IsOwn s.levels (ref k)) (slots_of (get_or (expressions f) i expr.Null))
     → Derivable 195 (at l.Or) (qualified_expr (placed_at t ref (get_or (expressions f) i expr.Null)) s.levels)
 
--- of a function whose source expressions are read from writable terminals
+-- of a function whose source expressions are read from writable terminals, the select of a SELECT
+-- INTO as one in brackets, and whose slots have types that a cast can name
 abbrev pub ExpressionsAreDerivable : Type 0
-ExpressionsAreDerivable = EntriesAreDerivable (λ (written : Function). Each (IsReadWithin most_nesting) (sources written.body))
+ExpressionsAreDerivable =
+    EntriesAreDerivable
+    (λ (written f : Function) slots.
+    Each (IsReadWithin most_nesting) (sources whole_select written.body) × NoIntegers slots f.result)
 
 -- of a function that a file reads as
 abbrev pub FileExpressionsAreDerivable : Type 0
-FileExpressionsAreDerivable = (bytes : List ℕ) → MayBeRead bytes → EntriesAreDerivable (λ (written : Function). ReadsFunction bytes written)
+FileExpressionsAreDerivable = (bytes : List ℕ) → MayBeRead bytes
+    → EntriesAreDerivable (λ (written f : Function) slots. ReadsFunction bytes written)

@@ -1,6 +1,8 @@
 -- What holds of how a function's query is written.
 use Rattle.std.specs.Prelude.{ℕ, ◌<◌, ◌≤◌, ◌^◌, List, length}
 use Rattle.away_grammar.specs.Grammar.{file}
+use Rattle.away_trees.specs.Count.{nodes}
+use Rattle.away_trees.specs.Limits.{most_nodes}
 use Rattle.away_trees.specs.declared.schemas.Schema.{Schema}
 use Rattle.away_trees.specs.declared.statements.Function.{Function}
 use Rattle.away_types.specs.declared.slots.Slot.{Slot}
@@ -8,6 +10,7 @@ use Rattle.away_types.specs.CheckedFunctions.{IsChecked}
 use Rattle.block_forms.specs.declared.forms.Goto.{Goto}
 use Rattle.block_forms.specs.declared.forms.Ssa.{Ssa}
 use Rattle.block_forms.specs.Expressions.{expressions}
+use Rattle.block_forms.specs.Intos.{intos}
 use Rattle.block_forms.specs.Lowered.{Lowered}
 use Rattle.block_forms.specs.Named.{Named}
 use Rattle.block_forms.specs.Places.{Each}
@@ -22,13 +25,17 @@ use Rattle.cte_template.specs.Numbers.{NumbersFit}
 use Rattle.cte_template.specs.Tree.{tree}
 use Rattle.qualified_names.specs.Trees.{qualified}
 use Rattle.cte_prints.specs.Derivable.{Derivable}
+use Rattle.cte_types.specs.Linked.{HasLinkedItems}
 use Rattle.cte_types.specs.Typed.{HasKind, NoIntegers}
 use Rattle.cte_prints.specs.DerivableParts.{TableIsDerivable}
 
--- What is asked of a function and its labels beside their relations: no integers of 32 bits,
--- parameters that have a terminal, and labels whose numbers are bigints.
+-- What is asked of a function and its labels beside their relations: that it keeps the limit of
+-- nodes, no integers of 32 bits, no item of a SELECT INTO that is a chain without links, parameters
+-- that have a terminal, and labels whose numbers are bigints.
 pub record IsWritable (f : Function) (slots : List Slot) (r : Tail) (params : ℕ) : Type 0 where
+  pub few : nodes f ≤ most_nodes
   pub types : NoIntegers slots f.result
+  pub items : Each HasLinkedItems (intos f.body)
   pub columns : Each HasKind r.columns
   pub parameters : params ≤ 64
   pub labels : length r.labels < 2 ^ 63

@@ -54,7 +54,8 @@ abbrev pub parameter : Ty → Option ℕ → Expr
 parameter t None = null_of t
 parameter t (Some n) = col 0 0 (suc n)
 
--- the cells of columns from the i-th on: the table's columns in the places of the entry's parameters
+-- the cells of columns from the i-th on: the table's columns in the places of the entry's
+-- parameters
 abbrev pub parameters_at : ℕ → List ℕ → List ℕ → List Ty → List Expr
 parameters_at i keys params [] = []
 parameters_at i keys params (t ∷ ts) =
@@ -64,8 +65,8 @@ parameters_at i keys params (t ∷ ts) =
 abbrev pub place_of_entry : Tail → ℕ → ℕ
 place_of_entry tail entry = label_or (length tail.labels) (label_of tail entry)
 
--- TRUE, the entry's label, the first column, the others in the places of the entry's parameters, and
--- no result
+-- TRUE, the entry's label, the first column, the others in the places of the entry's parameters,
+-- and no result
 abbrev pub starting_row : Ty → Anf → Tail → ℕ → List Expr
 starting_row result anf tail entry =
     let at : ℕ = place_of_entry tail entry in

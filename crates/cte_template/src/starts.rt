@@ -127,7 +127,8 @@ pub fn calls_of_rows(
 
 /// A key of ORDER BY, alone, in ascending order.
 fn ascending(alloc: Global, expr: Expr) -> Result<Items<Key>, NoMemory>
-    ensures { IfOk result (λ keys. keys ≡ roll-Key (record { expr = expr; descending = false }) ∷ []) }
+    ensures { IfOk result (λ keys. keys ≡ roll-Key (record { expr = expr; descending = false })
+        ∷ []) }
 {
     let mut keys = Items::new(alloc);
     keys.push(Key {

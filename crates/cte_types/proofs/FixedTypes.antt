@@ -1,5 +1,5 @@
 -- The entries of the fixed list have their types, over slots of the types that they are made for.
-use Rattle.std.proofs.Common.{◌≡◌, refl, ap, sym, ◌∙◌, subst, ℕ, zero, suc, ◌+◌, Bool, true, false, List, [], ◌∷◌, ◌++◌, length, get_or, slice_get, Some}
+use Rattle.std.proofs.Common.{◌≡◌, refl, ap, sym, ◌∙◌, subst, ℕ, zero, suc, Bool, true, false, List, [], ◌∷◌, ◌++◌, length, get_or, slice_get, Some}
 use Rattle.std.proofs.lemmas.Option.{same_Some}
 use Rattle.away_values.specs.declared.types.Ty.{Ty}
 use Rattle.away_values.specs.declared.types.Ty.TheVariants as ty
@@ -67,9 +67,12 @@ module _ (tables : List (List Ty)) where
   unfolding b.hidden-the_row-Expr-0 denote.Hole.Carrier.hidden kind_of uses_of outside unused fits same of_type cast_kind castable only_if
   one_typed = record { reads = refl; kind = refl; limited = refl; outside_list = refl }
 
-  copy_typed : Entry tables fix.Copy a_alone (ty.Bigint ∷ []) ty.Bigint
+  copy_typed : (t : Ty) → HasKind t → Entry tables fix.Copy a_alone (t ∷ []) t
   unfolding b.hidden-the_row-Expr-0 denote.Hole.Carrier.hidden kind_of uses_of outside unused of_slot fits same of_type kind_at
-  copy_typed = record { reads = refl; kind = refl; limited = refl; outside_list = refl }
+  copy_typed ty.Bigint h = record { reads = refl; kind = refl; limited = refl; outside_list = refl }
+  copy_typed ty.Boolean h = record { reads = refl; kind = refl; limited = refl; outside_list = refl }
+  copy_typed ty.Text h = record { reads = refl; kind = refl; limited = refl; outside_list = refl }
+  copy_typed ty.Integer h = absurd h
 
   range_typed : (reverse : Bool) → Entry tables (in_range_entry reverse) a_and_b numbers ty.Boolean
   unfolding b.hidden-the_row-Expr-0 denote.Hole.Carrier.hidden kind_of uses_of outside unused either of_slot fits same of_type kind_at is_right only_if meet
@@ -129,7 +132,7 @@ pub record FixedHave (tables : List (List Ty)) (table : List Expr) (slots : List
   pub null_tests : (t : Ty) (x : ℕ) → HasKind t → type_at slots x ≡ t → Has tables table slots result ty.Boolean (is_null S t x)
   pub positives : (x : ℕ) → type_at slots x ≡ ty.Bigint → Has tables table slots result ty.Boolean (not_positive S x)
   pub ones : Has tables table slots result ty.Bigint (one S)
-  pub copies : (x : ℕ) → type_at slots x ≡ ty.Bigint → Has tables table slots result ty.Bigint (copy S x)
+  pub copies : (t : Ty) (x : ℕ) → HasKind t → type_at slots x ≡ t → Has tables table slots result t (copy S x)
   pub ranges : (reverse : Bool) (x y : ℕ) → type_at slots x ≡ ty.Bigint → type_at slots y ≡ ty.Bigint
       → Has tables table slots result ty.Boolean (in_range S reverse x y)
   pub ends : (reverse : Bool) (x y : ℕ) → type_at slots x ≡ ty.Bigint → type_at slots y ≡ ty.Bigint
@@ -145,8 +148,8 @@ fixed_have tables es slots result = record {
   positives = λ x e. entry_has tables es slots result fix.NotPositive a_alone (ty.Bigint ∷ []) ty.Boolean (x ∷ []) (positive_typed tables)
       (beside_one tables es slots result ty.Bigint x e);
   ones = entry_has tables es slots result fix.One no_slot [] ty.Bigint [] (one_typed tables) (beside_none tables es slots result []);
-  copies = λ x e. entry_has tables es slots result fix.Copy a_alone (ty.Bigint ∷ []) ty.Bigint (x ∷ []) (copy_typed tables)
-      (beside_one tables es slots result ty.Bigint x e);
+  copies = λ t x h e. entry_has tables es slots result fix.Copy a_alone (t ∷ []) t (x ∷ []) (copy_typed tables t h)
+      (beside_one tables es slots result t x e);
   ranges = λ reverse x y d e. entry_has tables es slots result (in_range_entry reverse) a_and_b numbers ty.Boolean (x ∷ y ∷ []) (range_typed tables reverse)
       (beside_two tables es slots result x y d e);
   ends = λ reverse x y d e. entry_has tables es slots result (past_end_entry reverse) a_and_b numbers ty.Boolean (x ∷ y ∷ []) (end_typed tables reverse)

@@ -1,5 +1,5 @@
 -- The terms of a checked function's forms have their types.
-use Rattle.std.proofs.Common.{◌≡◌, refl, ap, sym, ◌∙◌, subst, ℕ, zero, suc, ◌+◌, ◌<◌, ◌≤◌, Bool, true, false, List, [], ◌∷◌, length, get_or, map, slice_get, Some, None, arith}
+use Rattle.std.proofs.Common.{◌≡◌, refl, ap, sym, ◌∙◌, subst, ℕ, suc, ◌+◌, ◌*◌, ◌<◌, Bool, true, false, List, [], ◌∷◌, length, get_or, map, slice_get, Some, None, arith}
 use Rattle.away_values.specs.declared.types.Ty.{Ty}
 use Rattle.away_values.specs.declared.types.Ty.TheVariants as ty
 use Rattle.away_trees.specs.declared.queries.Expr.{Expr}
@@ -14,14 +14,15 @@ use Rattle.block_forms.specs.declared.forms.Goto.{Goto}
 use Rattle.block_forms.specs.declared.forms.Ssa.{Ssa}
 use Rattle.block_forms.specs.declared.forms.SsaBlock.{SsaBlock}
 use Rattle.block_forms.specs.declared.forms.Term.{Term}
-use Rattle.block_forms.specs.Expressions.{sources, expressions}
+use Rattle.block_forms.specs.Expressions.{sources, source_expressions, expressions}
 use Rattle.block_forms.specs.FixedList.{fixed_list}
 use Rattle.block_forms.specs.Forms.{Assignment, Pairs}
+use Rattle.block_forms.specs.Intos.{intos}
 use Rattle.block_forms.specs.Laid.{Setting, laid}
 use Rattle.block_forms.specs.Lowered.{Lowered, TermBelow, SetBelow, EndBelow, setting, all_parts, param_parts, params_parts, body_place}
 use Rattle.block_forms.specs.Named.{Named, TermRenamed, AssignmentRenamed, EndRenamed, exit_map}
 use Rattle.block_forms.specs.Places.{Each}
-use Rattle.block_forms.specs.Slots.{slot, variables}
+use Rattle.block_forms.specs.Slots.{slot, variables, shown_types}
 use Rattle.block_forms.proofs.Keys.{each_at_key}
 use Rattle.call_forms.specs.declared.forms.Anf.{Anf}
 use Rattle.call_forms.specs.declared.forms.CallEnd.{CallEnd}
@@ -29,24 +30,21 @@ use Rattle.call_forms.specs.declared.forms.CallEnd.TheVariants.{Go, Pick, Return
 use Rattle.call_forms.specs.Called.{Called, EndCalled}
 use Rattle.call_forms.specs.Columned.{type_of_slot, type_at as type_of_option}
 use Rattle.call_forms.specs.Templated.{types_of, type_or_bigint}
+use Rattle.cte_types.specs.Linked.{HasLinkedItems}
 use Rattle.cte_types.specs.Typed.{HasTypeBy, TermHasType, SetHasType, EndHasType, BlockHasTypes, NoIntegers}
-use Rattle.cte_types.proofs.CheckedFacts.{Facts, params_stand, variables_stand, hidden_are}
+use Rattle.cte_types.proofs.CheckedFacts.{Facts, params_stand, variables_stand, for_slot, intos_stand}
 use Rattle.cte_types.proofs.FixedTypes.{FixedHave, fixed_have}
 use Rattle.cte_types.proofs.PartTypes.{Has, SetHas, EndHas, BlockHas, AllHave, have_both, has_at}
 use Rattle.cte_types.proofs.ExitMaps.{inside, element_there, exit_owned}
+use Rattle.cte_types.proofs.PieceTypes.{ForAt}
+use Rattle.cte_types.proofs.Positions.{Stand}
 use Rattle.cte_types.proofs.Standing.{Row, row_same, SlotAt, sources_stand, type_at}
 use Rattle.cte_types.proofs.StatementTypes.{StatementHas, statement_has}
 
--- what is no slot counts as bigint
-beyond : (slots : List Slot) (i : ℕ) → length slots ≤ i → type_at slots i ≡ ty.Bigint
-beyond [] i le = refl
-beyond (x ∷ xs) zero le = absurd (omega (arith, le))
-beyond (x ∷ xs) (suc i) le = beyond xs i (omega (arith, le))
-
 -- ---- the goto form
 
-module _ (schema : Schema) (f : Function) (slots : List Slot) (known : Facts schema f slots) (plain : NoIntegers slots f.result) (g : Goto)
-    (low : Lowered f slots g) where
+module _ (schema : Schema) (f : Function) (slots : List Slot) (known : Facts schema f slots) (plain : NoIntegers slots f.result)
+    (linked : Each HasLinkedItems (intos f.body)) (g : Goto) (low : Lowered f slots g) where
   abbrev tables : List (List Ty)
   tables = column_types schema
 
@@ -59,29 +57,53 @@ module _ (schema : Schema) (f : Function) (slots : List Slot) (known : Facts sch
   abbrev FixedAt : ℕ → Type 0
   FixedAt = FixedHave tables table slots f.result
 
-  text_fixed : FixedAt (length (sources f.body))
-  text_fixed = fixed_have tables (sources f.body) slots f.result
+  abbrev texts : List Expr
+  texts = source_expressions f
+
+  abbrev shown : List Ty
+  shown = shown_types f
+
+  abbrev fors : ℕ
+  fors = (laid f.body).size.fors
+
+  text_fixed : FixedAt (length texts)
+  text_fixed = fixed_have tables texts slots f.result
 
   -- the counts of the body, found over numbers that are known before
   abbrev counting : Setting
-  counting = record s { numbers = record { fixed = length (sources f.body); counters = length slots } }
+  counting = record s { numbers = record { fixed = length texts; counters = 0; targets = 0 } }
 
-  counted : StatementHas tables table f.result counting text_fixed plain (beyond slots) (laid f.body) (sources f.body) (variables f.body)
-  unfolding laid sources variables
-  counted = statement_has tables table f.result counting text_fixed plain (beyond slots) f.body known.types
+  no_for : (k : ℕ) → k < 0 → ForAt counting k
+  no_for k lt = absurd (omega (arith, lt))
+
+  counted : StatementHas tables table f.result counting shown 0 text_fixed plain no_for (laid f.body) texts (variables f.body) (intos f.body)
+  unfolding laid sources variables intos
+  counted = statement_has tables table f.result counting shown 0 text_fixed plain no_for f.body known.types
 
   fixed : FixedAt s.numbers.fixed
-  fixed = subst FixedAt (sym counted.count) text_fixed
+  fixed = subst FixedAt (sym counted.count.exprs) text_fixed
 
-  hidden : (i : ℕ) → s.numbers.counters ≤ i → type_at slots i ≡ ty.Bigint
-  hidden i le = subst (λ xs. type_at xs i ≡ ty.Bigint) (sym known.owned) (hidden_are f counted.vars i le)
+  own_for : (i j : ℕ) → i ≡ s.numbers.counters + j → j < 3 * fors → type_at slots i ≡ ty.Bigint
+  own_for i j e lt = subst (λ xs. type_at xs i ≡ ty.Bigint) (sym known.owned) (for_slot f counted.count.slots i j e lt)
+
+  hidden : (k : ℕ) → k < fors → ForAt s k
+  hidden k lt = record {
+    counter = own_for (s.numbers.counters + 3 * k) (3 * k) refl (omega (arith, lt));
+    last = own_for (s.numbers.counters + 3 * k + 1) (3 * k + 1) (omega arith) (omega (arith, lt));
+    step = own_for (s.numbers.counters + 3 * k + 2) (3 * k + 2) (omega arith) (omega (arith, lt));
+  }
+
+  body_stand : Stand table s shown fors (body_place f) (laid f.body).size texts (variables f.body) (intos f.body)
+  body_stand = record {
+    exprs = sources_stand texts fixed_list;
+    slots = subst (λ xs. Row (SlotAt xs) (length f.params) (variables f.body)) (sym known.owned) (variables_stand f);
+    room = omega arith;
+    intos = intos_stand f counted.count.slots table s known.owned refl known.sets linked;
+  }
 
   body_have : AllHave tables table slots f.result ((laid f.body).parts s (body_place f) [] g.finish)
-  unfolding laid sources variables
-  body_have =
-      (statement_has tables table f.result s fixed plain hidden f.body known.types).goes (body_place f) [] g.finish
-      (sources_stand (sources f.body) fixed_list)
-      (subst (λ xs. Row (SlotAt xs) (length f.params) (variables f.body)) (sym known.owned) (variables_stand f))
+  unfolding laid sources variables intos
+  body_have = (statement_has tables table f.result s shown fors fixed plain hidden f.body known.types).goes (body_place f) [] g.finish body_stand
 
   param_has : (strict : Bool) (i : ℕ) (t : Ty) → SlotAt slots i (slot t) → AllHave tables table slots f.result (param_parts s strict f.result i t)
   param_has false i t at = (tt, tt)

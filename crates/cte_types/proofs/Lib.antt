@@ -2,7 +2,12 @@ pub mod Standing
 pub mod PartTypes
 pub mod FixedTypes
 pub mod PieceTypes
+pub mod Positions
+pub mod EntryTypes
+pub mod EntryUses
+pub mod IntoParts
 pub mod StatementTypes
+pub mod IntoTargets
 pub mod CheckedFacts
 pub mod ExitMaps
 pub mod FormTypes

@@ -31,21 +31,22 @@ use Rattle.away_types.specs.declared.slots.Slot.{Slot}
 use Rattle.away_types.specs.CheckedFunctions.{IsChecked}
 use Rattle.away_typing.specs.Parameters.{Found, finding}
 use Rattle.away_typing.specs.Parameters as params
-use Rattle.block_forms.specs.Expressions.{Sources, sources, expressions}
+use Rattle.select_into.specs.Entries.{into_entries}
+use Rattle.block_forms.specs.Expressions.{Sources, sources, whole_select, source_expressions, expressions}
 use Rattle.block_forms.specs.declared.fixed_list.Fixed.{Fixed}
 use Rattle.block_forms.specs.declared.fixed_list.Fixed.TheVariants as fix
 use Rattle.block_forms.specs.FixedList.{expression, entries, fixed_list}
 use Rattle.block_forms.specs.Places.{Each}
+use Rattle.block_forms.specs.Slots.{shown_types}
 use Rattle.cte_names.proofs.Sources.{IsResolved, checked_sources}
 use Rattle.sql_meaning.proofs.Related.{AlikeOption, AlikeLink, AlikeArm, Relation, IsKept, expr_related}
 use Rattle.type_soundness.proofs.CleanNotes.{Clean, clean_parts, not_broken}
+use Rattle.function_facts.proofs.Entries.{stmt_entries}
 use Rattle.function_facts.proofs.Names.{every_each}
 use Rattle.function_facts.proofs.TreesInSight.{firsts}
 use Rattle.type_soundness.specs.Sorts.{Every}
+use Rattle.cte_types.proofs.EntryUses.{IsQuiet, entries_quiet}
 use Rattle.cte_types.proofs.Fine.{Quiet, quiet_is, quiet_all}
-
-abbrev pub IsQuiet : Expr → Type 0
-IsQuiet e = Quiet (expr_of finding e)
 
 -- ---- what holds of each kind of node
 
@@ -385,7 +386,11 @@ each_of_every [] h i x e = cc
 each_of_every (y ∷ es) h zero x e = subst IsQuiet (same_Some y x e) h.0
 each_of_every (y ∷ es) h (suc i) x e = each_of_every es h.1 i x e
 
+text_quiet : (f : Function) → Every IsQuiet (sources whole_select f.body) → Every IsQuiet (source_expressions f)
+unfolding sources
+text_quiet f h = stmt_entries IsQuiet (into_entries (shown_types f)) (λ strict ts q h. entries_quiet (shown_types f) strict ts q h) f.body h
+
 pub checked_quiet : (schema : Schema) (written f : Function) (slots : List Slot) → IsChecked schema written f slots → Each IsQuiet (expressions f)
 checked_quiet schema written f slots h =
     each_of_every (expressions f)
-    (every_append IsQuiet (sources f.body) fixed_list (sources_quiet schema (sources f.body) (checked_sources schema written f slots h)) fixed_quiet)
+    (every_append IsQuiet (source_expressions f) fixed_list (text_quiet f (sources_quiet schema (sources whole_select f.body) (checked_sources schema written f slots h))) fixed_quiet)

@@ -6,31 +6,37 @@ use Rattle.away_values.specs.declared.types.Ty.{Ty}
 use Rattle.away_values.specs.declared.types.Ty.TheVariants as ty
 use Rattle.away_trees.specs.declared.queries.Expr.{Expr}
 use Rattle.away_trees.specs.declared.queries.Expr.TheVariants as expr
+use Rattle.away_trees.specs.declared.queries.Select.{Select}
+use Rattle.away_trees.specs.Algebra.{expr_of}
 use Rattle.away_types.specs.declared.slots.Slot.{Slot}
 use Rattle.away_types.specs.FunctionChecks.{slot_types}
 use Rattle.away_types.specs.StatementTypes.{Asked, asked}
 use Rattle.away_names.specs.declared.rule.Rule.TheVariants as rule
 use Rattle.away_names.specs.Notes.{breaks}
-use Rattle.away_typing.specs.Aggregates.{outside}
+use Rattle.away_typing.specs.Aggregates.{using_, outside}
 use Rattle.away_typing.specs.Kinds.{fits}
 use Rattle.away_typing.specs.Trees.{kind_of, uses_of}
+use Rattle.away_typing.specs.Typing.{typing}
 use Rattle.sql_meaning.specs.Reads.{slots_of}
+use Rattle.select_into.specs.Wrapped.{select_slots}
 use Rattle.block_forms.specs.declared.forms.Block.{Block}
 use Rattle.block_forms.specs.declared.forms.End.{End}
 use Rattle.block_forms.specs.declared.forms.End.TheVariants as jump
 use Rattle.block_forms.specs.declared.forms.Term.{Term}
 use Rattle.block_forms.specs.Forms.{Assignment}
 use Rattle.block_forms.specs.Lowered.{AllStand, TermBelow, one_of, owners, sharers}
-use Rattle.block_forms.specs.Patterns.{Part, own, shared, same, never, source_term}
+use Rattle.block_forms.specs.Patterns.{Part, own, shared, same, never, source_term, select_term}
+use Rattle.block_forms.specs.Places.{EachPair}
 use Rattle.type_soundness.proofs.CleanNotes.{Clean, clean_parts, test_fails}
 use Rattle.cte_types.specs.Typed.{HasTypeBy, TermHasType}
+use Rattle.cte_types.proofs.Fine.{Calm, outside_calm}
 use Rattle.cte_types.proofs.Standing.{type_at, type_there}
 
-neither : (a b : Bool) → (a || b) ≡ false → (a ≡ false) × (b ≡ false)
+pub neither : (a b : Bool) → (a || b) ≡ false → (a ≡ false) × (b ≡ false)
 neither true b h = cc
 neither false b h = (refl, h)
 
-not_false : (a : Bool) → not a ≡ false → a ≡ true
+pub not_false : (a : Bool) → not a ≡ false → a ≡ true
 not_false true h = refl
 not_false false h = cc
 
@@ -92,6 +98,23 @@ module _ (tables : List (List Ty)) (table : List Expr) (slots : List Slot) (resu
   pub source_has : (k : ℕ) (t : Ty) (e : Expr) → get_or table k expr.Null ≡ e → Clean (asked places t e) → Has t (source_term k e)
   source_has k t e h c below =
       subst (HasTypeBy tables (type_at slots) (slots_of e) t) (sym h) (source_typed t e c (record { names = below.names }))
+
+  -- an entry of a SELECT INTO, which reads the slots of the select
+  pub select_has : (k : ℕ) (t : Ty) (q : Select) (e : Expr) → get_or table k expr.Null ≡ e → slots_of e ≡ select_slots q
+      → fits t (expr_of typing e places.places) ≡ true → Calm (expr_of using_ e).uses → Has t (select_term k q)
+  unfolding kind_of uses_of
+  select_has k t q e h reads kind calm below =
+      subst (HasTypeBy tables (type_at slots) (select_slots q) t) (sym h)
+      (record {
+        slots = slot_types slots;
+        beside = subst (λ (read : List ℕ). EachPair (λ k i n. slice_get (slot_types slots) i ≡ Some (type_at slots n)) read (select_slots q)) (sym reads)
+            (λ k i n at_i at_n.
+            subst (λ m. slice_get (slot_types slots) m ≡ Some (type_at slots n)) (same_Some n i (sym at_n ∙ at_i))
+            (type_there slots n (below.names k n at_n)));
+        kind = kind;
+        limited = calm.limited;
+        outside_list = (outside_calm (expr_of using_ e).uses calm).misused;
+      })
 
   -- ---- a block that has a part
 

@@ -1,5 +1,5 @@
 -- The parts of setting a slot, of leaving and of a loop's head have their types.
-use Rattle.std.proofs.Common.{◌≡◌, refl, ap, sym, subst, ℕ, zero, suc, ◌+◌, ◌≤◌, Bool, true, false, List, [], ◌∷◌, ◌++◌, slice_get, Option, Some, None, arith, ◌⊎◌, inl, inr}
+use Rattle.std.proofs.Common.{◌≡◌, refl, ap, sym, subst, ℕ, zero, suc, ◌+◌, ◌*◌, ◌<◌, ◌≤◌, Bool, true, false, List, [], ◌∷◌, ◌++◌, slice_get, Option, Some, None, arith, ◌⊎◌, inl, inr}
 use Rattle.away_values.specs.declared.types.Ty.{Ty}
 use Rattle.away_values.specs.declared.types.Ty.TheVariants as ty
 use Rattle.away_trees.specs.declared.queries.Expr.{Expr}
@@ -16,7 +16,7 @@ use Rattle.plsql_meaning.specs.Outcomes.{invalid_parameter}
 use Rattle.block_forms.specs.declared.forms.Term.{Term}
 use Rattle.block_forms.specs.declared.places.Position.{Position}
 use Rattle.block_forms.specs.Expressions.{if_there, of_kind}
-use Rattle.block_forms.specs.Laid.{Setting, default_term, decl_parts, assign_parts, kind_parts}
+use Rattle.block_forms.specs.Laid.{Setting, kind_size, default_term, decl_parts, assign_parts, kind_parts}
 use Rattle.block_forms.specs.Patterns.{Part, own, shared, branches, fails, not_positive, one, copy, moved, node, jump_of, yes_of, no_of, source_term, set_parts, slot_parts, leave_parts, exit_parts, bound_parts, step_parts, turn_parts, for_parts, cur_of, after_bound, for_head, for_test}
 use Rattle.block_forms.specs.Slots as slot
 use Rattle.block_forms.specs.Slots.{slot_of}
@@ -29,14 +29,20 @@ use Rattle.cte_types.proofs.FixedTypes.{FixedHave}
 use Rattle.cte_types.proofs.PartTypes.{places, Has, AllHave, have_both, source_has}
 use Rattle.cte_types.proofs.Standing.{Row, row_same, Entry, SlotAt, type_at}
 
-type_in : (slots : List Slot) (i : ℕ) → (slice_get (slot_types slots) i ≡ None) ⊎ (slice_get (slot_types slots) i ≡ Some (type_at slots i))
+pub type_in : (slots : List Slot) (i : ℕ) → (slice_get (slot_types slots) i ≡ None) ⊎ (slice_get (slot_types slots) i ≡ Some (type_at slots i))
 type_in [] i = inl refl
 type_in (x ∷ xs) zero = inr refl
 type_in (x ∷ xs) (suc i) = type_in xs i
 
-module _ (tables : List (List Ty)) (table : List Expr) (result : Ty) (s : Setting) (fixed : FixedHave tables table s.slots result s.numbers.fixed)
-    (plain : NoIntegers s.slots result)
-    (hidden : (i : ℕ) → s.numbers.counters ≤ i → type_at s.slots i ≡ ty.Bigint) where
+-- the counter, the last value and the step of a FOR with so many others before it
+pub record ForAt (s : Setting) (f : ℕ) : Type 0 where
+  pub counter : type_at s.slots (s.numbers.counters + 3 * f) ≡ ty.Bigint
+  pub last : type_at s.slots (s.numbers.counters + 3 * f + 1) ≡ ty.Bigint
+  pub step : type_at s.slots (s.numbers.counters + 3 * f + 2) ≡ ty.Bigint
+
+module _ (tables : List (List Ty)) (table : List Expr) (result : Ty) (s : Setting) (fors : ℕ)
+    (fixed : FixedHave tables table s.slots result s.numbers.fixed) (plain : NoIntegers s.slots result)
+    (hidden : (f : ℕ) → f < fors → ForAt s f) where
   abbrev Have : List Part → Type 0
   Have = AllHave tables table s.slots result
 
@@ -68,7 +74,7 @@ module _ (tables : List (List Ty)) (table : List Expr) (result : Ty) (s : Settin
   set_has false t c x next e k at h = ((h, tt), tt)
   set_has true t c x next e k at h = ((h, tt), ((tt, fixed.null_tests t x k at), ((tt, tt), tt)))
 
-  slot_has : (o : Option Slot) (c x next : ℕ) (e : Term) → slice_get s.slots x ≡ o → HasIt (of_slot x) e → Have (slot_parts s.goto s.numbers o c x e next)
+  pub slot_has : (o : Option Slot) (c x next : ℕ) (e : Term) → slice_get s.slots x ≡ o → HasIt (of_slot x) e → Have (slot_parts s.goto s.numbers o c x e next)
   slot_has None c x next e at h = set_has false ty.Bigint c x next e tt (ap (λ o. type_or_bigint (type_of_slot o)) at) h
   slot_has (Some d) c x next e at h = set_has d.not_null d.ty c x next e (plain.slots_are x d at) (ap (λ o. type_or_bigint (type_of_slot o)) at) h
 
@@ -131,15 +137,15 @@ module _ (tables : List (List Ty)) (table : List Expr) (result : Ty) (s : Settin
       → of_slot step ≡ ty.Bigint
       → Have (turn_parts s.goto s.numbers reverse var cur last step head test body next)
   turn_has reverse var cur last step head test body next v c l b =
-      let start = subst (λ t. HasIt t (copy s.numbers.fixed cur)) (sym v) (fixed.copies cur c) in
+      let start = subst (λ t. HasIt t (copy s.numbers.fixed cur)) (sym v) (fixed.copies ty.Bigint cur tt c) in
       let further = subst (λ t. HasIt t (moved s.numbers.fixed reverse cur step)) (sym c) (fixed.moves reverse cur step c b) in
       ((tt, fixed.ranges reverse cur last c l), ((start, tt), ((tt, fixed.ends reverse step cur b c), ((further, tt), tt))))
 
-  for_has : (reverse : Bool) (first last : Expr) (by : Option Expr) (p : Position) (body next : ℕ) → of_slot p.slot ≡ ty.Bigint
+  for_has : (reverse : Bool) (first last : Expr) (by : Option Expr) (p : Position) (body next : ℕ) → of_slot p.slot ≡ ty.Bigint → p.fors < fors
       → At p.expr (first ∷ last ∷ if_there by)
       → Clean (asked a ty.Bigint first) → Clean (asked a ty.Bigint last) → Clean (maybe_asked a ty.Bigint by)
       → Have (for_parts s.goto s.numbers reverse first last by p body next)
-  for_has reverse first last by p body next var h n₁ n₂ n₃ =
+  for_has reverse first last by p body next var room h n₁ n₂ n₃ =
       let b0 = node s.goto p.node in
       let b1 = after_bound s.goto b0 in
       let b2 = after_bound s.goto b1 in
@@ -148,9 +154,10 @@ module _ (tables : List (List Ty)) (table : List Expr) (result : Ty) (s : Settin
       let test = for_test s.goto s.numbers reverse p.fors in
       let second = at_same (suc p.expr) (p.expr + 1) (last ∷ if_there by) (omega arith) h.1 in
       let third = at_same (suc (suc p.expr)) (p.expr + 2) (if_there by) (omega arith) h.1.1 in
-      let counter = hidden cur (omega arith) in
-      let end = hidden (cur + 1) (omega arith) in
-      let step = hidden (cur + 2) (omega arith) in
+      let mine = hidden p.fors room in
+      let counter = mine.counter in
+      let end = mine.last in
+      let step = mine.step in
       let firsts = bound_parts s.goto s.numbers b0 cur (source_term p.expr first) b1 in
       let lasts = bound_parts s.goto s.numbers b1 (cur + 1) (source_term (p.expr + 1) last) b2 in
       let steps = step_parts s.goto s.numbers by (p.expr + 2) b2 (cur + 2) head in
@@ -161,10 +168,10 @@ module _ (tables : List (List Ty)) (table : List Expr) (result : Ty) (s : Settin
       (turn_has reverse p.slot cur (cur + 1) (cur + 2) head test body next var counter end step)))
 
   pub kind_has : (k : LoopKind) (p : Position) (body next : ℕ) → Clean (head_asked k a) → At p.expr (of_kind k) → Row (SlotAt s.slots) p.slot (slot.of_kind k)
-      → Have (kind_parts s k p body next)
-  kind_has kind.Plain p body next n h d = ((tt, tt), tt)
-  kind_has (kind.While e) p body next n h d = ((tt, source p.expr ty.Boolean e h.0 n), tt)
-  kind_has (kind.Count name reverse first last by) p body next n h d =
+      → p.fors + (kind_size k).fors ≤ fors → Have (kind_parts s k p body next)
+  kind_has kind.Plain p body next n h d room = ((tt, tt), tt)
+  kind_has (kind.While e) p body next n h d room = ((tt, source p.expr ty.Boolean e h.0 n), tt)
+  kind_has (kind.Count name reverse first last by) p body next n h d room =
       let two = clean_parts (asked a ty.Bigint first) (joined (asked a ty.Bigint last) (maybe_asked a ty.Bigint by)) n in
       let more = clean_parts (asked a ty.Bigint last) (maybe_asked a ty.Bigint by) two.1 in
-      for_has reverse first last by p body next (ap (λ o. type_or_bigint (type_of_slot o)) d.0) h two.0 more.0 more.1
+      for_has reverse first last by p body next (ap (λ o. type_or_bigint (type_of_slot o)) d.0) (omega (arith, room)) h two.0 more.0 more.1

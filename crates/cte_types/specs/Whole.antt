@@ -11,6 +11,7 @@ use Rattle.away_typing.specs.Wholes.{judged}
 use Rattle.block_forms.specs.declared.forms.Goto.{Goto}
 use Rattle.block_forms.specs.declared.forms.Ssa.{Ssa}
 use Rattle.block_forms.specs.Expressions.{expressions}
+use Rattle.block_forms.specs.Intos.{intos}
 use Rattle.block_forms.specs.Lowered.{Lowered}
 use Rattle.block_forms.specs.Named.{Named}
 use Rattle.block_forms.specs.Places.{Each}
@@ -22,15 +23,17 @@ use Rattle.call_forms.specs.Merged.{Merged}
 use Rattle.cte_template.specs.Making.{making_of}
 use Rattle.cte_template.specs.Tree.{tree}
 use Rattle.cte_types.specs.Typed.{HasKind, NoIntegers}
-use Rattle.cte_types.specs.Linked.{IsLinked}
+use Rattle.cte_types.specs.Linked.{IsLinked, HasLinkedItems}
 
 -- What is asked of a function and its columns beside their relations: no integers of 32 bits and no
--- chain without links, which no reader makes, and tables whose number fits a place.
+-- chain without links, as an expression or an item of a SELECT INTO, which no reader makes, and
+-- tables whose number fits a place.
 pub record IsTypable (schema : Schema) (f : Function) (slots : List Slot) (r : Tail) : Type 0 where
   pub few : length schema.tables < 2 ^ 64
   pub types : NoIntegers slots f.result
   pub columns : Each HasKind r.columns
   pub linked : Each IsLinked (expressions f)
+  pub items : Each HasLinkedItems (intos f.body)
 
 -- A query that is read as the tree of a checked function's forms, with no rule of names broken and
 -- the recursive table named in the second term alone, and there once, breaks no rule.

@@ -12,7 +12,7 @@ use std::fmt::Write;
 use std::process::Abort;
 
 /// Parameters, attributes and bodies, and the forms that they have.
-const ROWS: [(&str, &str, &str, &str); 7] = [
+const ROWS: [(&str, &str, &str, &str); 8] = [
     (
         "a bigint",
         "",
@@ -57,6 +57,13 @@ const ROWS: [(&str, &str, &str, &str); 7] = [
         "",
         "BEGIN CASE WHEN a > 0 THEN RAISE EXCEPTION 'x'; END CASE; END",
         ">2 !2F005 ?#0(0)>3:4 !P0001 !20000 | 2 2 2 2 3",
+    ),
+    (
+        "a bigint",
+        "",
+        "DECLARE r bigint NOT NULL := 0; BEGIN SELECT a, 1 INTO STRICT r, a; RETURN r; END",
+        ">2 !2F005 s1=#0()>3 ?#9(1)>4:5 !22004 ?#1(0)>6:7 !P0002 ?#2(0)>8:9 !P0003 s2=#3(0)>10 s3=#4(0)>11 \
+        s1=#20(2)>12 ?#9(1)>13:14 !22004 s0=#20(3)>15 =#5(1) | 2 2 2 5 9 10 15",
     ),
 ];
 

@@ -21,12 +21,14 @@ use Rattle.away_types.specs.Findings.{own, nothing, followed, branched}
 use Rattle.away_types.specs.StatementTypes as checks
 use Rattle.away_types.specs.StatementTypes.{Asked, asked, maybe_asked, asked_of_slot, head_asked, asked_stmt}
 use Rattle.sql_meaning.specs.Meaning.{has_aggregate}
-use Rattle.block_forms.specs.Expressions.{Sources, sourcing, in_turn, if_there, defaults, of_kind, of_else}
+use Rattle.block_forms.specs.Expressions.{Sources, in_turn, if_there, defaults, of_kind, of_else}
 use Rattle.type_soundness.specs.Sorts.{Every}
 use Rattle.away_types.proofs.ClearReports.{Clear, clear_own, clear_parts, clear_within, clear_branches}
 use Rattle.type_soundness.proofs.CleanNotes.{Clean, clean_parts, not_broken, test_fails}
 use Rattle.type_soundness.proofs.Lists.{every_append}
 use Rattle.function_facts.proofs.Aggregates.{aggregates_are}
+use Rattle.function_facts.proofs.Found.{whole}
+use Rattle.function_facts.proofs.WholeSelects.{whole_single}
 
 abbrev pub IsSingle : Expr → Type 0
 IsSingle e = has_aggregate e ≡ false
@@ -81,38 +83,38 @@ module _ (a : Asked) where
   both_single m n xs ys h k c = let both = clear_branches m n c in every_append IsSingle xs ys (h both.0) (k both.1)
 
   mutual
-    stmt_single : (x : Stmt) → Clear (stmt_of checks.asking x a) → AreSingle (stmt_of sourcing x)
+    stmt_single : (x : Stmt) → Clear (stmt_of checks.asking x a) → AreSingle (stmt_of whole x)
     stmt_single (b.Block' label decls n body closing) c =
-        within_single _ (checks.defaults decls a) (checks.all_by (stmts_of checks.asking body) a) (defaults decls) (in_turn (stmts_of sourcing body))
+        within_single _ (checks.defaults decls a) (checks.all_by (stmts_of checks.asking body) a) (defaults decls) (in_turn (stmts_of whole body))
         (λ c. (defaults_single decls clean c).1) (λ c. (stmts_single body nothing c).1) c
     stmt_single (b.Assign name slot e) c = (slot_single (checks.slot_of a slot) e (clear_own 1 _ c), tt)
     stmt_single (b.If' n arms o) c =
-        both_single (checks.all_by (branches_of checks.asking arms) a) (checks.maybe_by (else_of checks.asking o) a) (in_turn (branches_of sourcing arms))
-        (of_else (else_of sourcing o)) (λ c. (branches_single arms nothing c).1) (λ c. else_single o c) c
+        both_single (checks.all_by (branches_of checks.asking arms) a) (checks.maybe_by (else_of checks.asking o) a) (in_turn (branches_of whole arms))
+        (of_else (else_of whole o)) (λ c. (branches_single arms nothing c).1) (λ c. else_single o c) c
     stmt_single (b.Cases' n arms o) c =
-        both_single (checks.all_by (branches_of checks.asking arms) a) (checks.maybe_by (else_of checks.asking o) a) (in_turn (branches_of sourcing arms))
-        (of_else (else_of sourcing o)) (λ c. (branches_single arms nothing c).1) (λ c. else_single o c) c
+        both_single (checks.all_by (branches_of checks.asking arms) a) (checks.maybe_by (else_of checks.asking o) a) (in_turn (branches_of whole arms))
+        (of_else (else_of whole o)) (λ c. (branches_single arms nothing c).1) (λ c. else_single o c) c
     stmt_single (b.Loop' label k n body closing) c =
-        within_single 1 (head_asked k a) (checks.all_by (stmts_of checks.asking body) a) (of_kind k) (in_turn (stmts_of sourcing body))
+        within_single 1 (head_asked k a) (checks.all_by (stmts_of checks.asking body) a) (of_kind k) (in_turn (stmts_of whole body))
         (λ c. head_single k c) (λ c. (stmts_single body nothing c).1) c
     stmt_single (b.Exit label when) c = maybe_single Boolean when (clear_own 1 _ c)
     stmt_single (b.Continue label when) c = maybe_single Boolean when (clear_own 1 _ c)
     stmt_single (b.Return e) c = (one_single a.result e (clear_own 1 _ c), tt)
     stmt_single (b.Raise raised) c = tt
-    stmt_single (b.Into strict targets query) c = tt
+    stmt_single (b.Into strict targets query) c = (whole_single query, tt)
     stmt_single b.Nothing c = tt
 
     stmts_single : {m : _} (body : b.Row_of-Stmt m) (acc : Report) → Clear (fold (λ r (f : checks.By). followed r (f a)) acc (stmts_of checks.asking body))
-        → Clear acc × AreSingle (in_turn (stmts_of sourcing body))
+        → Clear acc × AreSingle (in_turn (stmts_of whole body))
     stmts_single b.end_of-Stmt acc c = (c, tt)
     stmts_single (b.more_of-Stmt x rest) acc c =
         let more = stmts_single rest (followed acc (stmt_of checks.asking x a)) c in
         let both = clear_parts acc (stmt_of checks.asking x a) more.0 in
-        (both.0, every_append IsSingle (stmt_of sourcing x) (in_turn (stmts_of sourcing rest)) (stmt_single x both.1) more.1)
+        (both.0, every_append IsSingle (stmt_of whole x) (in_turn (stmts_of whole rest)) (stmt_single x both.1) more.1)
 
     branches_single : {m : _} (arms : b.Row_of-Arm m) (acc : Report)
         → Clear (fold (λ r (f : checks.By). followed r (f a)) acc (branches_of checks.asking arms))
-        → Clear acc × AreSingle (in_turn (branches_of sourcing arms))
+        → Clear acc × AreSingle (in_turn (branches_of whole arms))
     branches_single b.end_of-Arm acc c = (c, tt)
     branches_single (b.more_of-Arm test n body rest) acc c =
         let note = followed (own 1 (asked a Boolean test)) (checks.all_by (stmts_of checks.asking body) a) in
@@ -120,14 +122,14 @@ module _ (a : Asked) where
         let both = clear_parts acc note more.0 in
         let arm = clear_within 1 (asked a Boolean test) (checks.all_by (stmts_of checks.asking body) a) both.1 in (
           both.0,
-          every_append IsSingle (test ∷ in_turn (stmts_of sourcing body)) (in_turn (branches_of sourcing rest))
+          every_append IsSingle (test ∷ in_turn (stmts_of whole body)) (in_turn (branches_of whole rest))
               (one_single Boolean test arm.0, (stmts_single body nothing arm.1).1) more.1,
         )
 
-    else_single : (o : b.Held-Stmt-If-1) → Clear (checks.maybe_by (else_of checks.asking o) a) → AreSingle (of_else (else_of sourcing o))
+    else_single : (o : b.Held-Stmt-If-1) → Clear (checks.maybe_by (else_of checks.asking o) a) → AreSingle (of_else (else_of whole o))
     else_single b.None' c = tt
     else_single (b.Some' n body) c = (stmts_single body nothing (clear_within 1 clean (checks.all_by (stmts_of checks.asking body) a) c).1).1
 
-pub asked_single : (a : Asked) (x : Stmt) → Clear (asked_stmt a x) → AreSingle (stmt_of sourcing x)
+pub asked_single : (a : Asked) (x : Stmt) → Clear (asked_stmt a x) → AreSingle (stmt_of whole x)
 unfolding asked_stmt
 asked_single a x c = stmt_single a x c

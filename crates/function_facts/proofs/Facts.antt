@@ -1,27 +1,31 @@
 -- What is known of some written function's checked function holds of it: each fact is a proposition.
-use Rattle.std.proofs.Common.{◌≡◌, refl, sym, subst, ℕ, zero, suc, ◌+◌, ◌<◌, ◌≤◌, arith, lt-ltb, Bool, true, false, ◌&&◌, nat_lt, List, [], ◌∷◌, Some}
+use Rattle.std.proofs.Common.{◌≡◌, refl, sym, ap, subst, ◌∙◌, ℕ, zero, suc, ◌+◌, ◌<◌, ◌≤◌, arith, lt-ltb, Bool, true, ◌&&◌, nat_lt, List, [], ◌∷◌, Some}
 use Rattle.std.specs.List.{list_all}
 use Rattle.std.specs.Coded.{Coded, Coded-set, coded_ℕ, coded_bool, coded_list, coded×, code_by, le_prop}
-use Rattle.std.proofs.Math.Bool.{Bool-set}
 use Rattle.std.proofs.Math.Logic.{∥∥₁_elim}
 use Rattle.away_values.specs.declared.types.Ty.{Ty}
 use Rattle.away_values.specs.declared.types.Ty.TheVariants as ty
 use Rattle.away_trees.specs.declared.queries.Expr.{Expr}
+use Rattle.away_trees.specs.declared.queries.Select.{Select}
 use Rattle.away_trees.specs.declared.schemas.Schema.{Schema}
 use Rattle.away_trees.specs.declared.statements.Function.{Function}
 use Rattle.away_types.specs.declared.slots.Slot.{Slot}
 use Rattle.away_types.specs.CheckedFunctions.{IsChecked, IsCheckedOfSome}
 use Rattle.sql_meaning.specs.Reads as read
 use Rattle.sql_meaning.specs.Reads.{Read, allows, reads}
-use Rattle.block_forms.specs.Expressions.{sources}
-use Rattle.block_forms.specs.OwnSlots.{OwnSlots, ReadsBelow, named_slots}
+use Rattle.select_into.specs.Entries.{Target, into_entries}
+use Rattle.plsql_meaning.specs.Sight.{query_of}
+use Rattle.block_forms.specs.Expressions.{sources, source_expressions, whole_select}
+use Rattle.block_forms.specs.Intos.{Into, intos}
+use Rattle.block_forms.specs.OwnSlots.{OwnSlots, ReadsBelow, IsInto, named_slots}
 use Rattle.block_forms.specs.Places.{Each}
-use Rattle.block_forms.specs.Slots.{own_slots, has_into}
+use Rattle.block_forms.specs.Slots.{own_slots, shown_types}
 use Rattle.block_forms.specs.Targets.{targets}
 use Rattle.type_soundness.specs.Sorts.{Every}
 use Rattle.function_facts.proofs.SlotLookups.{IsBelow}
-use Rattle.function_facts.proofs.Taken.{SourceBelow}
-use Rattle.function_facts.proofs.SlotsOfParameters.{Owns, of_written}
+use Rattle.function_facts.proofs.Taken.{SourceBelow, every_more}
+use Rattle.function_facts.proofs.SlotsOfParameters.{Owns, OwnInto, of_written}
+use Rattle.function_facts.proofs.Entries.{IsEntry, entries_are, stmt_entries}
 
 owns_checked : (s : Schema) (written checked : Function) (slots : List Slot) → IsChecked s written checked slots → Owns checked slots
 owns_checked s written checked slots h =
@@ -63,6 +67,9 @@ type_back ty.Boolean = refl
 type_back ty.Text = refl
 type_back ty.Integer = refl
 
+into_prop : (slots : ℕ) (i : Into) → IsProp (OwnInto slots i)
+into_prop slots i a b = λ j. (le_prop a.0 b.0 j, source_prop slots (query_of i.query) a.1 b.1 j)
+
 coded_type : Coded Ty
 coded_type = code_by ℕ coded_ℕ number_of type_of type_back
 
@@ -91,6 +98,26 @@ all_allowed slots tables (read.Outer c ∷ rs) h l = absurd h.0
 reads_below : (slots : ℕ) (e : Expr) → SourceBelow slots e → ReadsBelow slots e
 reads_below slots e h = record { tables = bound (reads e); alone = all_allowed slots (bound (reads e)) (reads e) h (omega arith) }
 
+into_below : (slots : ℕ) (i : Into) → OwnInto slots i → IsInto slots i
+into_below slots i h = record { some = h.0; reads = reads_below slots (query_of i.query) h.1 }
+
+-- ---- the entries of a SELECT INTO
+
+entries_below : (slots : ℕ) (types : List Ty) (strict : Bool) (ts : List Target) (q : Select) → ReadsBelow slots (query_of q)
+    → Every (ReadsBelow slots) (into_entries types strict ts q)
+entries_below slots types strict ts q h =
+    every_more (IsEntry q) (ReadsBelow slots)
+    (λ e k. record { tables = h.tables; alone = ap (λ rs. list_all (allows (λ i. nat_lt i slots) 0 h.tables) rs) k.reads_same ∙ h.alone })
+    (into_entries types strict ts q)
+    (entries_are types (λ i. nat_lt i slots) h.tables q (record { alone = h.alone }) strict ts)
+
+all_below : (f : Function) → Every (SourceBelow (named_slots f)) (sources whole_select f.body) → Every (ReadsBelow (named_slots f)) (source_expressions f)
+unfolding sources
+all_below f h =
+    let slots = named_slots f in
+    stmt_entries (ReadsBelow slots) (into_entries (shown_types f)) (entries_below slots (shown_types f)) f.body
+    (every_more (SourceBelow slots) (ReadsBelow slots) (reads_below slots) (sources whole_select f.body) h)
+
 -- ---- by places
 
 each_of : {A : Type 0} (P Q : A → Type 0) → ((x : A) → P x → Q x) → (xs : List A) → Every P xs → Each Q xs
@@ -103,11 +130,13 @@ each_of P Q go (y ∷ ys) h (suc i) x e = each_of P Q go ys h.1 i x e
 
 pub own : (f : Function) (slots : List Slot) → ∥ IsCheckedOfSome f slots ∥₁ → OwnSlots f slots
 own f slots h =
-    let reads = ∥∥₁_elim h (every_prop (SourceBelow (named_slots f)) (source_prop (named_slots f)) (sources f.body)) (λ c. (owns f slots c).reads) in
-    let sets = ∥∥₁_elim h (every_prop (λ t. t < named_slots f) (λ t. le_prop) (targets f.body)) (λ c. (owns f slots c).sets) in
+    let many = named_slots f in
+    let reads = ∥∥₁_elim h (every_prop (SourceBelow many) (source_prop many) (sources whole_select f.body)) (λ c. (owns f slots c).reads) in
+    let sets = ∥∥₁_elim h (every_prop (λ t. t < many) (λ t. le_prop) (targets f.body)) (λ c. (owns f slots c).sets) in
+    let selects = ∥∥₁_elim h (every_prop (OwnInto many) (into_prop many) (intos f.body)) (λ c. (owns f slots c).intos) in
     record {
       slots_are = ∥∥₁_elim h (slots_prop slots (own_slots f)) (λ c. (owns f slots c).slots_are);
-      reads = each_of (SourceBelow (named_slots f)) (ReadsBelow (named_slots f)) (reads_below (named_slots f)) (sources f.body) reads;
-      sets = each_of (λ t. t < named_slots f) (λ t. t < named_slots f) (λ t k. k) (targets f.body) sets;
-      no_into = ∥∥₁_elim h (Bool-set (has_into f.body) false) (λ c. (owns f slots c).no_into);
+      reads = each_of (ReadsBelow many) (ReadsBelow many) (λ e k. k) (source_expressions f) (all_below f reads);
+      sets = each_of (λ t. t < many) (λ t. t < many) (λ t k. k) (targets f.body) sets;
+      intos = each_of (OwnInto many) (IsInto many) (into_below many) (intos f.body) selects;
     }

@@ -5,11 +5,11 @@ use Rattle.block_forms.specs.Expressions.{Sources}
 use Rattle.block_forms.specs.declared.fixed_list.Fixed.{Fixed}
 use Rattle.block_forms.specs.declared.fixed_list.Fixed.TheVariants as fix
 use Rattle.block_forms.specs.FixedList.{expression, entries, fixed_list}
+use Rattle.type_soundness.specs.Sorts.{Every}
 use Rattle.function_facts.specs.OverTables.{IsOverTables}
 
 abbrev pub AreOver : ℕ → Sources → Type 0
-AreOver tables [] = Unit {0}
-AreOver tables (e ∷ es) = IsOverTables tables e × AreOver tables es
+AreOver tables = Every (IsOverTables tables)
 
 entry_over : (tables : ℕ) (x : Fixed) → IsOverTables tables (expression x)
 unfolding b.hidden-the_row-Expr-0 b.hidden-the_row-Expr-Chain-1-2-1 denote.Hole.Carrier.hidden

@@ -1,4 +1,5 @@
 pub mod Names
+pub mod WholeSelects
 pub mod TreesInSight
 pub mod Walks
 pub mod StatementsInSight
@@ -6,9 +7,12 @@ pub mod ParametersInSight
 pub mod SlotLookups
 pub mod SlotsOfTrees
 pub mod Found
+pub mod TargetSlots
+pub mod SomeTargets
 pub mod Taken
 pub mod SlotsOfStatements
 pub mod SlotsOfParameters
+pub mod Entries
 pub mod Facts
 pub mod Raising
 pub mod TableLookups

@@ -4,6 +4,7 @@ use Rattle.std.specs.Prelude.{slice_get}
 use Rattle.std.proofs.lemmas.Bool.{eqb-true}
 use Rattle.std.proofs.lemmas.Option.{same_Some, slice_get_within}
 use Rattle.away_trees.specs.declared.queries.Expr.{Expr}
+use Rattle.away_trees.specs.declared.queries.Select.{Select}
 use Rattle.away_trees.specs.declared.statements.Decl.{Decl}
 use Rattle.away_trees.specs.declared.statements.Function.{Function}
 use Rattle.away_trees.specs.declared.statements.LoopKind.{LoopKind}
@@ -19,6 +20,7 @@ use Rattle.away_values.specs.declared.values.Class.{Class}
 use Rattle.away_values.specs.Classes.{is_class}
 use Rattle.plsql_meaning.specs.Outcomes.{case_not_found, raised_message}
 use Rattle.plsql_meaning.specs.Statements.{class_of}
+use Rattle.select_into.specs.Entries.{Target, checks}
 use Rattle.block_forms.specs.declared.forms.Block.{Block}
 use Rattle.block_forms.specs.declared.forms.Goto.{Goto}
 use Rattle.block_forms.specs.declared.forms.Term.{Term}
@@ -27,7 +29,7 @@ use Rattle.block_forms.specs.declared.places.Position.{Position}
 use Rattle.block_forms.specs.Around.{Around}
 use Rattle.block_forms.specs.Laid.{Setting, Laid, LaidArm, laying, laid, first_block, row_parts, decls_parts, assign_parts, arms_parts, branch_parts, lack_parts, else_parts, kind_parts, again_of, default_term, after, with_expr, a_node, decl_size}
 use Rattle.block_forms.specs.Lowered.{AllStand, owners, sharers, one_of, params_parts, all_parts, body_place, setting, Lowered}
-use Rattle.block_forms.specs.Patterns.{Part, own, shared, same, never, set_parts, slot_parts, bound_parts, step_parts, for_parts, leave_parts, exit_parts, no_of}
+use Rattle.block_forms.specs.Patterns.{Part, own, shared, same, never, set_parts, slot_parts, bound_parts, step_parts, for_parts, leave_parts, exit_parts, no_of, copy, check_parts, pick_parts, put_part, put_parts, into_parts}
 use Rattle.block_forms.specs.Places.{Each}
 use Rattle.block_forms.proofs.Exits.{exit_either}
 use Rattle.function_facts.specs.Raising.{RaisesClass}
@@ -88,6 +90,28 @@ module _ (g : Goto) (n : Numbers) where
   for_fair : (reverse : Bool) (first last : Expr) (by_ : Option Expr) (p : Position) (body next : ℕ) → AreFair (for_parts g n reverse first last by_ p body next)
   for_fair reverse first last None p body next = (tt, (tt, (refl, (tt, (tt, (refl, (tt, (tt, (tt, (tt, (tt, tt)))))))))))
   for_fair reverse first last (Some e) p body next = (tt, (tt, (refl, (tt, (tt, (refl, (tt, (tt, (refl, (tt, (refl, (tt, (tt, (tt, (tt, tt)))))))))))))))
+
+  check_fair : (strict : Bool) (c k : ℕ) (q : Select) (first : ℕ) → AreFair (check_parts g n strict c k q first)
+  check_fair false c k q first = (tt, tt)
+  check_fair true c k q first = (tt, (refl, (tt, (refl, tt))))
+
+  picks_fair : (ts : List Target) (i k hidden : ℕ) (q : Select) (puts : ℕ) → AreFair (pick_parts g n ts i k hidden q puts)
+  picks_fair [] i k hidden q puts = tt
+  picks_fair (t ∷ ts) i k hidden q puts = (tt, picks_fair ts (i + 1) (k + 1) (hidden + 1) q puts)
+
+  put_fair : (slots : List Slot) (o : Option ℕ) (c hidden next : ℕ) → AreFair (put_part g n slots o c hidden next)
+  put_fair slots None c hidden next = (tt, tt)
+  put_fair slots (Some s) c hidden next = slot_fair (slice_get slots s) c s (copy n.fixed hidden) next
+
+  puts_fair : (slots : List Slot) (ts : List Target) (c hidden next : ℕ) → AreFair (put_parts g n slots ts c hidden next)
+  puts_fair slots [] c hidden next = tt
+  puts_fair slots (t ∷ ts) c hidden next =
+      fair_append _ (put_parts g n slots ts _ (hidden + 1) next) (put_fair slots t.1 c hidden _) (puts_fair slots ts _ (hidden + 1) next)
+
+  into_fair : (slots : List Slot) (strict : Bool) (ts : List Target) (q : Select) (p : Position) (next : ℕ) → AreFair (into_parts g n slots strict ts q p next)
+  into_fair slots strict ts q p next =
+      fair_append _ _ (check_fair strict _ p.expr q _)
+      (fair_append _ _ (picks_fair ts (p.node + 1) (p.expr + checks strict) (n.targets + p.targets) q _) (puts_fair slots ts _ (n.targets + p.targets) next))
 
 -- ---- statements
 
@@ -174,7 +198,7 @@ mutual
   stmt_quiet (b.Continue label when) = λ s p around next. leave_fair s.goto s.numbers when p.expr _ _ next
   stmt_quiet (b.Return e) = λ s p around next. (tt, tt)
   stmt_quiet (b.Raise r) = λ s p around next. (raised_is r, tt)
-  stmt_quiet (b.Into strict targets query) = λ s p around next. (tt, tt)
+  stmt_quiet (b.Into strict targets query) = λ s p around next. into_fair s.goto s.numbers s.slots strict targets query p next
   stmt_quiet b.Nothing = λ s p around next. (tt, tt)
 
   stmts_quiet : {m : _} (body : b.Row_of-Stmt m) → AreQuiet (stmts_of laying body)

@@ -14,7 +14,6 @@ use Rattle.away_trees.specs.declared.statements.Stmt.TheBlock as b
 use Rattle.away_trees.specs.StatementAlgebra.{stmt_of, stmts_of, branches_of, else_of}
 use Rattle.away_types.specs.declared.slots.Slot.{Slot}
 use Rattle.away_types.specs.CheckedFunctions.{IsChecked}
-use Rattle.away_types.specs.FunctionChecks.{function_note}
 use Rattle.sql_meaning.specs.Reads as read
 use Rattle.sql_meaning.specs.Reads.{Read, allows, reads, fits}
 use Rattle.sql_meaning.specs.Context.{Rows}
@@ -26,32 +25,22 @@ use Rattle.plsql_meaning.specs.Sight.{Sight, with_slot, with_slots, Agree, decls
 use Rattle.plsql_meaning.specs.Statements.{meaning}
 use Rattle.plsql_meaning.proofs.InSight.{statement_alike}
 use Rattle.plsql_meaning.proofs.Readers.{expressions_are_readers}
-use Rattle.block_forms.specs.Expressions.{Sources, sourcing, sources, expressions, in_turn, if_there, defaults, of_else}
-use Rattle.block_forms.specs.FixedList.{fixed_list}
-use Rattle.block_forms.specs.Places.{Each}
-use Rattle.block_forms.specs.Slots.{any_of, any_else, has_into, seeking}
+use Rattle.block_forms.specs.Expressions.{Sources, sources, whole_select, in_turn, if_there, defaults, of_else}
 use Rattle.type_soundness.specs.Sorts.{Every}
 use Rattle.type_soundness.proofs.Lists.{every_left, every_right}
 use Rattle.function_facts.specs.InSight.{is_among, IsSeen, ReadsInSight}
 use Rattle.function_facts.specs.Sight as walk
 use Rattle.function_facts.specs.Sight.{Declared, Walked, walking}
 use Rattle.function_facts.proofs.ParametersInSight.{checked_in_sight}
-use Rattle.function_facts.proofs.SlotsOfParameters.{of_written}
+use Rattle.function_facts.proofs.Found.{whole}
+use Rattle.function_facts.proofs.Taken.{every_more}
 use Rattle.function_facts.specs.OverTables.{IsOverTables}
-use Rattle.function_facts.proofs.Sources.{over_their_tables}
+use Rattle.function_facts.proofs.Sources.{selects_over}
 
 -- ---- truth values
 
 both_true : (a b : Bool) → a ≡ true → b ≡ true → (a && b) ≡ true
 both_true a b h k = λ i. h i && k i
-
-left_false : (a b : Bool) → (a || b) ≡ false → a ≡ false
-left_false true b h = cc
-left_false false b h = refl
-
-right_false : (a b : Bool) → (a || b) ≡ false → b ≡ false
-right_false true b h = cc
-right_false false b h = h
 
 -- ---- sights
 
@@ -212,125 +201,107 @@ module _ (tables : ℕ) where
 
   mutual
     stmt_sees : (x : Stmt) (next : ℕ) (seen : List ℕ) (sight : Sight) → Wider seen sight → Every ReadsInSight (stmt_of walking x next seen).exprs
-        → AreOver (stmt_of sourcing x) → stmt_of seeking x ≡ false → (stmt_of (seeing readers) x).sees next sight ≡ true
-    stmt_sees (b.Block' label decls n body closing) next seen sight w h k clear =
+        → AreOver (stmt_of whole x) → (stmt_of (seeing readers) x).sees next sight ≡ true
+    stmt_sees (b.Block' label decls n body closing) next seen sight w h k =
         let first : Declared = record { walked = walk.no_expr next seen; sight = seen } in
         let ds = walk.declared decls next seen in
         let inner = walk.all_walks (stmts_of walking body) ds.walked.next ds.sight in
-        let own = in_turn (stmts_of sourcing body) in
+        let own = in_turn (stmts_of whole body) in
         let declared = decls_are decls first sight w (every_left ReadsInSight ds.walked.exprs inner.exprs h) (every_left IsOver (defaults decls) own k) in
         let rest = rows_see body (walk.no_expr ds.walked.next ds.sight) ds.sight (with_slots (length decls) next sight) (wider_slots decls first sight w)
-        (every_right ReadsInSight ds.walked.exprs inner.exprs h) (every_right IsOver (defaults decls) own k) clear in
+        (every_right ReadsInSight ds.walked.exprs inner.exprs h) (every_right IsOver (defaults decls) own k) in
         both_true (decls_see readers decls next sight) (row_sees (stmts_of (seeing readers) body) (next + length decls) (with_slots (length decls) next sight))
         declared.1
         (subst (λ j. row_sees (stmts_of (seeing readers) body) j (with_slots (length decls) next sight) ≡ true) (next_of decls first) rest.1)
-    stmt_sees (b.Assign name slot e) next seen sight w h k clear = one_sees seen sight w e next h k.0
-    stmt_sees (b.If' n arms other) next seen sight w h k clear =
+    stmt_sees (b.Assign name slot e) next seen sight w h k = one_sees seen sight w e next h k.0
+    stmt_sees (b.If' n arms other) next seen sight w h k =
         let first = walk.all_walks (branches_of walking arms) next seen in
         let last = walk.maybe_walk (else_of walking other) first.next seen in
-        let own = in_turn (branches_of sourcing arms) in
-        let others = of_else (else_of sourcing other) in
+        let own = in_turn (branches_of whole arms) in
+        let others = of_else (else_of whole other) in
         (branches_see arms (other_sees (else_of (seeing readers) other)) (walk.no_expr next seen) seen sight w (every_left ReadsInSight first.exprs last.exprs h)
-        (every_left IsOver own others k) (left_false (any_of (branches_of seeking arms)) (any_else (else_of seeking other)) clear)
-        (else_sees other first.next seen sight w (every_right ReadsInSight first.exprs last.exprs h) (every_right IsOver own others k)
-        (right_false (any_of (branches_of seeking arms)) (any_else (else_of seeking other)) clear))).1
-    stmt_sees (b.Cases' n arms other) next seen sight w h k clear =
+        (every_left IsOver own others k) (else_sees other first.next seen sight w (every_right ReadsInSight first.exprs last.exprs h) (every_right IsOver own others k))).1
+    stmt_sees (b.Cases' n arms other) next seen sight w h k =
         let first = walk.all_walks (branches_of walking arms) next seen in
         let last = walk.maybe_walk (else_of walking other) first.next seen in
-        let own = in_turn (branches_of sourcing arms) in
-        let others = of_else (else_of sourcing other) in
+        let own = in_turn (branches_of whole arms) in
+        let others = of_else (else_of whole other) in
         (branches_see arms (other_sees (else_of (seeing readers) other)) (walk.no_expr next seen) seen sight w (every_left ReadsInSight first.exprs last.exprs h)
-        (every_left IsOver own others k) (left_false (any_of (branches_of seeking arms)) (any_else (else_of seeking other)) clear)
-        (else_sees other first.next seen sight w (every_right ReadsInSight first.exprs last.exprs h) (every_right IsOver own others k)
-        (right_false (any_of (branches_of seeking arms)) (any_else (else_of seeking other)) clear))).1
-    stmt_sees (b.Loop' label kind.Plain n body closing) next seen sight w h k clear =
-        both_true true (row_sees (stmts_of (seeing readers) body) next sight) refl (rows_see body (walk.no_expr next seen) seen sight w h k clear).1
-    stmt_sees (b.Loop' label (kind.While e) n body closing) next seen sight w h k clear =
+        (every_left IsOver own others k) (else_sees other first.next seen sight w (every_right ReadsInSight first.exprs last.exprs h) (every_right IsOver own others k))).1
+    stmt_sees (b.Loop' label kind.Plain n body closing) next seen sight w h k =
+        both_true true (row_sees (stmts_of (seeing readers) body) next sight) refl (rows_see body (walk.no_expr next seen) seen sight w h k).1
+    stmt_sees (b.Loop' label (kind.While e) n body closing) next seen sight w h k =
         both_true (fits sight 0 tables e) (row_sees (stmts_of (seeing readers) body) next sight) (one_sees seen sight w e next (h.0, tt) k.0)
-        (rows_see body (walk.no_expr next seen) seen sight w h.1 k.1 clear).1
-    stmt_sees (b.Loop' label (kind.Count var reverse first last by) n body closing) next seen sight w h k clear =
+        (rows_see body (walk.no_expr next seen) seen sight w h.1 k.1).1
+    stmt_sees (b.Loop' label (kind.Count var reverse first last by) n body closing) next seen sight w h k =
         let step = (walk.maybe_expr by next seen).exprs in
         let inner = (walk.all_walks (stmts_of walking body) (next + 1) (seen ++ next ∷ [])).exprs in
-        let own = in_turn (stmts_of sourcing body) in
+        let own = in_turn (stmts_of whole body) in
         let body_sees = rows_see body (walk.no_expr (next + 1) (seen ++ next ∷ [])) (seen ++ next ∷ []) (with_slot next sight) (wider_push seen next sight w)
-        (every_right ReadsInSight step inner h.1.1) (every_right IsOver (if_there by) own k.1.1) clear in
+        (every_right ReadsInSight step inner h.1.1) (every_right IsOver (if_there by) own k.1.1) in
         both_true (kind_sees readers (kind.Count var reverse first last by) sight) (row_sees (stmts_of (seeing readers) body) (next + 1) (with_slot next sight))
         (both_true (fits sight 0 tables first) (fits sight 0 tables last && maybe_sees readers by sight) (one_sees seen sight w first next (h.0, tt) k.0)
         (both_true (fits sight 0 tables last) (maybe_sees readers by sight) (one_sees seen sight w last next (h.1.0, tt) k.1.0)
         (maybe_is seen sight w by next (every_left ReadsInSight step inner h.1.1) (every_left IsOver (if_there by) own k.1.1))))
         body_sees.1
-    stmt_sees (b.Exit label when) next seen sight w h k clear = maybe_is seen sight w when next h k
-    stmt_sees (b.Continue label when) next seen sight w h k clear = maybe_is seen sight w when next h k
-    stmt_sees (b.Return e) next seen sight w h k clear = one_sees seen sight w e next h k.0
-    stmt_sees (b.Raise raised) next seen sight w h k clear = refl
-    stmt_sees (b.Into strict targets query) next seen sight w h k clear = cc
-    stmt_sees b.Nothing next seen sight w h k clear = refl
+    stmt_sees (b.Exit label when) next seen sight w h k = maybe_is seen sight w when next h k
+    stmt_sees (b.Continue label when) next seen sight w h k = maybe_is seen sight w when next h k
+    stmt_sees (b.Return e) next seen sight w h k = one_sees seen sight w e next h k.0
+    stmt_sees (b.Raise raised) next seen sight w h k = refl
+    stmt_sees (b.Into strict targets query) next seen sight w h k = one_sees seen sight w (run.query_of query) next h k.0
+    stmt_sees b.Nothing next seen sight w h k = refl
 
     rows_see : {m : _} (r : b.Row_of-Stmt m) (acc : Walked) (seen : List ℕ) (sight : Sight) → Wider seen sight
-        → Every ReadsInSight (fold (λ a w. walk.behind a (w a.next seen)) acc (stmts_of walking r)).exprs → AreOver (in_turn (stmts_of sourcing r))
-        → any_of (stmts_of seeking r) ≡ false → Every ReadsInSight acc.exprs × (row_sees (stmts_of (seeing readers) r) acc.next sight ≡ true)
-    rows_see b.end_of-Stmt acc seen sight w h k clear = (h, refl)
-    rows_see (b.more_of-Stmt x rest) acc seen sight w h k clear =
+        → Every ReadsInSight (fold (λ a w. walk.behind a (w a.next seen)) acc (stmts_of walking r)).exprs → AreOver (in_turn (stmts_of whole r))
+        → Every ReadsInSight acc.exprs × (row_sees (stmts_of (seeing readers) r) acc.next sight ≡ true)
+    rows_see b.end_of-Stmt acc seen sight w h k = (h, refl)
+    rows_see (b.more_of-Stmt x rest) acc seen sight w h k =
         let here = stmt_of walking x acc.next seen in
-        let own = stmt_of sourcing x in
-        let others = in_turn (stmts_of sourcing rest) in
-        let more = rows_see rest (walk.behind acc here) seen sight w h (every_right IsOver own others k)
-        (right_false (stmt_of seeking x) (any_of (stmts_of seeking rest)) clear) in (
+        let own = stmt_of whole x in
+        let others = in_turn (stmts_of whole rest) in
+        let more = rows_see rest (walk.behind acc here) seen sight w h (every_right IsOver own others k) in (
           every_left ReadsInSight acc.exprs here.exprs more.0,
           both_true ((stmt_of (seeing readers) x).sees acc.next sight) (row_sees (stmts_of (seeing readers) rest) (acc.next + (stmt_of (seeing readers) x).vars) sight)
-              (stmt_sees x acc.next seen sight w (every_right ReadsInSight acc.exprs here.exprs more.0) (every_left IsOver own others k)
-              (left_false (stmt_of seeking x) (any_of (stmts_of seeking rest)) clear))
+              (stmt_sees x acc.next seen sight w (every_right ReadsInSight acc.exprs here.exprs more.0) (every_left IsOver own others k))
               (subst (λ j. row_sees (stmts_of (seeing readers) rest) j sight ≡ true) (next_is x acc.next seen) more.1),
         )
 
     -- the arms, behind which stands what sees its slots
     branches_see : {m : _} (r : b.Row_of-Arm m) (other : ℕ → Sight → Bool) (acc : Walked) (seen : List ℕ) (sight : Sight) → Wider seen sight
-        → Every ReadsInSight (fold (λ a w. walk.behind a (w a.next seen)) acc (branches_of walking r)).exprs → AreOver (in_turn (branches_of sourcing r))
-        → any_of (branches_of seeking r) ≡ false
+        → Every ReadsInSight (fold (λ a w. walk.behind a (w a.next seen)) acc (branches_of walking r)).exprs → AreOver (in_turn (branches_of whole r))
         → other (fold (λ a w. walk.behind a (w a.next seen)) acc (branches_of walking r)).next sight ≡ true
         → Every ReadsInSight acc.exprs × (arms_see (branches_of (seeing readers) r) other acc.next sight ≡ true)
-    branches_see b.end_of-Arm other acc seen sight w h k clear last = (h, last)
-    branches_see (b.more_of-Arm test n body rest) other acc seen sight w h k clear last =
+    branches_see b.end_of-Arm other acc seen sight w h k last = (h, last)
+    branches_see (b.more_of-Arm test n body rest) other acc seen sight w h k last =
         let arm = walk.and_walk (walk.one_expr test) (walk.all_walks (stmts_of walking body)) acc.next seen in
-        let own = test ∷ in_turn (stmts_of sourcing body) in
-        let others = in_turn (branches_of sourcing rest) in
-        let more = branches_see rest other (walk.behind acc arm) seen sight w h (every_right IsOver own others k)
-        (right_false (any_of (stmts_of seeking body)) (any_of (branches_of seeking rest)) clear) last in
+        let own = test ∷ in_turn (stmts_of whole body) in
+        let others = in_turn (branches_of whole rest) in
+        let more = branches_see rest other (walk.behind acc arm) seen sight w h (every_right IsOver own others k) last in
         let here = every_right ReadsInSight acc.exprs arm.exprs more.0 in
         let mine = every_left IsOver own others k in (
           every_left ReadsInSight acc.exprs arm.exprs more.0,
           both_true (fits sight 0 tables test && row_sees (stmts_of (seeing readers) body) acc.next sight)
               (arms_see (branches_of (seeing readers) rest) other (acc.next + run.row_slots (stmts_of (seeing readers) body)) sight)
               (both_true (fits sight 0 tables test) (row_sees (stmts_of (seeing readers) body) acc.next sight) (one_sees seen sight w test acc.next (here.0, tt) mine.0)
-              (rows_see body (walk.no_expr acc.next seen) seen sight w here.1 mine.1
-              (left_false (any_of (stmts_of seeking body)) (any_of (branches_of seeking rest)) clear)).1)
+              (rows_see body (walk.no_expr acc.next seen) seen sight w here.1 mine.1).1)
               (subst (λ j. arms_see (branches_of (seeing readers) rest) other j sight ≡ true) (rows_next body (walk.no_expr acc.next seen) seen) more.1),
         )
 
     else_sees : (other : b.Held-Stmt-If-1) (next : ℕ) (seen : List ℕ) (sight : Sight) → Wider seen sight
-        → Every ReadsInSight (walk.maybe_walk (else_of walking other) next seen).exprs → AreOver (of_else (else_of sourcing other))
-        → any_else (else_of seeking other) ≡ false → other_sees (else_of (seeing readers) other) next sight ≡ true
-    else_sees b.None' next seen sight w h k clear = refl
-    else_sees (b.Some' n body) next seen sight w h k clear = (rows_see body (walk.no_expr next seen) seen sight w h k clear).1
+        → Every ReadsInSight (walk.maybe_walk (else_of walking other) next seen).exprs → AreOver (of_else (else_of whole other)) → other_sees (else_of (seeing readers) other) next sight ≡ true
+    else_sees b.None' next seen sight w h k = refl
+    else_sees (b.Some' n body) next seen sight w h k = (rows_see body (walk.no_expr next seen) seen sight w h k).1
 
 -- ---- a checked function
 
-every_of : {A : Type 0} (P Q : A → Type 0) → ((x : A) → P x → Q x) → (xs : List A) → Each P xs → Every Q xs
-every_of P Q go [] h = tt
-every_of P Q go (x ∷ xs) h = (go x (h 0 x refl), every_of P Q go xs (λ i y e. h (suc i) y e))
-
-no_into : (s : Schema) (written f : Function) (slots : List Slot) → IsChecked s written f slots → has_into f.body ≡ false
-no_into s written f slots c =
-    subst (λ (g : Function). has_into g.body ≡ false) (sym c.function) (of_written s written c.unbroken).no_into
-
 pub read_in_sight : (s : Schema) (written f : Function) (slots : List Slot) → IsChecked s written f slots → length s.tables < 2 ^ 64
     → reads_in_sight (of_expressions (length s.tables)) f.body (length f.params) (parameters_of f) ≡ true
-unfolding sources has_into
+unfolding sources
 read_in_sight s written f slots c small =
     let tables = length s.tables in
-    let over = every_of (IsOverTables tables) (IsOver tables) (λ e h. h.reads_own) (expressions f) (over_their_tables s written f slots c small) in
     stmt_sees tables f.body (length f.params) (range_with_len 0 (length f.params)) (parameters_of f) (wider_parameters (length f.params))
-    (checked_in_sight s written f slots c) (every_left (IsOver tables) (sources f.body) fixed_list over) (no_into s written f slots c)
+    (checked_in_sight s written f slots c)
+    (every_more (IsOverTables tables) (IsOver tables) (λ e h. h.reads_own) (sources whole_select f.body) (selects_over s written f slots c small))
 
 pub answers_alike : (s : Schema) (written f : Function) (slots : List Slot) → IsChecked s written f slots → length s.tables < 2 ^ 64 → (T : List Rows)
     → length T ≡ length s.tables → (not_null : List Bool) (args : List Value) (env : Env) (n : ℕ)

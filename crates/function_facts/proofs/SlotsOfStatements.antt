@@ -1,7 +1,8 @@
 -- In a function whose names are resolved and break no rule, each statement takes the slots of its variables and FORs.
-use Rattle.std.proofs.Common.{◌≡◌, refl, sym, subst, arith, true, false, List, [], ◌∷◌, map, fold, length, Option, Some, None}
+use Rattle.std.proofs.Common.{◌≡◌, refl, sym, ap, subst, ◌∙◌, arith, append-nil, Bool, true, false, List, [], ◌∷◌, ◌++◌, map, fold, length, Option, Some, None}
 use Rattle.away_values.specs.declared.types.Ty.TheVariants as ty
 use Rattle.away_trees.specs.declared.queries.Expr.{Expr}
+use Rattle.away_trees.specs.declared.queries.Select.{Select}
 use Rattle.away_trees.specs.declared.statements.Arm.{Arm}
 use Rattle.away_trees.specs.declared.statements.Decl.{Decl}
 use Rattle.away_trees.specs.declared.statements.LoopKind.{LoopKind}
@@ -19,15 +20,18 @@ use Rattle.away_names.specs.Trees.{named_expr}
 use Rattle.away_types.specs.declared.resolved.Resolved.{Resolved}
 use Rattle.away_types.specs.declared.slots.Slots.{Slots}
 use Rattle.away_types.specs.Statements as n
-use Rattle.away_types.specs.Statements.{Spot, By, resolving, with_slot, with_hidden, assigned}
+use Rattle.away_types.specs.Statements.{Spot, By, resolving, with_slot, with_hidden, with_targets, assigned}
+use Rattle.select_into.specs.Entries.{Target}
 use Rattle.block_forms.specs.Expressions.{if_there}
+use Rattle.block_forms.specs.Slots.{types_of, hidden_slot}
 use Rattle.type_soundness.specs.Sorts.{Every}
 use Rattle.away_types.proofs.ClearReports.{Clear, clear_own, clear_parts, clear_within, clear_branches}
-use Rattle.type_soundness.proofs.CleanNotes.{Clean, clean_parts, not_broken}
+use Rattle.type_soundness.proofs.CleanNotes.{Clean, clean_parts}
 use Rattle.function_facts.proofs.Walks.{shown_push}
 use Rattle.function_facts.proofs.SlotLookups.{VariablesBelow, variable_below}
 use Rattle.function_facts.proofs.Found.{Found, still, behind, all, found, found_arm, found_decl, found_kind, found_else, found_block, found_loop, found_if, found_cases, found_branch}
-use Rattle.function_facts.proofs.Taken.{SourceBelow, Placed, placed_more, Takes, grows, takes_none, takes_behind, takes_push, expr_taken, maybe_taken, variable_taken, declared_taken, every_more, source_more}
+use Rattle.function_facts.proofs.Taken.{SourceBelow, Placed, placed_more, Takes, grows, none_hidden, none_picked, takes_none, takes_behind, takes_push, expr_taken, into_taken, maybe_taken, variable_taken, declared_taken, every_more, source_more}
+use Rattle.function_facts.proofs.TargetSlots.{targets_below, sets_below, picked_are}
 
 -- ---- pieces one behind the other
 
@@ -104,8 +108,9 @@ head_takes (kind.Count var reverse first last step) scope slots p c =
     record {
       shown = refl;
       hidden = refl;
+      picked = λ later. none_picked slots.picked;
       many = refl;
-      no_into = refl;
+      intos = tt;
       targets = tt;
       sources = every_more (SourceBelow now) (SourceBelow then_) (source_more now then_ (omega (arith, l))) ((named_expr first scope).it ∷ (named_expr last scope).it ∷ if_there (held (λ e. named_expr e scope) step).it)
           (expr_taken now first scope p bounds.0, (expr_taken now last scope p ends.0, maybe_taken now step scope p ends.1));
@@ -143,6 +148,25 @@ assign_takes name e spot slots p (Some v) is c =
     takes_none (v.slot ∷ []) ((named_expr e spot.scope).it ∷ []) slots (variable_below (length slots.shown) name spot.scope.variables v p.0.1 is, tt)
     (expr_taken (length slots.shown) e spot.scope p (clean_parts (breaks rule.Constants v.constant) (named_expr e spot.scope).note c).1, tt)
 
+into_takes : (strict : Bool) (targets : List Target) (query : Select) → TakesBy found (n.statement (st.Into strict targets query))
+unfolding with_targets
+into_takes strict targets query spot slots p c =
+    let notes = clean_parts _ _ (clean_parts _ _ (clear_own _ _ c)).1 in
+    let now = length slots.shown in
+    let ts = (n.targeted spot.scope targets).it in
+    let placed = targets_below now spot.scope p.0.1 targets notes.0 in
+    let reads = into_taken now query spot.scope p notes.1 in
+    record {
+      shown = sym (append-nil slots.shown);
+      hidden = none_hidden slots.hidden;
+      picked = λ later. ap (λ xs. slots.picked ++ xs) (picked_are slots.shown later ts placed
+          ∙ ap (map (hidden_slot (types_of (slots.shown ++ later)))) (sym (append-nil ts)));
+      many = refl;
+      intos = (reads, tt);
+      targets = sets_below now ts placed;
+      sources = (reads, tt);
+    }
+
 -- ---- all statements
 
 some_same : {A : Type 0} (x y : A) → Some x ≡ Some y → x ≡ y
@@ -159,7 +183,7 @@ mutual
   stmt_takes (b.Continue label when) = λ spot slots p c. maybe_takes when spot.scope slots p (clean_parts _ _ (clean_parts _ _ (clear_own 1 _ c)).1).1
   stmt_takes (b.Return e) = λ spot slots p c. single_takes e spot.scope slots p (clear_own 1 _ c)
   stmt_takes (b.Raise raised) = λ spot slots p c. takes_none [] [] slots tt tt
-  stmt_takes (b.Into strict targets query) = λ spot slots p c. absurd (not_broken rule.Types (clear_own _ _ c))
+  stmt_takes (b.Into strict targets query) = into_takes strict targets query
   stmt_takes b.Nothing = λ spot slots p c. takes_none [] [] slots tt tt
 
   stmts_take : {m : _} (body : b.Row_of-Stmt m) → Every (TakesBy found) (stmts_of resolving body)

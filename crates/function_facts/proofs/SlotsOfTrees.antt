@@ -20,14 +20,16 @@ use Rattle.away_names.specs.Notes.{pure, joined, breaks, each, held}
 use Rattle.away_names.specs.Lookups.{Name, Level, Scope, inside}
 use Rattle.away_names.specs.Naming as n
 use Rattle.away_names.specs.Naming.{naming}
-use Rattle.away_names.specs.Trees.{named_expr}
+use Rattle.away_names.specs.Trees.{named_expr, named_select}
 use Rattle.sql_meaning.specs.Reads.{reading, Reads, of_list, of_option, reads}
-use Rattle.sql_meaning.proofs.Related.{AlikeOption, AlikeLink, AlikeArm, Relation, IsKept, expr_related}
+use Rattle.sql_meaning.proofs.Related.{AlikeOption, AlikeLink, AlikeArm, Relation, IsKept, expr_related, select_related}
+use Rattle.plsql_meaning.specs.Sight as into
 use Rattle.type_soundness.specs.Sorts.{Every}
 use Rattle.type_soundness.proofs.CleanNotes.{Clean, clean_parts, not_broken}
 use Rattle.type_soundness.proofs.Lists.{every_append}
 use Rattle.function_facts.proofs.Names.{every_flat, every_each}
 use Rattle.function_facts.proofs.TreesInSight.{firsts}
+use Rattle.function_facts.proofs.WholeSelects.{whole_reads}
 use Rattle.function_facts.proofs.SlotLookups.{IsBelow, BelowAt, ExprBelow, Within, depth, name_below, qualified_below}
 
 module _ (slots : ℕ) where
@@ -300,3 +302,10 @@ module _ (slots : ℕ) where
   pub expr_below : (e : Expr) (s : Scope) → Within slots s → s.levels ≡ [] → Clean (named_expr e s).note → Every (IsBelow slots) (reads (named_expr e s).it)
   unfolding named_expr
   expr_below e s w l c = subst (λ (ls : List Level). Every (IsBelow slots) (expr_of reading (named_expr e s).it (length ls))) l (expr_related naming naming naming relation steps e s w c)
+
+  -- the select of a SELECT INTO, under no other
+  pub into_below : (x : Select) (s : Scope) → Within slots s → s.levels ≡ [] → Clean (named_select x s).note → Every (IsBelow slots) (reads (into.query_of (named_select x s).it.it))
+  unfolding named_select
+  into_below x s w l c =
+      whole_reads (IsBelow slots) (named_select x s).it.it 0
+      (subst (λ (ls : List Level). Every (IsBelow slots) (select_of reading (named_select x s).it.it (length ls))) l (select_related naming naming naming relation steps x s w c))

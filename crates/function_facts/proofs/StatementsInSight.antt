@@ -1,7 +1,8 @@
 -- In a function whose names are resolved and break no rule, each expression reads slots in sight alone.
-use Rattle.std.proofs.Common.{◌≡◌, refl, sym, ap, subst, ◌∙◌, ℕ, ◌+◌, true, false, List, [], ◌∷◌, ◌++◌, map, fold, length, Option, Some, None, option_map}
+use Rattle.std.proofs.Common.{◌≡◌, refl, sym, ap, subst, ◌∙◌, ℕ, ◌+◌, Bool, true, false, List, [], ◌∷◌, ◌++◌, map, fold, length, Option, Some, None, option_map}
 use Rattle.away_values.specs.declared.types.Ty.TheVariants.{Bigint}
 use Rattle.away_trees.specs.declared.queries.Expr.{Expr}
+use Rattle.away_trees.specs.declared.queries.Select.{Select}
 use Rattle.away_trees.specs.declared.statements.Arm.{Arm}
 use Rattle.away_trees.specs.declared.statements.Decl.{Decl}
 use Rattle.away_trees.specs.declared.statements.LoopKind.{LoopKind}
@@ -20,16 +21,16 @@ use Rattle.away_names.specs.Trees.{named_expr}
 use Rattle.away_types.specs.declared.resolved.Resolved.{Resolved}
 use Rattle.away_types.specs.declared.slots.Slots.{Slots}
 use Rattle.away_types.specs.Statements as n
-use Rattle.away_types.specs.Statements.{Spot, By, resolving, with_variable, with_slot, with_hidden, assigned}
+use Rattle.away_types.specs.Statements.{Spot, By, resolving, with_variable, with_slot, with_hidden, with_targets, assigned}
 use Rattle.type_soundness.specs.Sorts.{Every}
 use Rattle.away_types.proofs.ClearReports.{Clear, clear_own, clear_parts, clear_within, clear_branches}
-use Rattle.type_soundness.proofs.CleanNotes.{Clean, clean_parts, not_broken}
+use Rattle.type_soundness.proofs.CleanNotes.{Clean, clean_parts}
 use Rattle.type_soundness.proofs.Lists.{every_append}
 use Rattle.function_facts.specs.Sight as sight
 use Rattle.function_facts.specs.Sight.{Sighted, Walked, Walk, walking, sighted}
 use Rattle.function_facts.specs.InSight.{ReadsInSight}
 use Rattle.function_facts.proofs.Names.{slots_of}
-use Rattle.function_facts.proofs.Walks.{Good, good_none, good_behind, expr_read, maybe_read, maybe_next, declared_good, map_push, fold_push, shown_push, slots_push}
+use Rattle.function_facts.proofs.Walks.{Good, good_none, good_behind, expr_read, into_read, maybe_read, maybe_next, declared_good, map_push, fold_push, shown_push, slots_push}
 
 -- ---- pieces one behind the other
 
@@ -153,6 +154,12 @@ unfolding assigned
 assign_good name e spot slots None c = single_good e spot.scope slots (clean_parts (breaks rule.Names true) (named_expr e spot.scope).note c).1
 assign_good name e spot slots (Some v) c = single_good e spot.scope slots (clean_parts (breaks rule.Constants v.constant) (named_expr e spot.scope).note c).1
 
+into_good : (strict : Bool) (targets : List (Name × Option ℕ)) (query : Select) → GoodBy of_stmt (n.statement (st.Into strict targets query))
+unfolding with_targets
+into_good strict targets query spot slots c =
+    let notes = clean_parts _ _ (clean_parts _ _ (clear_own _ _ c)).1 in
+    record { exprs = into_read query spot.scope (length slots.shown) notes.1; next = refl }
+
 -- ---- all statements
 
 some_same : {A : Type 0} (x y : A) → Some x ≡ Some y → x ≡ y
@@ -169,7 +176,7 @@ mutual
   stmt_good (b.Continue label when) = λ spot slots c. maybe_good when spot.scope slots (clean_parts _ _ (clean_parts _ _ (clear_own 1 _ c)).1).1
   stmt_good (b.Return e) = λ spot slots c. single_good e spot.scope slots (clear_own 1 _ c)
   stmt_good (b.Raise raised) = λ spot slots c. good_none (length slots.shown) (seen_at spot) slots refl
-  stmt_good (b.Into strict targets query) = λ spot slots c. absurd (not_broken rule.Types (clear_own _ _ c))
+  stmt_good (b.Into strict targets query) = into_good strict targets query
   stmt_good b.Nothing = λ spot slots c. good_none (length slots.shown) (seen_at spot) slots refl
 
   stmts_good : {m : _} (body : b.Row_of-Stmt m) → Every (GoodBy of_stmt) (stmts_of resolving body)

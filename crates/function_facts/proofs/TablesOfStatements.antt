@@ -1,6 +1,7 @@
 -- In a function whose names are resolved and break no rule, each expression reads tables that are seen in the function alone.
-use Rattle.std.proofs.Common.{◌≡◌, ℕ, true, false, List, [], ◌∷◌, ◌++◌, map, fold, Option, Some, None, option_map, refl, sym, subst}
+use Rattle.std.proofs.Common.{◌≡◌, ℕ, Bool, true, false, List, [], ◌∷◌, ◌++◌, map, fold, Option, Some, None, option_map, refl, sym, subst}
 use Rattle.away_trees.specs.declared.queries.Expr.{Expr}
+use Rattle.away_trees.specs.declared.queries.Select.{Select}
 use Rattle.away_trees.specs.declared.statements.Arm.{Arm}
 use Rattle.away_trees.specs.declared.statements.Decl.{Decl}
 use Rattle.away_trees.specs.declared.statements.LoopKind.{LoopKind}
@@ -22,13 +23,14 @@ use Rattle.away_types.specs.declared.slots.Slots.{Slots}
 use Rattle.away_types.specs.Statements as n
 use Rattle.away_types.specs.Statements.{Spot, By, resolving, assigned}
 use Rattle.sql_meaning.specs.Reads.{reads}
-use Rattle.block_forms.specs.Expressions.{Sources, sourcing, in_turn, if_there, default_of, defaults, of_kind, of_else}
+use Rattle.block_forms.specs.Expressions.{Sources, in_turn, if_there, default_of, defaults, of_kind, of_else}
 use Rattle.type_soundness.specs.Sorts.{Every}
 use Rattle.away_types.proofs.ClearReports.{Clear, clear_own, clear_parts, clear_within, clear_branches}
 use Rattle.type_soundness.proofs.CleanNotes.{Clean, clean_parts}
 use Rattle.type_soundness.proofs.Lists.{every_append}
 use Rattle.function_facts.proofs.TableLookups.{IsBelow, Within}
-use Rattle.function_facts.proofs.TablesOfTrees.{expr_below}
+use Rattle.function_facts.proofs.TablesOfTrees.{expr_below, into_below}
+use Rattle.function_facts.proofs.Found.{whole}
 
 module _ (tables : ℕ) where
   abbrev pub SourceBelow : Expr → Type 0
@@ -102,10 +104,10 @@ module _ (tables : ℕ) where
   -- ---- statements, by their parts
 
   abbrev of_stmt : Stmt → Sources
-  of_stmt x = stmt_of sourcing x
+  of_stmt x = stmt_of whole x
 
   abbrev of_arm : Arm → Sources
-  of_arm x = branch_of sourcing x
+  of_arm x = branch_of whole x
 
   by_parts : (xs ys : Sources) → xs ≡ ys → AllBelow ys → AllBelow xs
   by_parts xs ys e h = subst AllBelow (sym e) h
@@ -116,12 +118,12 @@ module _ (tables : ℕ) where
       let ds = n.declared_all decls spot.scope slots in
       let inner = n.within label false ds.variables spot in
       let xs = n.each_resolved gs inner ds.slots in
-      let whole = clear_within _ _ xs.note c in
-      let own = clean_parts _ ds.note whole.0 in
+      let notes = clear_within _ _ xs.note c in
+      let own = clean_parts _ ds.note notes.0 in
       by_parts (of_stmt (stmt.Block label ds.it xs.it closing)) (defaults ds.it ++ in_turn (map of_stmt xs.it))
-      (eq.of_block sourcing label ds.it xs.it closing)
+      (eq.of_block whole label ds.it xs.it closing)
       (every_append SourceBelow (defaults ds.it) (in_turn (map of_stmt xs.it)) (declared_fine spot.scope p decls slots own.1)
-      (each_fine of_stmt gs h inner ds.slots p whole.1))
+      (each_fine of_stmt gs h inner ds.slots p notes.1))
 
   abbrev else_sources : Option (List Stmt) → Sources
   else_sources o = of_else (option_map (λ body. map of_stmt body) o)
@@ -165,18 +167,22 @@ module _ (tables : ℕ) where
       let head = n.headed k spot.scope slots in
       let inner = n.within label true head.variables spot in
       let xs = n.each_resolved gs inner head.slots in
-      let whole = clear_within _ _ xs.note c in
-      let own = clean_parts _ head.note whole.0 in
+      let notes = clear_within _ _ xs.note c in
+      let own = clean_parts _ head.note notes.0 in
       by_parts (of_stmt (stmt.Loop label head.it xs.it closing)) (of_kind head.it ++ in_turn (map of_stmt xs.it))
-      (eq.of_loop sourcing label head.it xs.it closing)
+      (eq.of_loop whole label head.it xs.it closing)
       (every_append SourceBelow (of_kind head.it) (in_turn (map of_stmt xs.it)) (head_fine k spot.scope slots p own.1)
-      (each_fine of_stmt gs h inner head.slots p whole.1))
+      (each_fine of_stmt gs h inner head.slots p notes.1))
 
   assign_fine : (name : Name) (e : Expr) (spot : Spot) → Placed spot.scope → (v : Option Variable)
       → Clean (assigned name v (named_expr e spot.scope)).note → AllBelow (of_stmt (assigned name v (named_expr e spot.scope)).it)
   unfolding assigned
   assign_fine name e spot p None c = single_fine e spot.scope p (clean_parts (breaks rule.Names true) (named_expr e spot.scope).note c).1
   assign_fine name e spot p (Some v) c = single_fine e spot.scope p (clean_parts (breaks rule.Constants v.constant) (named_expr e spot.scope).note c).1
+
+  into_fine : (strict : Bool) (targets : List (Name × Option ℕ)) (query : Select) → FineBy of_stmt (n.statement (st.Into strict targets query))
+  into_fine strict targets query spot slots p c =
+      (into_below tables query spot.scope p.0 p.1 (clean_parts _ _ (clean_parts _ _ (clear_own _ _ c)).1).1, tt)
 
   -- ---- all statements
 
@@ -188,17 +194,17 @@ module _ (tables : ℕ) where
     stmt_fine (b.Block' label decls m body closing) = block_fine label decls (stmts_of resolving body) closing (stmts_fine body)
     stmt_fine (b.Assign name slot e) = λ spot slots p c. assign_fine name e spot p (variable_named name spot.scope.variables) (clean_parts _ _ (clear_own 1 _ c)).1
     stmt_fine (b.If' m arms o) =
-        branched_fine (λ arms o. stmt.If arms o) (λ arms o. eq.of_if sourcing arms o) (branches_of resolving arms) (else_of resolving o)
+        branched_fine (λ arms o. stmt.If arms o) (λ arms o. eq.of_if whole arms o) (branches_of resolving arms) (else_of resolving o)
         (branches_fine arms) (else_fine o)
     stmt_fine (b.Cases' m arms o) =
-        branched_fine (λ arms o. stmt.Cases arms o) (λ arms o. eq.of_cases sourcing arms o) (branches_of resolving arms) (else_of resolving o)
+        branched_fine (λ arms o. stmt.Cases arms o) (λ arms o. eq.of_cases whole arms o) (branches_of resolving arms) (else_of resolving o)
         (branches_fine arms) (else_fine o)
     stmt_fine (b.Loop' label k m body closing) = loop_fine label k (stmts_of resolving body) closing (stmts_fine body)
     stmt_fine (b.Exit label when) = λ spot slots p c. maybe_fine when spot.scope p (clean_parts _ _ (clean_parts _ _ (clear_own 1 _ c)).1).1
     stmt_fine (b.Continue label when) = λ spot slots p c. maybe_fine when spot.scope p (clean_parts _ _ (clean_parts _ _ (clear_own 1 _ c)).1).1
     stmt_fine (b.Return e) = λ spot slots p c. single_fine e spot.scope p (clear_own 1 _ c)
     stmt_fine (b.Raise raised) = λ spot slots p c. tt
-    stmt_fine (b.Into strict targets query) = λ spot slots p c. tt
+    stmt_fine (b.Into strict targets query) = into_fine strict targets query
     stmt_fine b.Nothing = λ spot slots p c. tt
 
     stmts_fine : {m : _} (body : b.Row_of-Stmt m) → Every (FineBy of_stmt) (stmts_of resolving body)

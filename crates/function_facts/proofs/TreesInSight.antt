@@ -22,12 +22,14 @@ use Rattle.away_names.specs.Lookups.{Name, Level, Scope, inside}
 use Rattle.away_names.specs.Naming as n
 use Rattle.away_names.specs.Naming.{naming}
 use Rattle.sql_meaning.specs.Reads.{reading, Reads, of_list, of_option}
-use Rattle.sql_meaning.proofs.Related.{Alike, AlikeOption, AlikeLink, AlikeArm, Relation, IsKept, expr_related}
+use Rattle.sql_meaning.proofs.Related.{Alike, AlikeOption, AlikeLink, AlikeArm, Relation, IsKept, expr_related, select_related}
+use Rattle.plsql_meaning.specs.Sight as into
 use Rattle.type_soundness.specs.Sorts.{Every}
 use Rattle.type_soundness.proofs.CleanNotes.{Clean, clean_parts, not_broken}
 use Rattle.type_soundness.proofs.Lists.{every_append}
 use Rattle.function_facts.specs.InSight.{IsSeen}
 use Rattle.function_facts.proofs.Names.{every_flat, slots_of, Sees, SeesAt, SeesExpr, SeesSource, named_seen, qualified_seen, every_each}
+use Rattle.function_facts.proofs.WholeSelects.{whole_reads}
 
 -- ---- what holds of each kind of node
 
@@ -299,3 +301,7 @@ steps = record {
 
 pub expr_seen : (e : Expr) (s : Scope) → Clean ((expr_of naming e).judge s).note → SeesExpr s.variables ((expr_of naming e).judge s).it
 expr_seen e = expr_related naming naming naming relation steps e
+
+-- the select of a SELECT INTO
+pub into_seen : (x : Select) (s : Scope) → Clean (select_of naming x s).note → SeesExpr s.variables (into.query_of (select_of naming x s).it.it)
+into_seen x s c = λ d. whole_reads (IsSeen (slots_of s.variables)) (select_of naming x s).it.it d (select_related naming naming naming relation steps x s c d)

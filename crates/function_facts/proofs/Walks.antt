@@ -2,11 +2,12 @@
 use Rattle.std.proofs.Common.{◌≡◌, refl, sym, ap, subst, ◌∙◌, ℕ, ◌+◌, arith, Bool, List, [], ◌∷◌, ◌++◌, map, fold, length, Option, Some, None}
 use Rattle.away_values.specs.declared.types.Ty.{Ty}
 use Rattle.away_trees.specs.declared.queries.Expr.{Expr}
+use Rattle.away_trees.specs.declared.queries.Select.{Select}
 use Rattle.away_trees.specs.declared.statements.Decl.{Decl}
 use Rattle.away_names.specs.declared.scope.Variable.{Variable}
 use Rattle.away_names.specs.Lookups.{Name, Scope}
 use Rattle.away_names.specs.Notes.{held}
-use Rattle.away_names.specs.Trees.{named_expr}
+use Rattle.away_names.specs.Trees.{named_expr, named_select}
 use Rattle.away_types.specs.declared.resolved.Declared.{Declared}
 use Rattle.away_types.specs.declared.slots.Slots.{Slots}
 use Rattle.away_types.specs.Statements as n
@@ -18,7 +19,7 @@ use Rattle.function_facts.specs.Sight as sight
 use Rattle.function_facts.specs.Sight.{Sighted, Walked, Walk, walking}
 use Rattle.function_facts.specs.InSight.{ReadsInSight}
 use Rattle.function_facts.proofs.Names.{slots_of}
-use Rattle.function_facts.proofs.TreesInSight.{expr_seen}
+use Rattle.function_facts.proofs.TreesInSight.{expr_seen, into_seen}
 
 -- ---- numbers and lists
 
@@ -56,6 +57,10 @@ expr_read e scope next c = (expr_seen e scope c 0, tt)
 pub maybe_read : (o : Option Expr) (scope : Scope) (next : ℕ) → Clean (held (λ e. named_expr e scope) o).note → Every ReadsInSight (sight.maybe_expr (held (λ e. named_expr e scope) o).it next (slots_of scope.variables)).exprs
 maybe_read None scope next c = tt
 maybe_read (Some e) scope next c = expr_read e scope next c
+
+pub into_read : (x : Select) (scope : Scope) (next : ℕ) → Clean (named_select x scope).note → Every ReadsInSight (sight.one_expr (sight.query_of (named_select x scope).it.it) next (slots_of scope.variables)).exprs
+unfolding named_select
+into_read x scope next c = (into_seen x scope c 0, tt)
 
 pub maybe_next : (o : Option Expr) (next : ℕ) (seen : List ℕ) → (sight.maybe_expr o next seen).next ≡ next
 maybe_next None next seen = refl

@@ -4,9 +4,6 @@
 use Rattle.std.specs.Prelude.{ℕ, ◌+◌, List, [], ◌∷◌, ◌++◌, fold, length, Option, Some, None}
 use Rattle.std.specs.List.{range_with_len}
 use Rattle.away_trees.specs.declared.queries.Expr.{Expr}
-use Rattle.away_trees.specs.declared.queries.Expr.TheVariants as expr
-use Rattle.away_trees.specs.declared.queries.Expr.TheViews.{roll-Query}
-use Rattle.away_trees.specs.declared.queries.Select.{Select}
 use Rattle.away_trees.specs.declared.statements.Decl.{Decl}
 use Rattle.away_trees.specs.declared.statements.Function.{Function}
 use Rattle.away_trees.specs.declared.statements.LoopKind.{LoopKind}
@@ -15,6 +12,7 @@ use Rattle.away_trees.specs.declared.statements.Stmt.TheOpen.{Stmt-F, Arm-F}
 use Rattle.away_trees.specs.declared.statements.Stmt.TheOpen as st
 use Rattle.away_trees.specs.StatementAlgebra.{StatementAlgebra, stmt_of}
 use Rattle.away_trees.specs.StatementEquations.{statement_algebra}
+pub use Rattle.plsql_meaning.specs.Sight.{query_of}
 
 pub record Sighted : Type 0 where
   pub expr : Expr
@@ -80,9 +78,6 @@ of_loop kind.Plain body next sight = all_walks body next sight
 of_loop (kind.While e) body next sight = and_walk (one_expr e) (all_walks body) next sight
 of_loop (kind.Count var reverse first last step) body next sight =
     behind (and_walk (one_expr first) (and_walk (one_expr last) (maybe_expr step)) next sight) (all_walks body (next + 1) (sight ++ next ∷ []))
-
-abbrev pub query_of : Select → Expr
-query_of s = expr.Scalar (roll-Query (record { recursive = None; selects = s ∷ [] }))
 
 abbrev pub statement : Stmt-F Walk Walk → Walk
 statement (st.Block label decls body closing) next sight =

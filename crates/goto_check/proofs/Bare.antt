@@ -4,6 +4,7 @@ use Rattle.std.specs.Prelude.{if◌then◌else◌}
 use Rattle.away_values.specs.declared.types.Ty.{Ty}
 use Rattle.away_values.specs.declared.values.Class.{Class}
 use Rattle.away_trees.specs.declared.queries.Expr.{Expr}
+use Rattle.away_trees.specs.declared.queries.Select.{Select}
 use Rattle.away_trees.specs.declared.statements.Decl.{Decl}
 use Rattle.away_trees.specs.declared.statements.LoopKind.{LoopKind}
 use Rattle.away_trees.specs.declared.statements.LoopKind.TheVariants as kind
@@ -15,8 +16,9 @@ use Rattle.plsql_meaning.specs.Outcomes.{case_not_found}
 use Rattle.block_forms.specs.declared.places.Position.{Position}
 use Rattle.block_forms.specs.declared.forms.Block.{Block}
 use Rattle.block_forms.specs.declared.forms.Term.{Term}
+use Rattle.select_into.specs.Entries.{Target, checks}
 use Rattle.block_forms.specs.Around.{Around}
-use Rattle.block_forms.specs.Patterns.{Part, own, shared, same, never, jumps, node, no_of, slot_parts, set_parts, leave_parts, exit_parts}
+use Rattle.block_forms.specs.Patterns.{Part, own, shared, same, never, jumps, node, no_of, slot_parts, set_parts, leave_parts, exit_parts, onward, check_parts, pick_parts, put_part, put_parts, after_put, puts_of, into_parts}
 use Rattle.block_forms.specs.Laid.{Setting, Laid, LaidArm, laying, laid, laid_row, after, a_node, with_expr, decl_size, kind_size, row_size, first_block, lack_parts, lack, inside_of, arms_size, else_parts, row_parts, arms_parts, decl_parts, decls_parts, assign_parts, kind_parts, again_of}
 use Rattle.goto_check.specs.declared.asking.Asking.{Asking}
 use Rattle.goto_check.specs.declared.asking.Question.{Question}
@@ -143,6 +145,36 @@ module _ (s : Setting) where
       (arms_parts s L (after p a_node) B m (node s.goto p.node)) (else_parts s (Some R) None z B m l)
       e (ap (λ q. same 0 0 ∷ same 0 0 ∷ q) f)
 
+  bare_checks : (strict : Bool) (b k : ℕ) (q : Select) (x y : ℕ) → bare (check_parts s.goto s.numbers strict b k q x) ≡ bare (check_parts s.goto s.numbers strict b k q y)
+  bare_checks false b k q x y = refl
+  bare_checks true b k q x y = refl
+
+  bare_put : (t : Option ℕ) (b h n m : ℕ) → bare (put_part s.goto s.numbers s.slots t b h n) ≡ bare (put_part s.goto s.numbers s.slots t b h m)
+  bare_put None b h n m = refl
+  bare_put (Some slot) b h n m = bare_slot (slice_get s.slots slot) b slot _ n m
+
+  bare_puts : (ts : List Target) (b h n m : ℕ) → bare (put_parts s.goto s.numbers s.slots ts b h n) ≡ bare (put_parts s.goto s.numbers s.slots ts b h m)
+  bare_puts [] b h n m = refl
+  bare_puts (t ∷ ts) b h n m =
+      let behind = after_put s.goto s.numbers s.slots t.1 b in
+      bare_both (put_part s.goto s.numbers s.slots t.1 b h (onward ts behind n)) (put_parts s.goto s.numbers s.slots ts behind (h + 1) n)
+      (put_part s.goto s.numbers s.slots t.1 b h (onward ts behind m)) (put_parts s.goto s.numbers s.slots ts behind (h + 1) m)
+      (bare_put t.1 b h _ _) (bare_puts ts behind (h + 1) n m)
+
+  bare_into : (strict : Bool) (ts : List Target) (q : Select) (p : Position) (n m : ℕ) →
+      bare (into_parts s.goto s.numbers s.slots strict ts q p n) ≡ bare (into_parts s.goto s.numbers s.slots strict ts q p m)
+  bare_into strict ts q p n m =
+      let b = node s.goto p.node in
+      let puts = puts_of s.goto s.numbers ts p.node in
+      let h = s.numbers.targets + p.targets in
+      let picks = pick_parts s.goto s.numbers ts (p.node + 1) (p.expr + checks strict) h q puts in
+      let first = onward ts (node s.goto (p.node + 1)) n in
+      let other = onward ts (node s.goto (p.node + 1)) m in
+      bare_both (check_parts s.goto s.numbers strict b p.expr q first) (picks ++ put_parts s.goto s.numbers s.slots ts puts h n)
+      (check_parts s.goto s.numbers strict b p.expr q other) (picks ++ put_parts s.goto s.numbers s.slots ts puts h m)
+      (bare_checks strict b p.expr q first other)
+      (bare_both picks (put_parts s.goto s.numbers s.slots ts puts h n) picks (put_parts s.goto s.numbers s.slots ts puts h m) refl (bare_puts ts puts h n m))
+
   mutual
     bare_stmt : (x : Stmt) (p : Position) (A B : Around) (n m : ℕ) → bare ((stmt_of laying x).parts s p A n) ≡ bare ((stmt_of laying x).parts s p B m)
     bare_stmt (b.Block' label decls k body closing) p A B n m =
@@ -164,7 +196,7 @@ module _ (s : Setting) where
     bare_stmt (b.Continue label when) p A B n m = bare_leave when p.expr _ _ n _ m
     bare_stmt (b.Return e) p A B n m = refl
     bare_stmt (b.Raise r) p A B n m = refl
-    bare_stmt (b.Into strict targets query) p A B n m = refl
+    bare_stmt (b.Into strict targets query) p A B n m = bare_into strict targets query p n m
     bare_stmt b.Nothing p A B n m = refl
 
     bare_row : {k : _} → (r : b.Row_of-Stmt k) (p : Position) (A B : Around) (n m : ℕ) → bare (row_parts s (stmts_of laying r) p A n) ≡ bare (row_parts s (stmts_of laying r) p B m)

@@ -1,5 +1,5 @@
 -- What each statement asks, by its parts.
-use Rattle.std.proofs.Common.{◌≡◌, ℕ, ◌+◌, Bool, false, List, [], ◌∷◌, length, Option, Some, None, refl}
+use Rattle.std.proofs.Common.{◌≡◌, ℕ, Bool, false, List, [], ◌∷◌, Option, Some, None, refl}
 use Rattle.away_trees.specs.declared.queries.Expr.{Expr}
 use Rattle.away_trees.specs.declared.queries.Select.{Select}
 use Rattle.away_trees.specs.declared.statements.Arm.{Arm}
@@ -12,8 +12,8 @@ use Rattle.away_trees.proofs.StatementEquations.{of_block, of_loop, of_if, of_ca
 use Rattle.plsql_meaning.specs.Outcomes.{Label, case_not_found}
 use Rattle.plsql_meaning.specs.Statements.{class_of}
 use Rattle.block_forms.specs.Around.{exit_to, again_to}
-use Rattle.block_forms.specs.Patterns.{own, shared, never, source_term, jumps, returns, fails, node, leave_parts, exit_parts}
-use Rattle.block_forms.specs.Laid.{laying, laid, laid_arm, laid_row, laid_arms, laid_else, place, a_node, with_expr, after, one_if, decls_size, row_size, arms_size, else_size, kind_size, block_parts, branch_parts, loop_parts, assign_parts}
+use Rattle.block_forms.specs.Patterns.{own, shared, source_term, jumps, returns, fails, node, leave_parts, exit_parts, into_parts}
+use Rattle.block_forms.specs.Laid.{laying, laid, laid_arm, laid_row, laid_arms, laid_else, place, a_node, with_expr, after, one_if, decls_size, row_size, arms_size, else_size, kind_size, into_size, block_parts, branch_parts, loop_parts, assign_parts}
 
 pub laid_block : (label : Label) (decls : List Decl) (body : List Stmt) (closing : Label) →
     laid (stmt.Block label decls body closing) ≡ record { size = after (after a_node (decls_size decls)) (row_size (laid_row body)); parts = λ s. block_parts s label decls (laid_row body) }
@@ -41,12 +41,12 @@ unfolding laid
 laid_assign name slot e = refl
 
 pub laid_exit : (label : Label) (when : Option Expr) →
-    laid (stmt.Exit label when) ≡ record { size = place 1 (one_if when) 0 0; parts = λ s p around next. exit_parts s.goto s.numbers when p.expr (node s.goto p.node) (exit_to s.goto.finish around label) next }
+    laid (stmt.Exit label when) ≡ record { size = place 1 (one_if when) 0 0 0; parts = λ s p around next. exit_parts s.goto s.numbers when p.expr (node s.goto p.node) (exit_to s.goto.finish around label) next }
 unfolding laid
 laid_exit label when = refl
 
 pub laid_continue : (label : Label) (when : Option Expr) →
-    laid (stmt.Continue label when) ≡ record { size = place 1 (one_if when) 0 0; parts = λ s p around next. leave_parts s.goto s.numbers when p.expr (node s.goto p.node) (again_to s.goto.finish around label) next }
+    laid (stmt.Continue label when) ≡ record { size = place 1 (one_if when) 0 0 0; parts = λ s p around next. leave_parts s.goto s.numbers when p.expr (node s.goto p.node) (again_to s.goto.finish around label) next }
 unfolding laid
 laid_continue label when = refl
 
@@ -59,7 +59,7 @@ unfolding laid
 laid_raise r = refl
 
 pub laid_into : (strict : Bool) (targets : List (List ℕ × Option ℕ)) (query : Select) →
-    laid (stmt.Into strict targets query) ≡ record { size = place (1 + length targets) 0 0 0; parts = λ s p around next. never ∷ [] }
+    laid (stmt.Into strict targets query) ≡ record { size = into_size strict targets; parts = λ s p around next. into_parts s.goto s.numbers s.slots strict targets query p next }
 unfolding laid
 laid_into strict targets query = refl
 

@@ -1,5 +1,5 @@
 -- How much a statement has, by its nodes.
-use Rattle.std.proofs.Common.{◌≡◌, ℕ, ◌+◌, ◌*◌, ◌<◌, ◌≤◌, ◌^◌, List, [], ◌∷◌, length, sum, Option, Some, None, refl, sym, arith}
+use Rattle.std.proofs.Common.{◌≡◌, ℕ, Bool, true, false, ◌+◌, ◌*◌, ◌<◌, ◌≤◌, ◌^◌, List, [], ◌∷◌, length, sum, Option, Some, None, refl, sym, arith}
 use Rattle.std.proofs.lemmas.List.Sums.{sum_by-cons}
 use Rattle.away_trees.specs.declared.statements.Decl.{Decl}
 use Rattle.away_trees.specs.declared.statements.Function.{Function}
@@ -10,48 +10,50 @@ use Rattle.away_trees.specs.declared.statements.Stmt.TheBlock as b
 use Rattle.away_trees.specs.StatementAlgebra.{stmt_of, stmts_of, branches_of}
 use Rattle.away_trees.specs.Count.{counting, nodes_of, nodes}
 use Rattle.block_forms.specs.declared.places.Position.{Position}
-use Rattle.block_forms.specs.Laid.{laying, laid, after, place, a_node, with_expr, nothing, one_if, decl_size, decls_size, kind_size, row_size, arms_size}
+use Rattle.block_forms.specs.Laid.{laying, laid, after, place, a_node, with_expr, nothing, one_if, decl_size, decls_size, kind_size, row_size, arms_size, into_size}
+use Rattle.select_into.specs.Entries.{Target}
 use Rattle.block_forms.specs.Lowered.{numbers_of, body_place}
 use Rattle.goto_check.specs.Room.{Small, Room}
 
 sum-cons : (x : ℕ) (xs : List ℕ) → sum (x ∷ xs) ≡ x + sum xs
 sum-cons x xs = sum_by-cons (λ n. n) x xs
 
--- so many nodes, and in each at most three expressions, a variable and a FOR
+-- so many nodes, and in each at most three expressions, a variable, a FOR and a target
 pub record Fits (p : Position) (k : ℕ) : Type 0 where
   pub node : p.node ≡ k
   pub expr : p.expr ≤ 3 * k
   pub slot : p.slot ≤ k
   pub fors : p.fors ≤ k
+  pub targets : p.targets ≤ k
 
 fits_after : (p q : Position) (k l : ℕ) → Fits p k → Fits q l → Fits (after p q) (k + l)
-fits_after p q k l f h = record { node = omega (arith, f.node, h.node); expr = omega (arith, f.expr, h.expr); slot = omega (arith, f.slot, h.slot); fors = omega (arith, f.fors, h.fors) }
+fits_after p q k l f h = record { node = omega (arith, f.node, h.node); expr = omega (arith, f.expr, h.expr); slot = omega (arith, f.slot, h.slot); fors = omega (arith, f.fors, h.fors); targets = omega (arith, f.targets, h.targets) }
 
-fits_place : (n e s f k : ℕ) → n ≡ k → e ≤ 3 * k → s ≤ k → f ≤ k → Fits (place n e s f) k
-fits_place n e s f k a b c d = record { node = a; expr = b; slot = c; fors = d }
+fits_place : (n e s f t k : ℕ) → n ≡ k → e ≤ 3 * k → s ≤ k → f ≤ k → t ≤ k → Fits (place n e s f t) k
+fits_place n e s f t k a b c d h = record { node = a; expr = b; slot = c; fors = d; targets = h }
 
 fits_none : Fits nothing 0
-fits_none = fits_place 0 0 0 0 0 refl (omega arith) (omega arith) (omega arith)
+fits_none = fits_place 0 0 0 0 0 0 refl (omega arith) (omega arith) (omega arith) (omega arith)
 
 fits_node : Fits a_node 1
-fits_node = fits_place 1 0 0 0 1 refl (omega arith) (omega arith) (omega arith)
+fits_node = fits_place 1 0 0 0 0 1 refl (omega arith) (omega arith) (omega arith) (omega arith)
 
 fits_expr : Fits with_expr 1
-fits_expr = fits_place 1 1 0 0 1 refl (omega arith) (omega arith) (omega arith)
+fits_expr = fits_place 1 1 0 0 0 1 refl (omega arith) (omega arith) (omega arith) (omega arith)
 
-fits_if : {X : Type 0} (o : Option X) → Fits (place 1 (one_if o) 0 0) 1
-fits_if None = fits_place 1 0 0 0 1 refl (omega arith) (omega arith) (omega arith)
-fits_if (Some x) = fits_place 1 1 0 0 1 refl (omega arith) (omega arith) (omega arith)
+fits_if : {X : Type 0} (o : Option X) → Fits (place 1 (one_if o) 0 0 0) 1
+fits_if None = fits_place 1 0 0 0 0 1 refl (omega arith) (omega arith) (omega arith) (omega arith)
+fits_if (Some x) = fits_place 1 1 0 0 0 1 refl (omega arith) (omega arith) (omega arith) (omega arith)
 
 fits_decl : (d : Decl) → Fits (decl_size d) 1
 fits_decl d = by d.default
   where
-    by : {X : Type 0} (o : Option X) → Fits (place 1 (one_if o) 1 0) 1
-    by None = fits_place 1 0 1 0 1 refl (omega arith) (omega arith) (omega arith)
-    by (Some x) = fits_place 1 1 1 0 1 refl (omega arith) (omega arith) (omega arith)
+    by : {X : Type 0} (o : Option X) → Fits (place 1 (one_if o) 1 0 0) 1
+    by None = fits_place 1 0 1 0 0 1 refl (omega arith) (omega arith) (omega arith) (omega arith)
+    by (Some x) = fits_place 1 1 1 0 0 1 refl (omega arith) (omega arith) (omega arith) (omega arith)
 
 resized : (p : Position) (k l : ℕ) → k ≡ l → Fits p k → Fits p l
-resized p k l e f = record { node = omega (arith, e, f.node); expr = omega (arith, e, f.expr); slot = omega (arith, e, f.slot); fors = omega (arith, e, f.fors) }
+resized p k l e f = record { node = omega (arith, e, f.node); expr = omega (arith, e, f.expr); slot = omega (arith, e, f.slot); fors = omega (arith, e, f.fors); targets = omega (arith, e, f.targets) }
 
 fits_decls : (ds : List Decl) → Fits (decls_size ds) (length ds)
 fits_decls [] = fits_none
@@ -60,8 +62,12 @@ fits_decls (d ∷ ds) = resized _ (1 + length ds) _ (omega arith) (fits_after (d
 fits_kind : (k : LoopKind) → Fits (kind_size k) 1
 fits_kind kind.Plain = fits_node
 fits_kind (kind.While e) = fits_expr
-fits_kind (kind.Count var reverse first last None) = fits_place 1 2 1 1 1 refl (omega arith) (omega arith) (omega arith)
-fits_kind (kind.Count var reverse first last (Some e)) = fits_place 1 3 1 1 1 refl (omega arith) (omega arith) (omega arith)
+fits_kind (kind.Count var reverse first last None) = fits_place 1 2 1 1 0 1 refl (omega arith) (omega arith) (omega arith) (omega arith)
+fits_kind (kind.Count var reverse first last (Some e)) = fits_place 1 3 1 1 0 1 refl (omega arith) (omega arith) (omega arith) (omega arith)
+
+fits_into : (strict : Bool) (ts : List Target) → Fits (into_size strict ts) (1 + length ts)
+fits_into false ts = fits_place (1 + length ts) (0 + length ts) 0 0 (length ts) (1 + length ts) refl (omega arith) (omega arith) (omega arith) (omega arith)
+fits_into true ts = fits_place (1 + length ts) (2 + length ts) 0 0 (length ts) (1 + length ts) refl (omega arith) (omega arith) (omega arith) (omega arith)
 
 mutual
   fits : (x : Stmt) → Fits (stmt_of laying x).size (stmt_of counting x)
@@ -76,7 +82,7 @@ mutual
   fits (b.Continue label when) = fits_if when
   fits (b.Return e) = fits_expr
   fits (b.Raise r) = fits_node
-  fits (b.Into strict targets query) = fits_place (1 + length targets) 0 0 0 (1 + length targets) refl (omega arith) (omega arith) (omega arith)
+  fits (b.Into strict targets query) = fits_into strict targets
   fits b.Nothing = fits_node
 
   fits_row : {m : _} → (r : b.Row_of-Stmt m) → Fits (row_size (stmts_of laying r)) (sum (stmts_of counting r))
@@ -104,6 +110,7 @@ whole_room f many e few =
       expr = omega (arith, e, few, r.node, r.expr);
       slot = omega (arith, e, few, r.node, r.slot);
       fors = omega (arith, e, few, r.node, r.slot, r.fors);
+      targets = omega (arith, e, few, r.node, r.slot, r.fors, r.targets);
     }
 
 pub body_small : (f : Function) (many : ℕ) → many ≡ length f.params + (laid f.body).size.node → 4 * many < 2 ^ 63 → Small (laid f.body).size
@@ -113,4 +120,5 @@ body_small f many e few =
       expr = omega (arith, e, few, r.node, r.expr);
       slot = omega (arith, e, few, r.node, r.slot);
       fors = omega (arith, e, few, r.node, r.fors);
+      targets = omega (arith, e, few, r.node, r.targets);
     }

@@ -92,7 +92,7 @@ says_yes blocks question.Which never = false
 -- ---- where it is asked
 
 abbrev pub numbers_in : Asking → Numbers
-numbers_in a = record { fixed = a.fixed; counters = a.counters }
+numbers_in a = record { fixed = a.fixed; counters = a.counters; targets = a.targets }
 
 abbrev pub setting_in : Asking → Setting
 setting_in a = setting_of a.goto.now a.slots.now (numbers_in a)

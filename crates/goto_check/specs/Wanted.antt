@@ -1,5 +1,6 @@
 -- The term, and the block, that a pattern asks for.
 use Rattle.std.specs.Prelude.{ℕ, List, [], ◌∷◌}
+use Rattle.select_into.specs.Wrapped.{select_slots}
 use Rattle.sql_meaning.specs.Reads.{slots_of}
 use Rattle.goto_check.specs.declared.shapes.Reads.{Reads}
 use Rattle.goto_check.specs.declared.shapes.Reads.TheVariants as reads
@@ -15,6 +16,7 @@ wanted_slots reads.Nothing = []
 wanted_slots (reads.One a) = a ∷ []
 wanted_slots (reads.Two a b) = a ∷ b ∷ []
 wanted_slots (reads.Expr e) = slots_of e.now
+wanted_slots (reads.Select s) = select_slots s.now
 
 abbrev pub wanted : Wanted → Term
 wanted w = term w.expr (wanted_slots w.reads)

@@ -20,13 +20,14 @@ pub(crate) enum Question {
     Which,
 }
 
-/// A question about a form, with the function's slots, the first number of the fixed list and the first hidden slot.
+/// A question about a form, with the function's slots, the first number of the fixed list and the first hidden slots of FORs and of targets.
 #[derive(Clone, Copy)]
 pub(crate) struct Asking<'a> {
     pub(crate) goto: &'a Goto,
     pub(crate) slots: &'a [Slot],
     pub(crate) fixed: usize,
     pub(crate) counters: usize,
+    pub(crate) targets: usize,
     pub(crate) question: Question,
 }
 

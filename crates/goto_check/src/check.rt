@@ -40,11 +40,13 @@ pub(crate) fn is_lowered(f: &Function, slots: &[Slot], g: &Goto) -> bool
         return false;
     }
     let size = size_of(&f.body);
+    let counters = f.params.len() + size.slot;
     let asking = Asking {
         goto: g,
         slots,
         fixed: size.expr,
-        counters: f.params.len() + size.slot,
+        counters,
+        targets: counters + 3 * size.fors,
         question: Question::Fails,
     };
     let fails = ask_function(&asking, f);

@@ -17,6 +17,7 @@ mod shapes;
 mod sizes;
 mod spots;
 mod stand;
+mod targets;
 
 pub use check::check_lowered;
 

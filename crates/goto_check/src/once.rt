@@ -26,6 +26,7 @@ fn asked(a: &Asking<'_>, f: &Function, question: Question) -> Run
         slots: a.slots,
         fixed: a.fixed,
         counters: a.counters,
+        targets: a.targets,
         question,
     };
     ask_function(&asking, f)

@@ -63,7 +63,7 @@ pub(crate) fn ask_function(a: &Asking<'_>, f: &Function) -> Run
     ensures { result ≡ answer_run a.now (parts_in (setting_in a.now) f.now) }
 {
     let many = f.params.len();
-    let body = spot_of(many, 0, many, 0);
+    let body = spot_of(many, 0, many, 0, 0);
     let finish = a.goto.finish as usize;
     let start = node(a.goto, 0);
     let entry = ask_shared(a, a.goto.entry as usize, &Shape::Jump(false, start));

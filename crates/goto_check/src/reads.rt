@@ -1,8 +1,9 @@
-//! Whether a list has the slots that an expression reads, each once, in the order of their first occurrence. A walk over the
+//! Whether a list has the slots that an expression or a select reads, each once, in the order of their first occurrence. A walk over the
 //! expression counts how many of the list have been: each slot is one of these, or the next one.
 
 ghost use Rattle.std.specs.Prelude.{◌≡◌, ◌↔◌, IsTrue, ℕ, ◌++◌, Option, Some};
 ghost use Rattle.away_trees.specs.Algebra.{expr_of, query_of, select_of, source_of, from_of};
+ghost use Rattle.select_into.specs.Wrapped.{select_slots};
 ghost use Rattle.sql_meaning.specs.Reads.{reading, slots_of};
 ghost use Rattle.std.specs.Prelude.{List};
 ghost use Rattle.goto_check.specs.Passing.{first_place, pass, passed, exprs_read, links_read, arms_read, option_reads, items_read, froms_read, keys_read, selects_read};
@@ -197,6 +198,16 @@ pub(crate) fn reads_expr(e: &Expr, names: &[u32]) -> bool
     ensures { IsTrue result ↔ (names.now ≡ slots_of e.now) }
 {
     match pass_expr(names, Some(0), e) {
+        None => false,
+        Some(k) => k == names.len(),
+    }
+}
+
+/// Whether the list has the slots that the select reads.
+pub(crate) fn reads_select(s: &Select, names: &[u32]) -> bool
+    ensures { IsTrue result ↔ (names.now ≡ select_slots s.now) }
+{
+    match pass_select(names, Some(0), s) {
         None => false,
         Some(k) => k == names.len(),
     }

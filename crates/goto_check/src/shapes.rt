@@ -5,18 +5,19 @@ ghost use Rattle.block_forms.specs.Patterns.{sets, branches, jumps, returns, fai
 ghost use Rattle.goto_check.specs.Asking.{is_found};
 ghost use Rattle.goto_check.specs.Wanted.{shape, wanted, wanted_slots};
 
-use crate::reads::reads_expr;
-use away_trees::Expr;
+use crate::reads::{reads_expr, reads_select};
+use away_trees::{Expr, Select};
 use away_values::Class;
 use block_forms::{Block, End, Goto, Term};
 
-/// The slots that a term is to read: so many by number, or those of a source expression.
+/// The slots that a term is to read: so many by number, or those of a source expression or of a select.
 #[derive(Clone, Copy)]
 pub(crate) enum Reads<'a> {
     Nothing,
     One(usize),
     Two(usize, usize),
     Expr(&'a Expr),
+    Select(&'a Select),
 }
 
 /// A term that a pattern asks for.
@@ -44,6 +45,7 @@ fn are_slots(names: &[u32], reads: &Reads<'_>) -> bool
         Reads::One(a) => names.len() == 1 && names[0] as usize == a,
         Reads::Two(a, b) => { names.len() == 2 && names[0] as usize == a && names[1] as usize == b }
         Reads::Expr(e) => reads_expr(e, names),
+        Reads::Select(s) => reads_select(s, names),
     }
 }
 

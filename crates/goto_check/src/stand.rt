@@ -1,6 +1,6 @@
 //! What the patterns of statements ask.
 
-ghost use Rattle.std.specs.Prelude.{◌≡◌, ◌+◌, ◌≤◌, ◌<◌, ◌^◌, [], ◌∷◌, Some, None, slice_get};
+ghost use Rattle.std.specs.Prelude.{◌≡◌, ◌+◌, ◌≤◌, ◌<◌, ◌^◌, [], ◌∷◌, Some, None};
 ghost use Rattle.block_forms.specs.FixedList.{many};
 ghost use Rattle.block_forms.specs.Laid as l;
 ghost use Rattle.block_forms.specs.Patterns as form;
@@ -13,18 +13,18 @@ ghost use Rattle.goto_check.specs.Room.{here, Room, Small};
 ghost use Rattle.goto_check.specs.Runs.{join};
 ghost use Rattle.goto_check.specs.Wanted.{wanted};
 
-use crate::asking::{Answer, Asking, Question, ask_never, ask_own, ask_same, ask_shared};
+use crate::asking::{Answer, Asking, Question, ask_own, ask_same, ask_shared};
 use crate::classes::class_of;
 use crate::enclosing::{Enclosing, again_to, exit_to};
 use crate::loops::{ask_kind, turns_to};
-use crate::patterns::{ask_exit, ask_leave, ask_slot, null_of, source_term};
+use crate::patterns::{ask_exit, ask_leave, ask_slot, null_of, slot_at, source_term};
 use crate::read::{no_of, node};
 use crate::runs::{Run, join};
 use crate::shapes::{Shape, Wanted};
 use crate::sizes::{decl_size, decls_size, kind_size, size_of};
 use crate::spots::{Spot, after, spot_of};
+use crate::targets::ask_into;
 use away_trees::{Arm, Decl, Expr, LoopKind, Raised, Stmt};
-use away_types::Slot;
 use away_values::{Class, Name, Ty, sqlstate};
 use block_forms::Goto;
 
@@ -33,12 +33,6 @@ pub(crate) fn first_block(a: &Asking<'_>, many: usize, i: usize, next: usize) ->
     ensures { result ≡ l.first_block (setting_in a.now) many i next }
 {
     if many == 0 { next } else { node(a.goto, i) }
-}
-
-fn slot_at(slots: &[Slot], slot: usize) -> Option<Slot>
-    ensures { result ≡ slice_get slots.now slot }
-{
-    slots.get(slot).copied()
 }
 
 fn default_term<'a>(a: &Asking<'_>, default: &'a Option<Expr>, ty: Ty, expr: usize) -> Wanted<'a>
@@ -232,7 +226,15 @@ pub(crate) fn ask_statement(
         }
         Stmt::Return(e) => behind(ask_return(a, e, p), s, p),
         Stmt::Raise(raised) => behind(ask_raise(a, raised, p), s, p),
-        Stmt::Into { .. } => behind(ask_never(a), s, p),
+        Stmt::Into {
+            strict,
+            targets,
+            query,
+        } => behind(
+            ask_into(a, *strict, targets.as_slice(), query, p, next),
+            s,
+            p,
+        ),
         Stmt::Nothing => behind(
             ask_own(a, node(a.goto, p.node), &Shape::Jump(false, next)),
             s,
@@ -280,7 +282,7 @@ fn ask_block(
     ensures end { here result.end ≡ after (here p)
         (after (after a_node (decls_size decls.now)) (row_size (laid_row body.now))) }
 {
-    let one = spot_of(1, 0, 0, 0);
+    let one = spot_of(1, 0, 0, 0, 0);
     let begin = after(p, after(one, decls_size(decls)));
     let then = first_block(a, body.len(), begin.node, next);
     let first = first_block(a, decls.len(), p.node + 1, then);
@@ -346,7 +348,7 @@ fn ask_arms(
         let arm = &arms[i];
         let other = no_of(a.goto, from);
         let body = first_block(a, arm.body.len(), at.node + 1, next);
-        let inside = after(at, spot_of(1, 1, 0, 0));
+        let inside = after(at, spot_of(1, 1, 0, 0, 0));
         let test = source_term(at.expr, &arm.test);
         let own = ask_own(a, from, &Shape::Branch(false, &test, body, other));
         let here = join(ask_same(a, from, node(a.goto, at.node)), own);
@@ -376,7 +378,14 @@ fn ask_tests(a: &Asking<'_>, arms: &[Arm], p: Spot, around: &Enclosing<'_>, next
         (form.node a.now.goto.now p.node) }
 {
     let first = node(a.goto, p.node);
-    ask_arms(a, arms, after(p, spot_of(1, 0, 0, 0)), around, next, first)
+    ask_arms(
+        a,
+        arms,
+        after(p, spot_of(1, 0, 0, 0, 0)),
+        around,
+        next,
+        first,
+    )
 }
 
 /// The ELSE behind the arms.
@@ -401,7 +410,7 @@ fn ask_else(
     let to = first_block(a, body.len(), q.node + 1, next);
     let here = ask_same(a, tested.lack, node(a.goto, q.node));
     let begins = ask_same(a, tested.lack, to);
-    let inside = ask_row(a, body, after(q, spot_of(1, 0, 0, 0)), around, next);
+    let inside = ask_row(a, body, after(q, spot_of(1, 0, 0, 0, 0)), around, next);
     Answer {
         run: join(tested.run, join(here, join(begins, inside.run))),
         end: inside.end,

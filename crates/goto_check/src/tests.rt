@@ -1,9 +1,13 @@
-//! Forms of two functions: the written ones are theirs, and no form is that differs in one field.
+//! Forms of four functions: the written ones are theirs, and no form is that differs in one field.
 
+mod into;
 mod worked;
 
 use crate::check::is_lowered;
 use crate::runs::{Run, is_up_to, join};
+use crate::tests::into::{
+    ONLY_ROW, ONLY_ROW_CLASSES, PAIR, only_row, only_row_form, only_row_slots, pair, pair_form,
+};
 use crate::tests::worked::{
     COLLATZ, COLLATZ_HEADS, NO_RETURN, RENUMBERED, SIGN_OF, SIGN_OF_HEADS, collatz, collatz_form,
     sign_of, sign_of_form, slots,
@@ -36,6 +40,24 @@ fn is_form_of_collatz(
         &slots::<2>(),
         collatz_form(rt, v, heads, class).get(),
     )
+}
+
+fn is_form_of_only_row(
+    rt: &(impl Abort + AllocGlobal),
+    v: &[u32; 38],
+    codes: &[[u8; 5]; 5],
+) -> bool {
+    let f = only_row(rt);
+    is_lowered(
+        f.get(),
+        &only_row_slots(),
+        only_row_form(rt, v, codes).get(),
+    )
+}
+
+fn is_form_of_pair(rt: &(impl Abort + AllocGlobal), v: &[u32; 31]) -> bool {
+    let f = pair(rt);
+    is_lowered(f.get(), &slots::<4>(), pair_form(rt, v).get())
 }
 
 #[test]
@@ -108,4 +130,37 @@ fn too_few_slots(rt: HostRuntime) {
     let f = collatz(&rt);
     let g = collatz_form(&rt, &COLLATZ, &COLLATZ_HEADS, NO_RETURN);
     assert!(rt; !is_lowered(f.get(), &slots::<1>(), g.get()));
+}
+
+#[test]
+fn the_forms_of_selects(rt: HostRuntime) {
+    assert!(rt; is_form_of_only_row(&rt, &ONLY_ROW, &ONLY_ROW_CLASSES));
+    assert!(rt; is_form_of_pair(&rt, &PAIR));
+}
+
+#[test]
+fn another_number_of_a_strict_select(rt: HostRuntime) {
+    for i in 0..38 {
+        let mut v = ONLY_ROW;
+        v[i] = v[i].wrapping_add(1);
+        assert!(rt; !is_form_of_only_row(&rt, &v, &ONLY_ROW_CLASSES));
+    }
+}
+
+#[test]
+fn another_class_of_a_strict_select(rt: HostRuntime) {
+    for i in 0..5 {
+        let mut codes = ONLY_ROW_CLASSES;
+        codes[i] = *b"22012";
+        assert!(rt; !is_form_of_only_row(&rt, &ONLY_ROW, &codes));
+    }
+}
+
+#[test]
+fn another_number_of_a_select(rt: HostRuntime) {
+    for i in 0..31 {
+        let mut v = PAIR;
+        v[i] = v[i].wrapping_add(1);
+        assert!(rt; !is_form_of_pair(&rt, &v));
+    }
 }

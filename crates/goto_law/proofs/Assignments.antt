@@ -39,10 +39,10 @@ module _ (s : Sides) (known : Known s) (around : Around) (next b slot : ℕ) (x 
 
   put_goes : (strict : Bool) (t : Ty) (r : Or Value) → value_of s x (env ++ hid) ≡ r
       → AllStandIn s (set_parts s.form.goto s.form.numbers strict t b slot x next)
-      → GoesIn s around next b env hid h n 15 (put_as strict slot r env n)
+      → GoesIn s around next b env hid h n 3 (put_as strict slot r env n)
   put_goes false t r e stand = go r (front s.frame s.form.goto b slot next x env hid r lt e stand.0)
     where
-      go : (r : Or Value) → Sets r next → GoesIn s around next b env hid h n 15 (put_as false slot r env n)
+      go : (r : Or Value) → Sets r next → GoesIn s around next b env hid h n 3 (put_as false slot r env n)
       go (Err c) l = heavier (at_fault l) (omega arith)
       go (Ok v) l = heavier (at_next (length-set env slot v) l) (omega arith)
   put_goes true t r e stand = go r (front s.frame s.form.goto b slot test x env hid r lt e stand.0)
@@ -58,13 +58,13 @@ module _ (s : Sides) (known : Known s) (around : Around) (next b slot : ℕ) (x 
 
       judge : (null : Bool) (v : Value) → Reaches s.frame s.form.goto b (env ++ hid) 1 0 test (stored_env v)
           → Reaches s.frame s.form.goto test (stored_env v) 1 0 (way null fail next) (stored_env v)
-          → GoesIn s around next b env hid h n 15 (stored null slot v env n)
+          → GoesIn s around next b env hid h n 3 (stored null slot v env n)
       judge true v l m =
           heavier (at_fault (then_ends {m = 3} (then_reaches {m = 2} {h = 0} l m (omega arith) (omega arith)) (fails_there stand.1.1.0)
           (omega arith))) (omega arith)
       judge false v l m = heavier (at_next (length-set env slot v) (then_reaches {m = 2} l m (omega arith) (omega arith))) (omega arith)
 
-      go : (r : Or Value) → Sets r test → GoesIn s around next b env hid h n 15 (put_as true slot r env n)
+      go : (r : Or Value) → Sets r test → GoesIn s around next b env hid h n 3 (put_as true slot r env n)
       go (Err c) l = heavier (at_fault l) (omega arith)
       go (Ok v) l =
           let lt' : slot < length (slice_set env slot v) = subst (λ w. slot < w) (sym (length-set env slot v)) lt in
@@ -73,16 +73,22 @@ module _ (s : Sides) (known : Known s) (around : Around) (next b slot : ℕ) (x 
           judge (is_null v) v l (decides_at s.frame s.form.goto false (form.is_null s.form.numbers.fixed t slot) (stored_env v)
           (is_null v) test tested stand.1.0)
 
-  -- a slot of the function is set
-  pub slot_goes : (r : Or Value) → value_of s x (env ++ hid) ≡ r
+  -- a slot of the function is set, in three visits at most
+  pub slot_set : (r : Or Value) → value_of s x (env ++ hid) ≡ r
       → AllStandIn s (slot_parts s.form.goto s.form.numbers (slice_get s.form.slots slot) b slot x next)
-      → GoesIn s around next b env hid h n 15 (put s.set slot r env n)
-  slot_goes r e stand =
-      subst (λ d. GoesIn s around next b env hid h n 15 d) (sym (put_is s.set slot r env n))
-      (subst (λ strict. GoesIn s around next b env hid h n 15 (put_as strict slot r env n)) (sym (known.not_nulls slot))
+      → GoesIn s around next b env hid h n 3 (put s.set slot r env n)
+  slot_set r e stand =
+      subst (λ d. GoesIn s around next b env hid h n 3 d) (sym (put_is s.set slot r env n))
+      (subst (λ strict. GoesIn s around next b env hid h n 3 (put_as strict slot r env n)) (sym (known.not_nulls slot))
       (go (slice_get s.form.slots slot) stand))
     where
       go : (o : Option Slot) → AllStandIn s (slot_parts s.form.goto s.form.numbers o b slot x next)
-          → GoesIn s around next b env hid h n 15 (put_as (strict_at o) slot r env n)
+          → GoesIn s around next b env hid h n 3 (put_as (strict_at o) slot r env n)
       go None stand = put_goes false ty.Bigint r e stand
       go (Some y) stand = put_goes y.not_null y.ty r e stand
+
+  -- the same within what a node pays for
+  pub slot_goes : (r : Or Value) → value_of s x (env ++ hid) ≡ r
+      → AllStandIn s (slot_parts s.form.goto s.form.numbers (slice_get s.form.slots slot) b slot x next)
+      → GoesIn s around next b env hid h n 15 (put s.set slot r env n)
+  slot_goes r e stand = heavier (slot_set r e stand) (omega arith)

@@ -6,12 +6,15 @@ use Rattle.away_values.specs.declared.values.Class.{Class}
 use Rattle.away_trees.specs.declared.queries.Expr.{Expr}
 use Rattle.away_trees.specs.declared.statements.Decl.{Decl}
 use Rattle.away_trees.specs.declared.statements.Stmt.TheOpen as st
+use Rattle.type_soundness.proofs.Lists.{every_left, every_right}
 use Rattle.plsql_meaning.specs.Outcomes.{Env, Label, and_then, close, case_not_found}
 use Rattle.plsql_meaning.specs.Statements.{StatementMeaning, ArmMeaning, arms_vars, else_vars, in_arms, in_else, in_row, initial, put, declare}
 use Rattle.block_forms.specs.declared.places.Position.{Position}
 use Rattle.block_forms.specs.Around.{Around}
 use Rattle.block_forms.specs.Expressions.{Sources, if_there, in_turn, of_else, defaults}
+use Rattle.block_forms.specs.Intos.{Into, row_intos, else_intos}
 use Rattle.block_forms.specs.Laid.{Laid, LaidArm, after, a_node, row_size, arms_size, else_size, decl_size, decls_size, first_block, row_parts, default_term, decl_parts, decls_parts, arms_parts, else_parts, branch_parts, inside_of, block_parts, lack}
+use Rattle.block_forms.specs.OwnSlots.{IsInto}
 use Rattle.block_forms.specs.Patterns.{Part, node}
 use Rattle.block_forms.specs.Targets.{Targets, row_targets, else_targets}
 use Rattle.goto_law.proofs.Assignments.{slot_goes}
@@ -49,7 +52,7 @@ module _ (s : Sides) where
   default_is known (Some e) t k env hid wide entries = known.sources k e entries.0 env hid wide
 
   decls_go : Known s → (ds : List Decl) (p : Position) (slot : ℕ) (around : Around) (next : ℕ) (env hid : Env) (n : ℕ)
-      → Begun s p slot (decls_size ds) (defaults ds) [] (decls_parts s.form ds p next) env hid
+      → Begun s p slot (decls_size ds) (defaults ds) [] [] (decls_parts s.form ds p next) env hid
       → GoesIn s around next (first_block s.form (length ds) p.node next) env hid (3 * p.fors) n (15 * (decls_size ds).node)
       (declare s.set ds slot env n)
   decls_go known [] p slot around next env hid n begun = at_next refl stays
@@ -76,13 +79,15 @@ module _ (s : Sides) where
       back_parts : List Part
       back_parts = decls_parts s.form ds behind next
 
-      there : Has s behind (decls_size ds) (defaults ds) []
+      there : Has s behind (decls_size ds) (defaults ds) [] []
       there = record {
         slots = omega (arith, begun.has.slots);
         fors = omega (arith, begun.has.fors);
+        targets = omega (arith, begun.has.targets);
         entries =
             entries_right s p.expr (p.expr + (decl_size d).expr) (if_there d.default) (defaults ds) begun.has.entries (omega (arith, decl_exprs d));
         sets = tt;
+        intos = tt;
       }
 
       First : ℕ → Type 0
@@ -99,9 +104,9 @@ module _ (s : Sides) where
   -- ---- a block
 
   module _ (label : Label) (ds : List Decl) (x : List Laid) (m : List StatementMeaning) (e : List Sources) (t : List Targets)
-      (f : RowFits s x m e t) where
+      (u : List (List Into)) (f : RowFits s x m e t u) where
     block_goes : Known s → (p : Position) (slot : ℕ) (around : Around) (next : ℕ) (env hid : Env) (n : ℕ)
-        → Begun s p slot (after (after a_node (decls_size ds)) (row_size x)) (defaults ds ++ in_turn e) (row_targets t)
+        → Begun s p slot (after (after a_node (decls_size ds)) (row_size x)) (defaults ds ++ in_turn e) (row_targets t) (row_intos u)
         (block_parts s.form label ds x p around next) env hid
         → GoesIn s around next (node s.form.goto p.node) env hid (3 * p.fors) n (15 * (1 + (decls_size ds).node + (row_size x).node))
         (close label (and_then (declare s.set ds slot env n) (in_row m (slot + length ds))))
@@ -130,9 +135,11 @@ module _ (s : Sides) where
           has = record {
             slots = omega (arith, begun.has.slots);
             fors = omega (arith, begun.has.fors);
+            targets = omega (arith, begun.has.targets);
             entries =
                 entries_at s p.expr (p.expr + 0) (defaults ds) (entries_left s p.expr (defaults ds) (in_turn e) begun.has.entries) (omega arith);
             sets = tt;
+            intos = tt;
           };
           stand = left s.form.goto.blocks front_parts back_parts begun.stand.1;
           wide = begun.wide;
@@ -147,10 +154,12 @@ module _ (s : Sides) where
           has = record {
             slots = omega (arith, begun.has.slots);
             fors = omega (arith, begun.has.fors);
+            targets = omega (arith, begun.has.targets);
             entries =
                 entries_right s p.expr (p.expr + (0 + (decls_size ds).expr)) (defaults ds) (in_turn e) begun.has.entries
                 (omega (arith, decls_exprs ds));
             sets = begun.has.sets;
+            intos = begun.has.intos;
           };
           stand = right s.form.goto.blocks front_parts back_parts begun.stand.1;
           wide = same ∙ begun.wide;
@@ -158,7 +167,7 @@ module _ (s : Sides) where
         })
 
     pub block_fits : (closing : Label) → LayerFits s (st.Block label ds x closing) (st.Block label ds m closing) (st.Block label ds e closing)
-        (st.Block label ds t closing)
+        (st.Block label ds t closing) (st.Block label ds u closing)
     block_fits closing = record {
       slots = omega (arith, decls_slots ds, f.slots);
       exprs = omega (arith, decls_exprs ds, f.exprs, length-append (defaults ds) (in_turn e));
@@ -169,12 +178,14 @@ module _ (s : Sides) where
 
   module _ (x : List LaidArm) (m : List ArmMeaning) (e : List Sources) (t : List Targets) (xo : Option (List Laid))
       (mo : Option (List StatementMeaning)) (eo : Option (List Sources))
-      (to : Option (List Targets)) (f : ArmsFit s x m e t) (fo : ElseFits s xo mo eo to) where
+      (to : Option (List Targets)) (u : List (List Into)) (uo : Option (List (List Into))) (f : ArmsFit s x m e t u)
+      (fo : ElseFits s xo mo eo to uo) where
     abbrev size : Position
     size = after (after a_node (arms_size x)) (else_size xo)
 
     branch_go : (without : Option Class) → Known s → (p : Position) (slot : ℕ) (around : Around) (next : ℕ) (env hid : Env) (n : ℕ)
-        → Begun s p slot size (in_turn e ++ of_else eo) (row_targets t ++ else_targets to) (branch_parts s.form x xo without p around next) env hid
+        → Begun s p slot size (in_turn e ++ of_else eo) (row_targets t ++ else_targets to) (row_intos u ++ else_intos uo)
+        (branch_parts s.form x xo without p around next) env hid
         → GoesIn s around next (node s.form.goto p.node) env hid (3 * p.fors) n (15 * size.node)
         (in_arms s.set m (in_else s.set mo (without_arm without)) slot env n)
     branch_go without known p slot around next env hid n begun =
@@ -208,20 +219,24 @@ module _ (s : Sides) where
         back_parts : List Part
         back_parts = else_parts s.form xo without behind around next (lack s.form x b)
 
-        here : Has s (after p a_node) (arms_size x) (in_turn e) (row_targets t)
+        here : Has s (after p a_node) (arms_size x) (in_turn e) (row_targets t) (row_intos u)
         here = record {
           slots = omega (arith, begun.has.slots);
           fors = omega (arith, begun.has.fors);
+          targets = omega (arith, begun.has.targets);
           entries = entries_at s p.expr (p.expr + 0) (in_turn e) (entries_left s p.expr (in_turn e) (of_else eo) begun.has.entries) (omega arith);
           sets = below_left (width s) (row_targets t) (else_targets to) begun.has.sets;
+          intos = every_left (IsInto (width s)) (row_intos u) (else_intos uo) begun.has.intos;
         }
 
-        there : Has s behind (else_size xo) (of_else eo) (else_targets to)
+        there : Has s behind (else_size xo) (of_else eo) (else_targets to) (else_intos uo)
         there = record {
           slots = omega (arith, begun.has.slots);
           fors = omega (arith, begun.has.fors);
+          targets = omega (arith, begun.has.targets);
           entries = entries_right s p.expr (p.expr + (0 + (arms_size x).expr)) (in_turn e) (of_else eo) begun.has.entries (omega (arith, f.exprs));
           sets = below_right (width s) (row_targets t) (else_targets to) begun.has.sets;
+          intos = every_right (IsInto (width s)) (row_intos u) (else_intos uo) begun.has.intos;
         }
 
     slots_are : size.slot ≡ arms_vars m + else_vars mo
@@ -230,8 +245,8 @@ module _ (s : Sides) where
     exprs_are : size.expr ≡ length (in_turn e ++ of_else eo)
     exprs_are = omega (arith, f.exprs, fo.exprs, length-append (in_turn e) (of_else eo))
 
-    pub if_fits : LayerFits s (st.If x xo) (st.If m mo) (st.If e eo) (st.If t to)
+    pub if_fits : LayerFits s (st.If x xo) (st.If m mo) (st.If e eo) (st.If t to) (st.If u uo)
     if_fits = record { slots = slots_are; exprs = exprs_are; goes = branch_go None }
 
-    pub cases_fit : LayerFits s (st.Cases x xo) (st.Cases m mo) (st.Cases e eo) (st.Cases t to)
+    pub cases_fit : LayerFits s (st.Cases x xo) (st.Cases m mo) (st.Cases e eo) (st.Cases t to) (st.Cases u uo)
     cases_fit = record { slots = slots_are; exprs = exprs_are; goes = branch_go (Some case_not_found) }

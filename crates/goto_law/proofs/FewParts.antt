@@ -1,8 +1,9 @@
 -- A statement has at most fifteen parts with a block for each of its nodes, and a function sixteen for each node and two more.
-use Rattle.std.proofs.Common.{ℕ, ◌+◌, ◌*◌, ◌≤◌, Bool, true, false, List, [], ◌∷◌, length, Option, Some, None, arith}
+use Rattle.std.proofs.Common.{ℕ, ◌+◌, ◌*◌, ◌≤◌, Bool, true, false, List, [], ◌∷◌, ◌++◌, length, Option, Some, None, arith}
 use Rattle.std.specs.Prelude.{slice_get, sum}
 use Rattle.away_values.specs.declared.types.Ty.{Ty}
 use Rattle.away_trees.specs.declared.queries.Expr.{Expr}
+use Rattle.away_trees.specs.declared.queries.Select.{Select}
 use Rattle.away_trees.specs.declared.statements.Decl.{Decl}
 use Rattle.away_trees.specs.declared.statements.Function.{Function}
 use Rattle.away_trees.specs.declared.statements.LoopKind.{LoopKind}
@@ -13,6 +14,7 @@ use Rattle.away_trees.specs.Count.{counting, nodes, nodes_of, weight}
 use Rattle.away_trees.specs.StatementAlgebra.{stmt_of, stmts_of, branches_of}
 use Rattle.away_types.specs.declared.slots.Slot.{Slot}
 use Rattle.plsql_meaning.specs.Outcomes.{case_not_found}
+use Rattle.select_into.specs.Entries.{Target, checks}
 use Rattle.block_forms.specs.declared.forms.Goto.{Goto}
 use Rattle.block_forms.specs.declared.forms.Term.{Term}
 use Rattle.block_forms.specs.declared.places.Numbers.{Numbers}
@@ -20,7 +22,7 @@ use Rattle.block_forms.specs.declared.places.Position.{Position}
 use Rattle.block_forms.specs.Around.{Around, exit_to, again_to}
 use Rattle.block_forms.specs.Laid.{Setting, laying, laid, after, a_node, with_expr, decl_size, kind_size, row_size, arms_size, first_block, row_parts, decl_parts, decls_parts, default_term, arms_parts, lack, else_parts, kind_parts, again_of, inside_of}
 use Rattle.block_forms.specs.Lowered.{Lowered, setting, all_parts, param_parts, params_parts, body_place}
-use Rattle.block_forms.specs.Patterns.{node, no_of, set_parts, slot_parts, leave_parts, exit_parts, source_term}
+use Rattle.block_forms.specs.Patterns.{node, no_of, copy, set_parts, slot_parts, leave_parts, exit_parts, source_term, onward, check_parts, pick_parts, put_part, after_put, put_parts, puts_of, into_parts}
 use Rattle.goto_law.proofs.Filled.{filled, filled_append, as_many}
 use Rattle.block_forms.proofs.Exits.{exit_either}
 use Rattle.goto_law.proofs.Sums.{sum_cons}
@@ -40,6 +42,38 @@ module _ (g : Goto) (n : Numbers) where
 
   few_exit : (when : Option Expr) (k b to next : ℕ) → filled (exit_parts g n when k b to next) ≤ 1
   few_exit when k b to next = exit_either g n when k b to next (λ ps. filled ps ≤ 1) (omega arith) (few_leave when k b to next)
+
+  -- ---- SELECT INTO: four blocks for its tests, one for each pick, and three at most to set a target
+
+  few_checks : (strict : Bool) (b k : ℕ) (q : Select) (first : ℕ) → filled (check_parts g n strict b k q first) ≤ 4
+  few_checks false b k q first = omega arith
+  few_checks true b k q first = omega arith
+
+  few_picks : (ts : List Target) (i k hidden : ℕ) (q : Select) (puts : ℕ) → filled (pick_parts g n ts i k hidden q puts) ≤ length ts
+  few_picks [] i k hidden q puts = omega arith
+  few_picks (t ∷ ts) i k hidden q puts = omega (arith, few_picks ts (i + 1) (k + 1) (hidden + 1) q puts)
+
+  few_put : (slots : List Slot) (o : Option ℕ) (b hidden next : ℕ) → filled (put_part g n slots o b hidden next) ≤ 3
+  few_put slots None b hidden next = omega arith
+  few_put slots (Some slot) b hidden next = few_slot (slice_get slots slot) b slot (copy n.fixed hidden) next
+
+  few_puts : (slots : List Slot) (ts : List Target) (b hidden next : ℕ) → filled (put_parts g n slots ts b hidden next) ≤ 3 * length ts
+  few_puts slots [] b hidden next = omega arith
+  few_puts slots (t ∷ ts) b hidden next =
+      let after_it = after_put g n slots t.1 b in
+      let to = onward ts after_it next in
+      omega (arith, filled_append (put_part g n slots t.1 b hidden to) (put_parts g n slots ts after_it (hidden + 1) next), few_put slots t.1 b hidden to, few_puts slots ts after_it (hidden + 1) next)
+
+  few_into : (slots : List Slot) (strict : Bool) (ts : List Target) (q : Select) (p : Position) (next : ℕ)
+      → filled (into_parts g n slots strict ts q p next) ≤ 15 * (1 + length ts)
+  few_into slots strict ts q p next =
+      let first = onward ts (node g (p.node + 1)) next in
+      let hidden = n.targets + p.targets in
+      let put = puts_of g n ts p.node in
+      let tests = check_parts g n strict (node g p.node) p.expr q first in
+      let picks = pick_parts g n ts (p.node + 1) (p.expr + checks strict) hidden q put in
+      let puts = put_parts g n slots ts put hidden next in
+      omega (arith, filled_append tests (picks ++ puts), filled_append picks puts, few_checks strict (node g p.node) p.expr q first, few_picks ts (p.node + 1) (p.expr + checks strict) hidden q put, few_puts slots ts put hidden next)
 
 module _ (s : Setting) where
   few_decls : (ds : List Decl) (p : Position) (next : ℕ) → filled (decls_parts s ds p next) ≤ 3 * length ds
@@ -96,7 +130,7 @@ module _ (s : Setting) where
     few (b.Continue label when) p around next = omega (arith, few_leave s.goto s.numbers when p.expr (node s.goto p.node) (again_to s.goto.finish around label) next)
     few (b.Return e) p around next = omega arith
     few (b.Raise r) p around next = omega arith
-    few (b.Into strict targets query) p around next = omega arith
+    few (b.Into strict targets query) p around next = few_into s.goto s.numbers s.slots strict targets query p next
     few b.Nothing p around next = omega arith
 
     few_row : {m : _} → (r : b.Row_of-Stmt m) → (p : Position) (around : Around) (next : ℕ) → filled (row_parts s (stmts_of laying r) p around next) ≤ 15 * sum (stmts_of counting r)

@@ -16,9 +16,9 @@ use Rattle.block_forms.specs.OwnSlots.{OwnSlots}
 use Rattle.block_forms.proofs.SlotCounts.{own_slots_counted}
 use Rattle.goto_law.proofs.Sums.{sum_cons}
 
--- variables, and three hidden slots for each FOR
+-- variables, three hidden slots for each FOR, and one for each target of an INTO
 abbrev slots_in : Position → ℕ
-slots_in p = p.slot + 3 * p.fors
+slots_in p = p.slot + 3 * p.fors + p.targets
 
 few_decls : (ds : List Decl) → slots_in (decls_size ds) ≤ 4 * length ds
 few_decls [] = omega arith

@@ -1,5 +1,5 @@
 -- The parameters of a checked function have its first slots.
-use Rattle.std.proofs.Common.{◌≡◌, ap, ◌≤◌, List, [], length, arith, length-append}
+use Rattle.std.proofs.Common.{◌≡◌, ap, ◌≤◌, List, [], ◌++◌, length, arith, length-append}
 use Rattle.away_trees.specs.declared.schemas.Schema.{Schema}
 use Rattle.away_trees.specs.declared.statements.Function.{Function}
 use Rattle.away_types.specs.declared.slots.Slot.{Slot}
@@ -25,7 +25,7 @@ of_written s f c =
     let good = stmt_good f.body (entry s f.params) (start f.params).slots body.0 in
     let first = length (start f.params).slots.shown in
     let taken = (statement_safe (no_form f) (body_of s f).it).slots first (seen.slots_of (start f.params).variables) in
-    omega (arith, good.next, taken, (started f.params).shown, length-append (body_of s f).slots.shown (body_of s f).slots.hidden)
+    omega (arith, good.next, taken, (started f.params).shown, length-append (body_of s f).slots.shown ((body_of s f).slots.hidden ++ (body_of s f).slots.picked))
 
 of_checked : (s : Schema) (written checked : Function) (slots : List Slot) → IsChecked s written checked slots
     → length checked.params ≤ length slots

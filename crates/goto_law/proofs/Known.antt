@@ -7,13 +7,18 @@ use Rattle.away_values.specs.declared.types.Ty.{Ty}
 use Rattle.away_values.specs.declared.values.Value.{Value}
 use Rattle.away_values.specs.declared.values.Value.TheVariants as val
 use Rattle.away_values.specs.Operators.{compare, is_null}
-use Rattle.away_values.specs.Results.{Or}
+use Rattle.away_values.specs.Results.{Or, mapped}
 use Rattle.away_trees.specs.declared.queries.Expr.{Expr}
+use Rattle.away_trees.specs.declared.queries.Select.{Select}
 use Rattle.away_types.specs.declared.slots.Slot.{Slot}
+use Rattle.sql_meaning.specs.Context.{Rows}
 use Rattle.plsql_meaning.specs.Loops.{reaches, leaves, counted}
 use Rattle.plsql_meaning.specs.Outcomes.{Env, Done}
+use Rattle.plsql_meaning.specs.Sight.{query_of}
 use Rattle.plsql_meaning.specs.Statements as statements
 use Rattle.plsql_meaning.specs.Statements.{is_not_null}
+use Rattle.select_into.specs.Laws.{is_empty, has_two, first_row}
+use Rattle.select_into.specs.Wrapped.{no_row, more_rows, pick, picked}
 use Rattle.block_forms.specs.declared.forms.Term.{Term}
 use Rattle.block_forms.specs.Around.{Around}
 use Rattle.block_forms.specs.Expressions.{Sources}
@@ -25,12 +30,14 @@ use Rattle.block_forms.specs.Runs.{Frame}
 use Rattle.block_forms.specs.OwnSlots.{ReadsBelow}
 use Rattle.goto_law.proofs.Stretches.{value_in, Goes}
 
--- the frame and the form with the function's slots; what statements stand in; the table of expressions; and how many hidden slots there are
+-- the frame and the form with the function's slots; what statements stand in; the table of expressions; the types of the slots that the text names; and
+-- how many hidden slots there are
 pub record Sides : Type 0 where
   pub frame : Frame
   pub form : Setting
   pub set : statements.Setting
   pub table : Sources
+  pub types : List Ty
   pub hidden : ℕ
 
 -- how many slots the function's text names
@@ -69,9 +76,17 @@ module _ (s : Sides) where
   abbrev Fixed : (ℕ → Term) → (Env → Or Value) → Type 0
   Fixed t v = (env : Env) → value_of s (t s.form.numbers.fixed) env ≡ v env
 
+  -- an entry over the select of an INTO is what it asks of the select's rows
+  abbrev Asks : (Select → Expr) → (Rows → Value) → Type 0
+  Asks entry ask = (k : ℕ) (q : Select) → IsEntry s k (entry q) → ReadsBelow (width s) (query_of q) → (env hid : Env) → length env ≡ width s
+      → value_of s (form.select_term k q) (env ++ hid) ≡ mapped ask (s.set.rows q env)
+
   pub record Known : Type 0 where
     pub sources : (k : ℕ) (e : Expr) → IsEntry s k e → (env hid : Env) → length env ≡ width s
         → value_of s (form.source_term k e) (env ++ hid) ≡ s.set.value e env
+    pub row_tests : Asks no_row (λ rows. val.Bool (is_empty rows))
+    pub more_tests : Asks more_rows (λ rows. val.Bool (has_two rows))
+    pub picks : (types : List Ty) (place : ℕ) → Asks (λ q. pick (picked types q) place) (λ rows. at (first_row rows) place)
     pub nulls : (t : Ty) → Fixed (λ n. form.null_of n t) (λ env. Ok val.Null)
     pub null_tests : (t : Ty) (slot : ℕ) → Fixed (λ n. form.is_null n t slot) (λ env. Ok (val.Bool (is_null (at env slot))))
     pub positive_tests : (slot : ℕ) → Fixed (λ n. form.not_positive n slot) (λ env. Ok (compare cmp.Le (at env slot) (val.Int (pos 0))))

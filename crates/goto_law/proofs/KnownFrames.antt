@@ -1,16 +1,27 @@
 -- The frame of a function gives the terms of its goto form the values for which they stand.
-use Rattle.std.proofs.Common.{◌≡◌, refl, sym, ap, ◌∙◌, ℕ, zero, suc, ◌+◌, ◌*◌, false, List, [], ◌∷◌, ◌++◌, map, length, slice_get, get_or, arith}
+use Rattle.std.proofs.Common.{◌≡◌, refl, sym, ap, ◌∙◌, ℕ, zero, suc, ◌+◌, ◌*◌, false, nat_lt, List, [], ◌∷◌, ◌++◌, map, length, slice_get, get_or, arith}
+use Rattle.std.specs.List.{list_all}
+use Rattle.away_values.specs.declared.types.Ty.{Ty}
 use Rattle.away_values.specs.declared.values.Value.{Value}
 use Rattle.away_values.specs.declared.values.Value.TheVariants as val
+use Rattle.away_values.specs.Results.{mapped}
+use Rattle.away_trees.specs.declared.queries.Expr.{Expr}
+use Rattle.away_trees.specs.declared.queries.Select.{Select}
 use Rattle.away_trees.specs.declared.statements.Function.{Function}
 use Rattle.away_types.specs.declared.slots.Slot.{Slot}
 use Rattle.sql_meaning.specs.Context.{Rows}
+use Rattle.sql_meaning.specs.Meaning.{value}
+use Rattle.sql_meaning.specs.OneReturn.{body}
+use Rattle.sql_meaning.specs.Reads.{Reads, allows, slots_of}
 use Rattle.plsql_meaning.specs.Functions.{over}
 use Rattle.plsql_meaning.specs.Outcomes.{Env}
+use Rattle.plsql_meaning.specs.Sight.{query_of}
+use Rattle.select_into.specs.Laws.{IsSource, first_row}
+use Rattle.select_into.specs.Wrapped.{no_row, more_rows, pick, picked, select_slots}
 use Rattle.block_forms.specs.declared.fixed_list.Fixed.{Fixed}
 use Rattle.block_forms.specs.declared.fixed_list.Fixed.TheVariants as fix
 use Rattle.block_forms.specs.declared.forms.Goto.{Goto}
-use Rattle.block_forms.specs.Expressions.{Sources, sources, expressions, entry_value}
+use Rattle.block_forms.specs.Expressions.{Sources, source_expressions, expressions, entry_value}
 use Rattle.block_forms.specs.FixedList.{fixed_list, position, in_range_entry, past_end_entry, next_entry}
 use Rattle.block_forms.specs.Frames.{frame_of}
 use Rattle.block_forms.specs.Laid.{laid}
@@ -18,8 +29,10 @@ use Rattle.block_forms.specs.Lowered.{setting, numbers_of}
 use Rattle.block_forms.specs.Patterns as form
 use Rattle.block_forms.specs.Places.{Each}
 use Rattle.block_forms.specs.OwnSlots.{ReadsBelow}
+use Rattle.block_forms.specs.Slots.{shown_types}
 use Rattle.goto_law.proofs.FixedList as fixed
-use Rattle.goto_law.proofs.Known.{Sides, width, at, value_of, Entries, strict_at, Known}
+use Rattle.goto_law.proofs.Known.{Sides, width, at, value_of, IsEntry, Entries, strict_at, Known}
+use Rattle.goto_law.proofs.SelectEntries.{SelectLaws, query_reads}
 use Rattle.goto_law.proofs.SourceValues.{source_value}
 
 -- ---- the table
@@ -63,10 +76,11 @@ module _ (f : Function) (slots : List Slot) (g : Goto) (tables : List Rows) wher
     form = setting f slots g;
     set = over tables (map (λ (s : Slot). s.not_null) slots);
     table = expressions f;
-    hidden = 3 * (laid f.body).size.fors;
+    types = shown_types f;
+    hidden = 3 * (laid f.body).size.fors + (laid f.body).size.targets;
   }
 
-  module _ (fixed_is : (numbers_of f).fixed ≡ length (sources f.body)) where
+  module _ (laws : SelectLaws) (fixed_is : (numbers_of f).fixed ≡ length (source_expressions f)) where
     abbrev held : List ℕ → Env → List Value
     held names env = map (λ i. get_or env i val.Null) names
 
@@ -74,13 +88,45 @@ module _ (f : Function) (slots : List Slot) (g : Goto) (tables : List Rows) wher
         (held names env)
     entry e names env =
         ap (λ o. entry_value tables o (held names env))
-        (ap (λ n. slice_get (expressions f) (n + position e)) fixed_is ∙ behind (sources f.body) fixed_list (position e))
+        (ap (λ n. slice_get (expressions f) (n + position e)) fixed_is ∙ behind (source_expressions f) fixed_list (position e))
+
+    source : (k : ℕ) (e : Expr) → IsEntry sides k e → (env hid : Env) → length env ≡ width sides
+        → value_of sides (form.source_term k e) (env ++ hid) ≡ value e (body tables env)
+    source k e x env hid wide =
+        ap (λ o. entry_value tables o (held (form.source_term k e).names (env ++ hid))) x.there
+        ∙ source_value tables (numbers_of f).counters e x.reads env hid wide
+
+    -- what an entry over a select asks, where it reads the slots of the select
+    asked : (k : ℕ) (q : Select) (e : Expr) → slots_of e ≡ select_slots q → IsEntry sides k e → (env hid : Env) → length env ≡ width sides
+        → value_of sides (form.select_term k q) (env ++ hid) ≡ value e (body tables env)
+    asked k q e same x env hid wide = ap (λ names. value_of sides (form.term k names) (env ++ hid)) (sym same) ∙ source k e x env hid wide
+
+    own : (q : Select) (x : ReadsBelow (width sides) (query_of q)) → IsSource (λ i. nat_lt i (width sides)) x.tables q
+    own q x = record { alone = x.alone }
+
+    -- with types for literal NULLs it reads the same
+    own_picked : (types : List Ty) (q : Select) (x : ReadsBelow (width sides) (query_of q))
+        → IsSource (λ i. nat_lt i (width sides)) x.tables (picked types q)
+    own_picked types q x = record {
+      alone =
+          ap (list_all (allows (λ i. nat_lt i (width sides)) 0 x.tables))
+          (query_reads (picked types q) ∙ ap (λ (u : Reads). u 0) (laws.typed types q).1 ∙ sym (query_reads q))
+          ∙ x.alone;
+    }
 
     pub known : Known sides
     known = record {
-      sources = λ k e x env hid wide.
-          ap (λ o. entry_value tables o (held (form.source_term k e).names (env ++ hid))) x.there
-          ∙ source_value tables (numbers_of f).counters e x.reads env hid wide;
+      sources = source;
+      row_tests = λ k q e x env hid wide.
+          asked k q (no_row q) (laws.slots [] q).0.same e env hid wide
+          ∙ (laws.ask (λ i. nat_lt i (width sides)) x.tables q (own q x) tables env).none;
+      more_tests = λ k q e x env hid wide.
+          asked k q (more_rows q) (laws.slots [] q).1.same e env hid wide
+          ∙ (laws.ask (λ i. nat_lt i (width sides)) x.tables q (own q x) tables env).more;
+      picks = λ types place k q e x env hid wide.
+          asked k q (pick (picked types q) place) ((laws.slots types q).2 place).same e env hid wide
+          ∙ (laws.ask (λ i. nat_lt i (width sides)) x.tables (picked types q) (own_picked types q x) tables env).picks place
+          ∙ ap (mapped (λ rows. at (first_row rows) place)) ((laws.typed types q).0 (body tables env));
       nulls = λ t env. entry (fix.Null t) [] env ∙ fixed.null_of tables t;
       null_tests = λ t slot env. entry (fix.IsNull t) (slot ∷ []) env ∙ fixed.null_test tables t (at env slot);
       positive_tests = λ slot env. entry fix.NotPositive (slot ∷ []) env ∙ fixed.positive_test tables (at env slot);

@@ -1,5 +1,5 @@
 -- The blocks of each statement without parts fit what it does.
-use Rattle.std.proofs.Common.{◌≡◌, ℕ, ◌*◌, ◌<◌, Bool, false, List, [], ◌∷◌, ◌++◌, length, Option, Some, None, Ok, Err, refl, sym, subst, arith}
+use Rattle.std.proofs.Common.{◌≡◌, ℕ, ◌+◌, ◌-◌, ◌*◌, ◌<◌, Bool, false, List, [], ◌∷◌, ◌++◌, length, Option, Some, None, Ok, Err, refl, sym, subst, arith}
 use Rattle.away_values.specs.Results.{Or}
 use Rattle.away_values.specs.declared.values.Value.{Value}
 use Rattle.away_trees.specs.declared.queries.Expr.{Expr}
@@ -9,31 +9,37 @@ use Rattle.away_trees.specs.declared.statements.Stmt.TheOpen.{Stmt-F, Arm-F}
 use Rattle.away_trees.specs.declared.statements.Stmt.TheOpen as st
 use Rattle.sql_meaning.specs.OneReturn.{returned}
 use Rattle.plsql_meaning.specs.Outcomes.{Env, Label, Outcome, normal, exits, continues, returns, done}
-use Rattle.plsql_meaning.specs.Statements.{StatementMeaning, ArmMeaning, jump, give, statement}
+use Rattle.plsql_meaning.specs.Statements.{StatementMeaning, ArmMeaning, jump, give, into, statement}
+use Rattle.block_forms.specs.declared.places.Position.{Position}
 use Rattle.block_forms.specs.Around.{Around, exit_to, again_to}
 use Rattle.block_forms.specs.Expressions.{Sources, if_there, sourcing}
-use Rattle.block_forms.specs.Laid.{Laid, LaidArm, laying}
-use Rattle.block_forms.specs.Patterns.{node, leave_parts}
+use Rattle.select_into.specs.Entries.{Target, into_entries}
+use Rattle.block_forms.specs.Intos.{Into, selecting}
+use Rattle.block_forms.specs.Laid.{Laid, LaidArm, laying, into_size}
+use Rattle.block_forms.specs.Patterns.{node, leave_parts, into_parts}
 use Rattle.block_forms.specs.Patterns as form
-use Rattle.block_forms.specs.Targets.{Targets, targeting}
+use Rattle.block_forms.specs.Targets.{Targets, targeting, named_targets}
 use Rattle.block_forms.proofs.Exits.{exit_leaves}
 use Rattle.goto_law.proofs.Assignments.{slot_goes}
-use Rattle.goto_law.proofs.Fits.{Fits}
+use Rattle.goto_law.proofs.Fits.{Begun, Fits}
+use Rattle.goto_law.proofs.IntoRuns.{parts_from, into_goes}
 use Rattle.goto_law.proofs.Known.{Sides, width, GoesIn, AllStandIn, Entries, Known}
+use Rattle.goto_law.proofs.SelectEntries.{entries_long}
 use Rattle.goto_law.proofs.Steps.{at_once, at_next, at_fault, heavier, at_choice}
 use Rattle.goto_law.proofs.Stretches.{to, dest, Reaches, Ends, Leads, stays, jumps_on, fails_there, returns_there}
 
 module _ (s : Sides) where
   -- a statement by its layer fits, where its parts have these
-  abbrev pub LayerFits : Stmt-F Laid LaidArm → Stmt-F StatementMeaning ArmMeaning → Stmt-F Sources Sources → Stmt-F Targets Targets → Type 0
-  LayerFits x m e t = Fits s (laying.stmt x) (statement s.set m) (sourcing.stmt e) (targeting.stmt t)
+  abbrev pub LayerFits : Stmt-F Laid LaidArm → Stmt-F StatementMeaning ArmMeaning → Stmt-F Sources Sources → Stmt-F Targets Targets
+      → Stmt-F (List Into) (List Into) → Type 0
+  LayerFits x m e t u = Fits s (laying.stmt x) (statement s.set m) ((sourcing (into_entries s.types)).stmt e) (targeting.stmt t) (selecting.stmt u)
 
   -- a block that leads on, and nothing else
   passes : (around : Around) (next b : ℕ) (env hid : Env) (h n : ℕ) → AllStandIn s (form.own b (form.jumps false next) ∷ [])
       → GoesIn s around next b env hid h n 15 (done normal env n)
   passes around next b env hid h n stand = heavier (at_next refl (jumps_on false stand.0)) (omega arith)
 
-  pub nothing_fits : LayerFits st.Nothing st.Nothing st.Nothing st.Nothing
+  pub nothing_fits : LayerFits st.Nothing st.Nothing st.Nothing st.Nothing st.Nothing
   nothing_fits = record {
     slots = refl;
     exprs = refl;
@@ -41,7 +47,7 @@ module _ (s : Sides) where
   }
 
   pub assign_fits : (name : List ℕ) (target : Option ℕ) (e : Expr)
-      → LayerFits (st.Assign name target e) (st.Assign name target e) (st.Assign name target e) (st.Assign name target e)
+      → LayerFits (st.Assign name target e) (st.Assign name target e) (st.Assign name target e) (st.Assign name target e) (st.Assign name target e)
   assign_fits name None e = record {
     slots = refl;
     exprs = refl;
@@ -81,7 +87,7 @@ module _ (s : Sides) where
   one_if_there (Some e) = refl
 
   pub exit_fits : (label : Label) (when : Option Expr)
-      → LayerFits (st.Exit label when) (st.Exit label when) (st.Exit label when) (st.Exit label when)
+      → LayerFits (st.Exit label when) (st.Exit label when) (st.Exit label when) (st.Exit label when) (st.Exit label when)
   exit_fits label when = record {
     slots = refl;
     exprs = one_if_there when;
@@ -93,7 +99,7 @@ module _ (s : Sides) where
   }
 
   pub continue_fits : (label : Label) (when : Option Expr)
-      → LayerFits (st.Continue label when) (st.Continue label when) (st.Continue label when) (st.Continue label when)
+      → LayerFits (st.Continue label when) (st.Continue label when) (st.Continue label when) (st.Continue label when) (st.Continue label when)
   continue_fits label when = record {
     slots = refl;
     exprs = one_if_there when;
@@ -107,7 +113,7 @@ module _ (s : Sides) where
   gives around next b (Err c) env hid h n l = heavier (at_fault l) (omega arith)
   gives around next b (Ok v) env hid h n l = heavier {v = 1} (at_once (returns v) env refl l) (omega arith)
 
-  pub return_fits : (e : Expr) → LayerFits (st.Return e) (st.Return e) (st.Return e) (st.Return e)
+  pub return_fits : (e : Expr) → LayerFits (st.Return e) (st.Return e) (st.Return e) (st.Return e) (st.Return e)
   return_fits e = record {
     slots = refl;
     exprs = refl;
@@ -117,18 +123,30 @@ module _ (s : Sides) where
         gives around next (node s.form.goto p.node) (s.set.value e env) env hid (3 * p.fors) n returned;
   }
 
-  pub raise_fits : (r : Raised) → LayerFits (st.Raise r) (st.Raise r) (st.Raise r) (st.Raise r)
+  pub raise_fits : (r : Raised) → LayerFits (st.Raise r) (st.Raise r) (st.Raise r) (st.Raise r) (st.Raise r)
   raise_fits r = record {
     slots = refl;
     exprs = refl;
     goes = λ known p slot around next env hid n begun. heavier (at_fault (fails_there begun.stand.0)) (omega arith);
   }
 
-  -- no form has INTO
-  pub into_fits : (strict : Bool) (targets : List (List ℕ × Option ℕ)) (query : Select)
+  into_run : Known s → (strict : Bool) (ts : List Target) (q : Select) (p : Position) (slot : ℕ) (around : Around) (next : ℕ) (env hid : Env) (n : ℕ)
+      → Begun s p slot (into_size strict ts) (into_entries s.types strict ts q) (named_targets ts) (record { targets = ts; query = q } ∷ [])
+      (into_parts s.form.goto s.form.numbers s.form.slots strict ts q p next) env hid
+      → GoesIn s around next (node s.form.goto p.node) env hid (3 * p.fors) n (15 * (1 + length ts)) (into s.set strict ts (s.set.rows q env) env n)
+  into_run known strict ts q p slot around next env hid n begun =
+      let j = s.form.numbers.targets - width s + p.targets in
+      let is : s.form.numbers.targets + p.targets ≡ width s + j = omega (arith, begun.has.fors) in
+      let own = begun.has.intos.0 in
+      heavier (into_goes s known around next q own.reads ts own.some begun.has.sets env hid begun.wide p.node p.expr j (3 * p.fors) n
+      (omega (arith, begun.has.fors)) (omega (arith, begun.has.fors, begun.has.targets, begun.long)) strict begun.has.entries
+      (subst (λ hidden. AllStandIn s (parts_from s known around next ts q p.node p.expr strict hidden)) is begun.stand)) (omega arith)
+
+  pub into_fits : (strict : Bool) (targets : List Target) (query : Select)
       → LayerFits (st.Into strict targets query) (st.Into strict targets query) (st.Into strict targets query) (st.Into strict targets query)
+      (st.Into strict targets query)
   into_fits strict targets query = record {
     slots = refl;
-    exprs = refl;
-    goes = λ known p slot around next env hid n begun. absurd begun.stand.0;
+    exprs = sym (entries_long s.types strict targets query);
+    goes = λ known p slot around next env hid n begun. into_run known strict targets query p slot around next env hid n begun;
   }

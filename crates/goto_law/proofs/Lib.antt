@@ -10,6 +10,8 @@ pub mod Counting
 pub mod Entries
 pub mod ForLoops
 pub mod Fits
+pub mod SelectEntries
+pub mod IntoRuns
 pub mod LeafFits
 pub mod BlockFits
 pub mod LoopFits
@@ -24,6 +26,7 @@ pub mod Ways
 pub mod InSight
 pub mod Rows
 pub mod LiveLeaves
+pub mod LiveIntos
 pub mod LiveBlocks
 pub mod Loops
 pub mod LiveStatements
@@ -32,6 +35,7 @@ pub mod FirstSlots
 pub mod Leading
 pub mod LeadingStatements
 pub mod LeadingLoops
+pub mod LeadingIntos
 pub mod Targets
 pub mod WorkedEntries
 pub mod Sums

@@ -3,7 +3,6 @@ use Rattle.std.proofs.Common.{◌≡◌, ℕ, ◌+◌, Bool, true, false, List, 
 use Rattle.away_values.specs.declared.types.Ty.{Ty}
 use Rattle.away_values.specs.declared.types.Ty.TheVariants as ty
 use Rattle.away_trees.specs.declared.queries.Expr.{Expr}
-use Rattle.away_trees.specs.declared.queries.Select.{Select}
 use Rattle.away_trees.specs.declared.statements.Raised.{Raised}
 use Rattle.away_trees.specs.declared.statements.Stmt.TheOpen.{Stmt-F, Arm-F}
 use Rattle.away_trees.specs.declared.statements.Stmt.TheOpen as st
@@ -116,12 +115,4 @@ module _ (s : Setting) where
   raise_safe r = record {
     slots = λ next see. omega arith;
     goes = λ p around next see V stood k on. safe_fail s.goto.blocks k (node s.goto p.node) (class_of r) V stood.stand.0;
-  }
-
-  -- no form has INTO
-  pub into_safe : (strict : Bool) (targets : List (List ℕ × Option ℕ)) (query : Select)
-      → LayerSafe (st.Into strict targets query) (st.Into strict targets query)
-  into_safe strict targets query = record {
-    slots = λ next see. omega arith;
-    goes = λ p around next see V stood k on. absurd stood.stand.0;
   }

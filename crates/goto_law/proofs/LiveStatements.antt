@@ -5,7 +5,8 @@ use Rattle.away_trees.specs.StatementAlgebra.{stmt_of, stmts_of, branches_of, el
 use Rattle.function_facts.specs.Sight.{walking}
 use Rattle.block_forms.specs.Laid.{Setting, laying}
 use Rattle.goto_law.proofs.LiveBlocks.{block_safe, if_safe, cases_safe}
-use Rattle.goto_law.proofs.LiveLeaves.{nothing_safe, assign_safe, exit_safe, continue_safe, return_safe, raise_safe, into_safe}
+use Rattle.goto_law.proofs.LiveIntos.{into_safe}
+use Rattle.goto_law.proofs.LiveLeaves.{nothing_safe, assign_safe, exit_safe, continue_safe, return_safe, raise_safe}
 use Rattle.goto_law.proofs.Loops.{loop_safe}
 use Rattle.goto_law.proofs.Rows.{SafeStatement, SafeRow, SafeArms, SafeElse, no_row, more_row, no_arms, more_arms, no_else, some_else}
 

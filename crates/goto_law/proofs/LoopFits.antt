@@ -14,6 +14,7 @@ use Rattle.plsql_meaning.specs.Statements.{StatementMeaning, in_row, body_at, ki
 use Rattle.block_forms.specs.declared.places.Position.{Position}
 use Rattle.block_forms.specs.Around.{Around}
 use Rattle.block_forms.specs.Expressions.{Sources, if_there, in_turn, of_kind}
+use Rattle.block_forms.specs.Intos.{Into, row_intos}
 use Rattle.block_forms.specs.Laid.{Laid, after, one_if, kind_size, row_size, first_block, row_parts, again_of, kind_parts, loop_parts}
 use Rattle.block_forms.specs.Patterns.{Part, node}
 use Rattle.block_forms.specs.Patterns as form
@@ -69,14 +70,16 @@ module _ (s : Sides) where
         (λ z e i wide long a. begins e i wide) (λ z e i wide long a. (i, spares_all, tt, stays)) goes (suc n) tt env hid n
         (omega arith) wide long tt
 
-  module _ (own : Label) (x : List Laid) (m : List StatementMeaning) (e : List Sources) (t : List Targets) (f : RowFits s x m e t) where
+  module _ (own : Label) (x : List Laid) (m : List StatementMeaning) (e : List Sources) (t : List Targets) (u : List (List Into))
+      (f : RowFits s x m e t u) where
     abbrev LoopBegun : LoopKind → Position → ℕ → Around → ℕ → Env → Env → Type 0
     LoopBegun k p slot around next env hid =
-        Begun s p slot (after (kind_size k) (row_size x)) (of_kind k ++ in_turn e) (row_targets t) (loop_parts s.form own k x p around next) env hid
+        Begun s p slot (after (kind_size k) (row_size x)) (of_kind k ++ in_turn e) (row_targets t) (row_intos u)
+        (loop_parts s.form own k x p around next) env hid
 
     -- the body of a loop, from where it begins
     body_goes : Known s → (k : LoopKind) (p : Position) (slot : ℕ) (around : Around) (next back : ℕ)
-        → Has s p (after (kind_size k) (row_size x)) (of_kind k ++ in_turn e) (row_targets t)
+        → Has s p (after (kind_size k) (row_size x)) (of_kind k ++ in_turn e) (row_targets t) (row_intos u)
         → AllStandIn s (row_parts s.form x (after p (kind_size k)) (of_loop own next back around) back)
         → body_at k slot ≡ p.slot + (kind_size k).slot
         → (env hid : Env) (n : ℕ) → length env ≡ width s → length hid ≡ s.hidden
@@ -88,8 +91,10 @@ module _ (s : Sides) where
           has = record {
             slots = omega (arith, has.slots);
             fors = omega (arith, has.fors);
+            targets = omega (arith, has.targets);
             entries = entries_right s p.expr (p.expr + (kind_size k).expr) (of_kind k) (in_turn e) has.entries (omega (arith, kind_exprs k));
             sets = has.sets;
+            intos = has.intos;
           };
           stand = stand;
           wide = wide;
@@ -126,7 +131,7 @@ module _ (s : Sides) where
         subst (λ j. GoesIn s around next (node s.form.goto p.node) env hid (3 * p.fors) n (15 * (1 + (row_size x).node))
         (loop s.set k own j (in_row m (slot + 1)) env n)) (sym begun.placed)
         (heavier (for_goes s known name reverse first last by p body next around own n (15 * (row_size x).node) (in_row m (slot + 1))
-        (omega (arith, begun.has.slots)) (omega (arith, begun.has.fors)) (left s.form.goto.blocks front_parts back_parts begun.stand)
+        (omega (arith, begun.has.slots)) (omega (arith, begun.has.fors, begun.has.targets)) (left s.form.goto.blocks front_parts back_parts begun.stand)
         (λ e' i' k' wide long. lighter (body_goes known k p slot around next back begun.has
         (right s.form.goto.blocks front_parts back_parts begun.stand) (omega (arith, begun.placed)) e' i' k' wide long) (omega arith)
         (omega arith))
@@ -134,6 +139,7 @@ module _ (s : Sides) where
 
     pub loop_fits : (k : LoopKind) (closing : Label)
         → LayerFits s (st.Loop own k x closing) (st.Loop own k m closing) (st.Loop own k e closing) (st.Loop own k t closing)
+        (st.Loop own k u closing)
     loop_fits k closing = record {
       slots = omega (arith, kind_slots k, f.slots);
       exprs = omega (arith, kind_exprs k, f.exprs, length-append (of_kind k) (in_turn e));

@@ -15,7 +15,9 @@ use Rattle.away_trees.proofs.StatementEquations as eq
 use Rattle.away_names.specs.declared.note.Noted.{Noted}
 use Rattle.away_names.specs.declared.scope.Variable.{Variable}
 use Rattle.away_names.specs.Lookups.{Name, Scope, variable_named}
+use Rattle.away_names.specs.Notes.{pure, added}
 use Rattle.away_names.specs.Trees.{named_expr}
+use Rattle.select_into.specs.Entries.{Target}
 use Rattle.away_types.specs.declared.resolved.Declared.{Declared}
 use Rattle.away_types.specs.declared.resolved.Resolved.{Resolved}
 use Rattle.away_types.specs.declared.slots.Slot.{Slot}
@@ -39,6 +41,12 @@ declared_many : (scope : Scope) (ds : List Decl) (a : Declared) → length (fold
 declared_many scope [] a = omega arith
 declared_many scope (d ∷ ds) a =
     omega (arith, declared_many scope ds (with_declared scope a d), length-append a.it ((n.declared d (n.seeing a.variables scope)).it ∷ []))
+
+targets_many : (scope : Scope) (ts : List Target) (a : Noted (List Target))
+    → length (fold (λ a (t : Target). added a (n.target scope t.0)) a ts).it ≡ length a.it + length ts
+targets_many scope [] a = omega arith
+targets_many scope (t ∷ ts) a =
+    omega (arith, targets_many scope ts (added a (n.target scope t.0)), length-append a.it ((n.target scope t.0).it ∷ []))
 
 assigned_one : (name : Name) (v : Option Variable) (e : Noted Expr) → of_stmt (assigned name v e).it ≡ 1
 unfolding assigned
@@ -76,7 +84,7 @@ mutual
   kept (b.Continue label when) spot slots = refl
   kept (b.Return e) spot slots = refl
   kept (b.Raise r) spot slots = refl
-  kept (b.Into strict targets query) spot slots = refl
+  kept (b.Into strict targets query) spot slots = omega (arith, targets_many spot.scope targets (pure []))
   kept b.Nothing spot slots = refl
 
   row_kept : {m : _} → (r : b.Row_of-Stmt m) → (spot : Spot) (a : Resolved (List Stmt)) → sum (map of_stmt (fold (λ a f. with_resolved a (f spot a.slots)) a (stmts_of resolving r)).it) ≡ sum (map of_stmt a.it) + sum (stmts_of counting r)

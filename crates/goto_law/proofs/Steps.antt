@@ -62,11 +62,11 @@ module _ {frame : Frame} {g : Goto} {around : Around} {next b : ℕ} {env hid : 
   pub heavier : {v w : ℕ} {d : Done} → Goes frame g around next b env hid h n v d → v ≤ w → Goes frame g around next b env hid h n w d
   heavier q le = lighter q (omega arith) le
 
-  -- one step after another
-  pub in_order : {mid h1 h2 v w x : ℕ} {d : Done} (s : Step) → Goes frame g around mid b env hid h1 n v d → h ≤ h1 → h ≤ h2
-      → ((e i : Env) (m : ℕ) → length e ≡ length env → length i ≡ length hid → Goes frame g around next mid e i h2 m w (s e m))
+  -- one step after another, where the second one may read hidden variables that the first one spares
+  pub in_order_sparing : {mid h1 h2 v w x : ℕ} {d : Done} (s : Step) → Goes frame g around mid b env hid h1 n v d → h ≤ h1 → h ≤ h2
+      → ((e i : Env) (m : ℕ) → Spares h1 env hid e i → Goes frame g around next mid e i h2 m w (s e m))
       → v + w ≤ x → Goes frame g around next b env hid h n x (and_then d s)
-  in_order {mid} {v = v} {w = w} {x = x} {d = d} s p hl hl2 rest le = go d.outcome p.leads
+  in_order_sparing {mid} {v = v} {w = w} {x = x} {d = d} s p hl hl2 rest le = go d.outcome p.leads
     where
       L : ℕ → Outcome → Type 0
       L target o = Leads frame g (dest g.finish around target o) (d.env ++ p.hidden) b (env ++ hid) (v * suc p.used) p.used d.left
@@ -84,7 +84,7 @@ module _ {frame : Frame} {g : Goto} {around : Around} {next b : ℕ} {env hid : 
 
       go : (o : Outcome) → L mid o → Goes frame g around next b env hid h n x (after o d.env d.left s)
       go normal l =
-          let q = rest d.env p.hidden d.left p.spares.keeps p.spares.many in
+          let q = rest d.env p.hidden d.left p.spares in
           let t = s d.env d.left in
           record {
             used = p.used + q.used;
@@ -100,6 +100,12 @@ module _ {frame : Frame} {g : Goto} {around : Around} {next b : ℕ} {env hid : 
       go (returns v) a = same (returns v) a
       go (faults c) a = same (faults c) a
       go more a = same more a
+
+  -- the same by the lengths alone
+  pub in_order : {mid h1 h2 v w x : ℕ} {d : Done} (s : Step) → Goes frame g around mid b env hid h1 n v d → h ≤ h1 → h ≤ h2
+      → ((e i : Env) (m : ℕ) → length e ≡ length env → length i ≡ length hid → Goes frame g around next mid e i h2 m w (s e m))
+      → v + w ≤ x → Goes frame g around next b env hid h n x (and_then d s)
+  in_order s p hl hl2 rest le = in_order_sparing s p hl hl2 (λ e i m spares. rest e i m spares.keeps spares.many) le
 
   -- a condition
   pub at_choice : {y m v w x : ℕ} (t : Term) (r : Or Value) (chosen other : Step) → value_in frame g t (env ++ hid) ≡ r

@@ -15,6 +15,7 @@ use Rattle.block_forms.specs.Patterns.{Part, jumps, fails, node, source_term}
 use Rattle.block_forms.specs.Places.{Each}
 use Rattle.block_forms.specs.Leading.{LeadsWithin}
 use Rattle.goto_law.proofs.Leading.{in_list, AllLead, lead_both, leads_at}
+use Rattle.goto_law.proofs.LeadingIntos.{into_leads}
 use Rattle.goto_law.proofs.LeadingLoops.{loop_leads}
 use Rattle.goto_law.proofs.LeadingStatements.{Stand, Within, IsLed, both, StatementLeads, RowLeads, ArmsLead, ElseLeads, slot_leads, leave_leads, exit_leads, no_row, more_row, no_arms, more_arms, no_else, some_else, branch_leads, block_leads}
 use Rattle.goto_law.proofs.Parts.{left, right}
@@ -53,7 +54,9 @@ module _ (s : Setting) where
     statement_leads (b.Raise raised) = record {
       goes = λ p around next stand on. record { begins = in_list s.goto.blocks (node s.goto p.node) _ stand.0; parts = (tt, tt) };
     }
-    statement_leads (b.Into strict targets query) = record { goes = λ p around next stand on. absurd stand.0 }
+    statement_leads (b.Into strict targets query) = record {
+      goes = λ p around next stand on. into_leads s strict targets query p next stand on.follows;
+    }
     statement_leads b.Nothing = record {
       goes = λ p around next stand on. record { begins = in_list s.goto.blocks (node s.goto p.node) _ stand.0; parts = (on.follows, tt) };
     }

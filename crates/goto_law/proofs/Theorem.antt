@@ -15,9 +15,12 @@ use Rattle.sql_meaning.specs.Context.{Rows}
 use Rattle.plsql_meaning.specs.Functions.{answer_of, begun}
 use Rattle.plsql_meaning.specs.Outcomes.{Env, Outcome, normal, exits, continues, returns, faults, more, Done, no_return}
 use Rattle.plsql_meaning.specs.Statements.{running, meaning}
+use Rattle.select_into.specs.Entries.{into_entries}
+use Rattle.type_soundness.specs.Sorts.{Every}
 use Rattle.block_forms.specs.declared.forms.Goto.{Goto}
-use Rattle.block_forms.specs.Expressions.{sources, sourcing}
+use Rattle.block_forms.specs.Expressions.{sources, source_expressions, sourcing}
 use Rattle.block_forms.specs.FixedList.{fixed_list}
+use Rattle.block_forms.specs.Intos.{selecting, intos}
 use Rattle.block_forms.specs.Laid.{laid, laying}
 use Rattle.block_forms.specs.Lowered.{Lowered, numbers_of, params_parts, body_place}
 use Rattle.block_forms.specs.MachineLaws.{stays_from, few_from, heads_from}
@@ -26,7 +29,8 @@ use Rattle.block_forms.specs.Patterns.{Part, node}
 use Rattle.block_forms.specs.Places.{Each}
 use Rattle.block_forms.specs.Runs.{first_slots, goto_machine}
 use Rattle.goto_law.specs.Law.{Meets, KeepsAnswers, OnlyItsAnswers, Waits, function_at, form_at}
-use Rattle.block_forms.specs.OwnSlots.{OwnSlots}
+use Rattle.block_forms.specs.OwnSlots.{IsInto, OwnSlots}
+use Rattle.block_forms.specs.Slots.{shown_types}
 use Rattle.block_forms.proofs.SlotCounts.{own_slots_counted}
 use Rattle.block_forms.specs.Targets.{Targets, targets, targeting}
 use Rattle.goto_law.proofs.Fits.{AllBelow, Fits, Has}
@@ -35,6 +39,7 @@ use Rattle.goto_law.proofs.KnownFrames.{source_entries, sides, known}
 use Rattle.goto_law.proofs.NodeCounts.{statement_nodes}
 use Rattle.goto_law.proofs.Parameters.{Enters, entered}
 use Rattle.goto_law.proofs.Parts.{left, right}
+use Rattle.goto_law.proofs.SelectEntries.{SelectLaws}
 use Rattle.goto_law.proofs.Simulation.{statement_fits}
 use Rattle.goto_law.proofs.Stretches.{run, dest, Reaches, Ends, Leads, then_ends, then_leads, fails_there}
 
@@ -53,7 +58,11 @@ all_below : (slots : ℕ) (ts : Targets) → Each (λ slot. slot < slots) ts →
 all_below slots [] h = tt
 all_below slots (t ∷ ts) h = (h 0 t refl, all_below slots ts (λ i x is. h (suc i) x is))
 
-module _ (f : Function) (slots : List Slot) (g : Goto) (low : Lowered f slots g) (own : OwnSlots f slots) (tables : List Rows) (args : List Value)
+every_one : {X : Type 0} (P : X → Type 0) (xs : List X) → Each P xs → Every P xs
+every_one P [] h = tt
+every_one P (x ∷ xs) h = (h 0 x refl, every_one P xs (λ i y is. h (suc i) y is))
+
+module _ (laws : SelectLaws) (f : Function) (slots : List Slot) (g : Goto) (low : Lowered f slots g) (own : OwnSlots f slots) (tables : List Rows) (args : List Value)
     (typed : length args ≡ length f.params) where
   abbrev s : Sides
   s = sides f slots g tables
@@ -61,15 +70,16 @@ module _ (f : Function) (slots : List Slot) (g : Goto) (low : Lowered f slots g)
   abbrev params : ℕ
   params = length f.params
 
-  fits : Fits s (stmt_of laying f.body) (stmt_of (running s.set) f.body) (stmt_of sourcing f.body) (stmt_of targeting f.body)
+  fits : Fits s (stmt_of laying f.body) (stmt_of (running s.set) f.body) (stmt_of (sourcing (into_entries (shown_types f))) f.body)
+      (stmt_of targeting f.body) (stmt_of selecting f.body)
   fits = statement_fits s f.body
 
-  fixed_is : (numbers_of f).fixed ≡ length (sources f.body)
+  fixed_is : (numbers_of f).fixed ≡ length (source_expressions f)
   unfolding laid sources
   fixed_is = fits.exprs
 
   knows : Known s
-  knows = known f slots g tables fixed_is
+  knows = known f slots g tables laws fixed_is
 
   -- ---- where the run begins
 
@@ -116,13 +126,16 @@ module _ (f : Function) (slots : List Slot) (g : Goto) (low : Lowered f slots g)
 
   -- ---- the body
 
-  body_has : Has s (body_place f) (stmt_of laying f.body).size (stmt_of sourcing f.body) (stmt_of targeting f.body)
-  unfolding laid sources targets
+  body_has : Has s (body_place f) (stmt_of laying f.body).size (stmt_of (sourcing (into_entries (shown_types f))) f.body)
+      (stmt_of targeting f.body) (stmt_of selecting f.body)
+  unfolding laid sources targets intos
   body_has = record {
     slots = omega arith;
     fors = omega arith;
-    entries = source_entries s (sources f.body) fixed_list refl own.reads;
+    targets = omega arith;
+    entries = source_entries s (source_expressions f) fixed_list refl own.reads;
     sets = all_below (width s) (stmt_of targeting f.body) own.sets;
+    intos = every_one (IsInto (width s)) (stmt_of selecting f.body) own.intos;
   }
 
   abbrev ended : ℕ → Done
@@ -226,17 +239,18 @@ module _ (f : Function) (slots : List Slot) (g : Goto) (low : Lowered f slots g)
 
 -- ---- the law
 
-pub keeps_answers : KeepsAnswers
-keeps_answers f slots g low own tables args typed n =
-    subst (λ w. Meets (function_at f slots g tables args n) (form_at f slots g tables args (suc n * w)) n)
-    (sym (weight_is f slots g low own tables args typed)) (meets f slots g low own tables args typed n)
+module _ (laws : SelectLaws) where
+  pub keeps_answers : KeepsAnswers
+  keeps_answers f slots g low own tables args typed n =
+      subst (λ w. Meets (function_at f slots g tables args n) (form_at f slots g tables args (suc n * w)) n)
+      (sym (weight_is laws f slots g low own tables args typed)) (meets laws f slots g low own tables args typed n)
 
-pub only_its_answers : OnlyItsAnswers
-only_its_answers f slots g low own tables args typed k over =
-    only f slots g low own tables args typed k (function_at f slots g tables args k) (meets f slots g low own tables args typed k) over
+  pub only_its_answers : OnlyItsAnswers
+  only_its_answers f slots g low own tables args typed k over =
+      only laws f slots g low own tables args typed k (function_at f slots g tables args k) (meets laws f slots g low own tables args typed k) over
 
-pub waits_for_turns : Waits
-waits_for_turns f slots g low own tables args typed n e =
-    let run_at = form_at f slots g tables args (visits f slots g low own tables args typed n) in
-    let more = subst (λ a. Meets a run_at n) e (meets f slots g low own tables args typed n) in
-    waits f slots g low own tables args typed n more (form_at f slots g tables args n).answer refl
+  pub waits_for_turns : Waits
+  waits_for_turns f slots g low own tables args typed n e =
+      let run_at = form_at f slots g tables args (visits laws f slots g low own tables args typed n) in
+      let more = subst (λ a. Meets a run_at n) e (meets laws f slots g low own tables args typed n) in
+      waits laws f slots g low own tables args typed n more (form_at f slots g tables args n).answer refl

@@ -6,6 +6,7 @@ ghost use Rattle.goto_law.specs.Law.{KeepsAnswers, OnlyItsAnswers, Waits, Keeps}
 
 use away_types::CheckedFunction;
 use function_facts::checked_functions_own_their_slots;
+use select_into::{entries_ask_the_select, entries_read_as_the_select};
 
 /// The goto form of a function has the function's answer within the function's weight for each turn and one more. Where the function needs more
 /// turns, that run has more heads than there are turns, and a run of as many visits as turns has no answer. What a run of the form answers, the
@@ -14,7 +15,10 @@ pub fn lowering_keeps_answers()
     ensures answers { KeepsAnswers }
     ensures only { OnlyItsAnswers }
     ensures waits { Waits }
-{}
+{
+    entries_ask_the_select();
+    entries_read_as_the_select();
+}
 
 /// The same of each goto form of a checked function, of whose slots nothing is supposed.
 pub fn forms_of_checked_functions_keep_answers(f: &CheckedFunction)
@@ -22,4 +26,6 @@ pub fn forms_of_checked_functions_keep_answers(f: &CheckedFunction)
         → Keeps f.now.function f.now.slots g }
 {
     checked_functions_own_their_slots(f);
+    entries_ask_the_select();
+    entries_read_as_the_select();
 }

@@ -1,5 +1,5 @@
 -- What is built for a statement, by its parts.
-use Rattle.std.proofs.Common.{◌≡◌, ℕ, ◌+◌, Bool, List, [], ◌∷◌, map, Option, Some, None, refl, ap, ◌∙◌, true, false, arith}
+use Rattle.std.proofs.Common.{◌≡◌, ℕ, ◌+◌, Bool, List, map, Option, Some, None, refl, ap, ◌∙◌, false, arith}
 use Rattle.std.specs.Prelude.{slice_get}
 use Rattle.away_trees.specs.declared.queries.Expr.{Expr}
 use Rattle.away_trees.specs.declared.queries.Select.{Select}
@@ -18,7 +18,8 @@ use Rattle.block_forms.specs.declared.places.Numbers.{Numbers}
 use Rattle.block_forms.specs.Around.{exit_to, again_to}
 use Rattle.block_forms.specs.Laid.{place, a_node, with_expr, one_if}
 use Rattle.block_forms.specs.Patterns.{source_term, jumps, returns, fails}
-use Rattle.goto_lower.specs.Building.{Built, BuiltArm, building, built_of, built_arm, simple, assigned, grouped, branched, loop_built, leave_block, unbuilt, row_many, arms_many, decls_many, slot_many, step_many}
+use Rattle.goto_lower.specs.IntoBlocks.{into_many}
+use Rattle.goto_lower.specs.Building.{Built, BuiltArm, building, built_of, built_arm, simple, assigned, grouped, branched, loop_built, leave_block, into_built, row_many, arms_many, decls_many, slot_many, step_many}
 
 -- the parts of a statement, over one setting
 abbrev pub rows : Numbers → List Slot → ℕ → List Stmt → List Built
@@ -67,12 +68,12 @@ unfolding built_of
 built_assign n slots k name slot e = refl
 
 pub built_exit : (n : Numbers) (slots : List Slot) (k : ℕ) (label : Label) (when : Option Expr) →
-    built_of n slots k (stmt.Exit label when) ≡ simple (place 1 (one_if when) 0 0) (λ p around next. leave_block when p.expr (exit_to k around label) next)
+    built_of n slots k (stmt.Exit label when) ≡ simple (place 1 (one_if when) 0 0 0) (λ p around next. leave_block when p.expr (exit_to k around label) next)
 unfolding built_of
 built_exit n slots k label when = refl
 
 pub built_continue : (n : Numbers) (slots : List Slot) (k : ℕ) (label : Label) (when : Option Expr) →
-    built_of n slots k (stmt.Continue label when) ≡ simple (place 1 (one_if when) 0 0) (λ p around next. leave_block when p.expr (again_to k around label) next)
+    built_of n slots k (stmt.Continue label when) ≡ simple (place 1 (one_if when) 0 0 0) (λ p around next. leave_block when p.expr (again_to k around label) next)
 unfolding built_of
 built_continue n slots k label when = refl
 
@@ -85,7 +86,7 @@ pub built_raise : (n : Numbers) (slots : List Slot) (k : ℕ) (r : Raised) → b
 unfolding built_of
 built_raise n slots k r = refl
 
-pub built_into : (n : Numbers) (slots : List Slot) (k : ℕ) (strict : Bool) (targets : List (List ℕ × Option ℕ)) (query : Select) → built_of n slots k (stmt.Into strict targets query) ≡ unbuilt
+pub built_into : (n : Numbers) (slots : List Slot) (k : ℕ) (strict : Bool) (targets : List (List ℕ × Option ℕ)) (query : Select) → built_of n slots k (stmt.Into strict targets query) ≡ into_built n slots strict targets query
 unfolding built_of
 built_into n slots k strict targets query = refl
 
@@ -179,7 +180,7 @@ many_return n slots k e = ap many (built_return n slots k e)
 pub many_raise : (n : Numbers) (slots : List Slot) (k : ℕ) (r : Raised) → (built_of n slots k (stmt.Raise r)).many ≡ 1
 many_raise n slots k r = ap many (built_raise n slots k r)
 
-pub many_into : (n : Numbers) (slots : List Slot) (k : ℕ) (strict : Bool) (targets : List (List ℕ × Option ℕ)) (query : Select) → (built_of n slots k (stmt.Into strict targets query)).many ≡ 0
+pub many_into : (n : Numbers) (slots : List Slot) (k : ℕ) (strict : Bool) (targets : List (List ℕ × Option ℕ)) (query : Select) → (built_of n slots k (stmt.Into strict targets query)).many ≡ into_many slots strict targets
 many_into n slots k strict targets query = ap many (built_into n slots k strict targets query)
 
 pub many_nothing : (n : Numbers) (slots : List Slot) (k : ℕ) → (built_of n slots k stmt.Nothing).many ≡ 1

@@ -1,5 +1,5 @@
 -- What is pushed for each statement, in the words of what the walk pushes.
-use Rattle.std.proofs.Common.{◌≡◌, ℕ, ◌+◌, Bool, true, false, List, [], ◌∷◌, length, Option, Some, None, refl, sym, ap, ◌∙◌}
+use Rattle.std.proofs.Common.{◌≡◌, ℕ, ◌+◌, Bool, true, false, List, ◌∷◌, length, Option, Some, None, refl, sym, ap, ◌∙◌}
 use Rattle.std.specs.Prelude.{slice_get}
 use Rattle.away_trees.specs.declared.queries.Expr.{Expr}
 use Rattle.away_trees.specs.declared.queries.Select.{Select}
@@ -14,17 +14,16 @@ use Rattle.away_types.specs.declared.slots.Slot.{Slot}
 use Rattle.plsql_meaning.specs.Outcomes.{Label, case_not_found}
 use Rattle.plsql_meaning.specs.Statements.{class_of}
 use Rattle.block_forms.specs.declared.places.Numbers.{Numbers}
-use Rattle.block_forms.specs.declared.places.Position.{Position}
 use Rattle.block_forms.specs.Around.{Around, exit_to, again_to}
 use Rattle.block_forms.specs.Laid.{place, a_node, with_expr, one_if}
 use Rattle.block_forms.specs.Patterns.{source_term, branches, jumps, returns, fails}
 use Rattle.goto_lower.specs.declared.draft.Draft.{Draft}
-use Rattle.goto_lower.specs.Building.{Built, BuiltArm, built_of, first_from, row_many, arms_many, leave_block, branched, loop_built, head_at, arms_first}
-use Rattle.goto_lower.specs.Drafts.{pushed, begun, emitted, emitted_row, emitted_arms, set_by, started, tested, inside, headed, count_begun}
+use Rattle.goto_lower.specs.Building.{built_of, first_from, row_many, arms_many, leave_block, branched, into_built, loop_built, head_at}
+use Rattle.goto_lower.specs.Drafts.{pushed, begun, emitted, emitted_row, set_by, started, tested, inside, headed, count_begun}
 use Rattle.goto_lower.proofs.BuildingEquations as eqs
 use Rattle.goto_lower.proofs.BuildingEquations.{rows, arms_of}
 use Rattle.goto_lower.proofs.Emitting.{if_without, cases_without, block_is, loop_is, count_is}
-use Rattle.goto_lower.proofs.Walk.{simple_is, set_is, unbuilt_is, all_counted, tested_from, else_from}
+use Rattle.goto_lower.proofs.Walk.{simple_is, set_is, all_counted, tested_from, else_from}
 
 module _ (n : Numbers) (slots : List Slot) (k : ℕ) (around : Around) (next : ℕ) (d : Draft) where
   abbrev Emits : Stmt → Draft
@@ -37,16 +36,16 @@ module _ (n : Numbers) (slots : List Slot) (k : ℕ) (around : Around) (next : �
   emits_assign name slot e = ap (λ x. emitted x around next d) (eqs.built_assign n slots k name slot e) ∙ sym (set_is n (slice_get slots slot) slot e around next d)
 
   pub emits_exit : (label : Label) (when : Option Expr) →
-      Emits (stmt.Exit label when) ≡ pushed (leave_block when d.place.expr (exit_to k around label) next) (begun (place 1 (one_if when) 0 0) (length d.blocks) d)
+      Emits (stmt.Exit label when) ≡ pushed (leave_block when d.place.expr (exit_to k around label) next) (begun (place 1 (one_if when) 0 0 0) (length d.blocks) d)
   emits_exit label when =
       ap (λ x. emitted x around next d) (eqs.built_exit n slots k label when)
-      ∙ sym (simple_is (place 1 (one_if when) 0 0) (λ p around next. leave_block when p.expr (exit_to k around label) next) around next d)
+      ∙ sym (simple_is (place 1 (one_if when) 0 0 0) (λ p around next. leave_block when p.expr (exit_to k around label) next) around next d)
 
   pub emits_continue : (label : Label) (when : Option Expr) →
-      Emits (stmt.Continue label when) ≡ pushed (leave_block when d.place.expr (again_to k around label) next) (begun (place 1 (one_if when) 0 0) (length d.blocks) d)
+      Emits (stmt.Continue label when) ≡ pushed (leave_block when d.place.expr (again_to k around label) next) (begun (place 1 (one_if when) 0 0 0) (length d.blocks) d)
   emits_continue label when =
       ap (λ x. emitted x around next d) (eqs.built_continue n slots k label when)
-      ∙ sym (simple_is (place 1 (one_if when) 0 0) (λ p around next. leave_block when p.expr (again_to k around label) next) around next d)
+      ∙ sym (simple_is (place 1 (one_if when) 0 0 0) (λ p around next. leave_block when p.expr (again_to k around label) next) around next d)
 
   pub emits_return : (e : Expr) → Emits (stmt.Return e) ≡ pushed (returns (source_term d.place.expr e)) (begun with_expr (length d.blocks) d)
   emits_return e = ap (λ x. emitted x around next d) (eqs.built_return n slots k e) ∙ sym (simple_is with_expr (λ p around next. returns (source_term p.expr e)) around next d)
@@ -54,8 +53,8 @@ module _ (n : Numbers) (slots : List Slot) (k : ℕ) (around : Around) (next : �
   pub emits_raise : (r : Raised) → Emits (stmt.Raise r) ≡ pushed (fails (class_of r)) (begun a_node (length d.blocks) d)
   emits_raise r = ap (λ x. emitted x around next d) (eqs.built_raise n slots k r) ∙ sym (simple_is a_node (λ p around next. fails (class_of r)) around next d)
 
-  pub emits_into : (strict : Bool) (targets : List (List ℕ × Option ℕ)) (query : Select) → Emits (stmt.Into strict targets query) ≡ d
-  emits_into strict targets query = ap (λ x. emitted x around next d) (eqs.built_into n slots k strict targets query) ∙ sym (unbuilt_is around next d)
+  pub emits_into : (strict : Bool) (targets : List (List ℕ × Option ℕ)) (query : Select) → Emits (stmt.Into strict targets query) ≡ emitted (into_built n slots strict targets query) around next d
+  emits_into strict targets query = ap (λ x. emitted x around next d) (eqs.built_into n slots k strict targets query)
 
   pub emits_nothing : Emits stmt.Nothing ≡ pushed (jumps false next) (begun a_node (length d.blocks) d)
   emits_nothing = ap (λ x. emitted x around next d) (eqs.built_nothing n slots k) ∙ sym (simple_is a_node (λ p around next. jumps false next) around next d)

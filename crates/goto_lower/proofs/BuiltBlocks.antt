@@ -1,22 +1,20 @@
 -- The blocks that are built for a block and its declarations stand as its pattern asks.
-use Rattle.std.proofs.Common.{◌≡◌, ℕ, zero, suc, ◌+◌, Bool, true, false, List, [], ◌∷◌, ◌++◌, length, Option, Some, None, map, refl, sym, ap, ◌∙◌, subst, arith, length-append}
+use Rattle.std.proofs.Common.{◌≡◌, ℕ, ◌+◌, List, [], ◌∷◌, ◌++◌, length, Option, Some, None, map, refl, sym, ap, ◌∙◌, subst, arith, length-append}
 use Rattle.std.specs.Prelude.{slice_get}
-use Rattle.std.proofs.lemmas.List.{length-map}
 use Rattle.away_values.specs.declared.types.Ty.{Ty}
 use Rattle.away_trees.specs.declared.queries.Expr.{Expr}
 use Rattle.away_trees.specs.declared.statements.Decl.{Decl}
 use Rattle.away_trees.specs.declared.statements.Stmt.TheOpen as st
-use Rattle.away_types.specs.declared.slots.Slot.{Slot}
 use Rattle.block_forms.specs.Slots.{slot_of}
-use Rattle.block_forms.specs.Around.{Around}
 use Rattle.block_forms.specs.declared.forms.Block.{Block}
 use Rattle.block_forms.specs.Patterns.{node, set_parts, slot_parts}
 use Rattle.plsql_meaning.specs.Outcomes.{Label}
 use Rattle.block_forms.specs.declared.places.Position.{Position}
-use Rattle.block_forms.specs.Laid.{Laid, Setting, after, place, nothing, decl_size, decls_size, default_term, decl_parts, decls_parts, first_block, row_parts, laying, a_node}
+use Rattle.block_forms.specs.Laid.{Laid, Setting, after, decl_size, decls_size, default_term, decl_parts, decls_parts, first_block, row_parts, laying, a_node}
 use Rattle.goto_lower.specs.Building.{Built, row_many, row_first, row_blocks, row_firsts, row_vars, set_blocks, set_many, decls_many, decls_first, decls_firsts, decls_blocks, default_of, built_step}
 use Rattle.goto_lower.proofs.BuiltRows.{Good, GoodRow, row_size_same, row_many_is, row_nodes_are, row_vars_are, row_first_is, row_stands, node_is}
-use Rattle.goto_lower.proofs.BuiltSteps.{set_stands, set_length}
+use Rattle.goto_lower.proofs.BuiltSteps.{set_stands}
+use Rattle.goto_lower.proofs.SetSizes.{set_length}
 use Rattle.goto_lower.proofs.Segments.{Seg, seg_left, seg_right, seg_head, seg_tail}
 use Rattle.goto_lower.proofs.Covering.{Fine, fine_join, fine_same}
 
@@ -45,7 +43,7 @@ module _ (s : Setting) where
       omega (
         arith,
         length-append (set_blocks s.numbers d.not_null d.ty p.slot e then start) (blocks_of ds (after p (decl_size d)) next (start + set_many d.not_null)),
-        set_length s d.not_null d.ty p.slot e then start,
+        set_length s.numbers d.not_null d.ty p.slot e then start,
         decls_many_is ds (after p (decl_size d)) next (start + set_many d.not_null),
       )
 
@@ -69,7 +67,7 @@ module _ (s : Setting) where
       let rest_blocks = blocks_of ds (after p (decl_size d)) next from in
       let rest_firsts = firsts_of ds from in
       let ns1 : Seg N (p.node + 1) rest_firsts = seg_tail N rest_firsts start p.node ns in
-      let bs1 : Seg B from rest_blocks = seg_right B own_blocks rest_blocks start (set_many d.not_null) (set_length s d.not_null d.ty p.slot e then start) bs in
+      let bs1 : Seg B from rest_blocks = seg_right B own_blocks rest_blocks start (set_many d.not_null) (set_length s.numbers d.not_null d.ty p.slot e then start) bs in
       let here : node s.goto p.node ≡ start = node_is s p.node start (seg_head N rest_firsts start p.node ns) in
       let then_is : first_block s (length ds) (p.node + 1) next ≡ then = decls_first_is ds (p.node + 1) from next ns1 in
       let known : slice_get s.slots p.slot ≡ Some (slot_of d) = seg_head s.slots (map slot_of ds) (slot_of d) p.slot vs in

@@ -1,20 +1,17 @@
 -- The blocks that are built for a FOR stand as its pattern asks, where its test is the first of its kind in the form.
 use Rattle.std.proofs.Common.{◌≡◌, ℕ, ◌+◌, ◌*◌, Bool, true, false, List, [], ◌∷◌, ◌++◌, length, Option, Some, None, refl, sym, ap, ◌∙◌, subst, arith, length-append}
 use Rattle.std.specs.Prelude.{slice_get}
-use Rattle.away_values.specs.declared.types.Ty.{Ty}
 use Rattle.away_values.specs.declared.types.Ty.TheVariants as ty
 use Rattle.away_trees.specs.declared.queries.Expr.{Expr}
 use Rattle.away_trees.specs.declared.statements.LoopKind.TheVariants as kind
 use Rattle.away_trees.specs.declared.statements.Stmt.TheOpen as st
-use Rattle.block_forms.specs.Around.{Around}
 use Rattle.block_forms.specs.declared.forms.Term.{Term}
 use Rattle.block_forms.specs.declared.forms.Block.{Block}
-use Rattle.block_forms.specs.Patterns.{source_term, is_null, not_positive, one, copy, in_range, leaves_range, moved, sets, branches, fails, own, shared, node, jump_of, yes_of, no_of, end_in, jump_in, yes_in, no_in, set_parts, bound_parts, step_parts, turn_parts, for_parts, after_bound, head_after, for_head, for_test}
+use Rattle.block_forms.specs.Patterns.{source_term, is_null, not_positive, one, copy, in_range, leaves_range, moved, sets, branches, fails, own, shared, node, yes_of, no_of, end_in, jump_in, yes_in, no_in, bound_parts, step_parts, turn_parts, for_parts, after_bound, head_after, for_head, for_test}
 use Rattle.plsql_meaning.specs.Outcomes.{Label, null_not_allowed, invalid_parameter}
 use Rattle.block_forms.specs.declared.places.Position.{Position}
 use Rattle.block_forms.specs.Slots.{slot}
 use Rattle.block_forms.specs.Laid.{Laid, Setting, after, place, first_block, row_parts, laying, one_if}
-use Rattle.block_forms.specs.Laid as l
 use Rattle.goto_lower.specs.Building.{Built, row_many, row_first, row_blocks, row_firsts, row_vars, set_blocks, step_blocks, step_many, turn_blocks, for_blocks, head_at, cur_at, built_step}
 use Rattle.goto_lower.proofs.BuiltRows.{Good, GoodRow, row_size_same, row_many_is, row_nodes_are, row_vars_are, row_first_is, row_stands, node_is}
 use Rattle.goto_lower.proofs.BuiltSteps.{set_stands}
@@ -155,19 +152,19 @@ module _ (s : Setting) where
   pub good_count : Found → (label closing : Label) (var : List ℕ) (reverse : Bool) (e1 e2 : Expr) (by : Option Expr) (xs : List Laid) (ys : List Built) → GoodRow s xs ys →
       Good s (laying.stmt (st.Loop label (kind.Count var reverse e1 e2 by) xs closing)) (built_step s.numbers s.slots s.goto.finish (st.Loop label (kind.Count var reverse e1 e2 by) ys closing))
   good_count found label closing var reverse e1 e2 by xs ys good = record {
-    size_same = ap (λ z. after (place 1 (2 + one_if by) 1 1) z) (row_size_same s xs ys good);
+    size_same = ap (λ z. after (place 1 (2 + one_if by) 1 1 0) z) (row_size_same s xs ys good);
     many_is = λ p around next start.
         let again = Head by start + 1 + 1 in
         let own_blocks = for_blocks s.numbers reverse e1 e2 by p (row_first ys (Head by start + 4) again) next start in
-        let inside = row_blocks ys (after p (place 1 (2 + one_if by) 1 1)) (record { label = label; exit = next; again = Some again } ∷ around) again (Head by start + 4) in
-        omega (arith, length-append own_blocks inside, for_length reverse e1 e2 by p (row_first ys (Head by start + 4) again) next start, row_many_is s xs ys good (after p (place 1 (2 + one_if by) 1 1)) (record { label = label; exit = next; again = Some again } ∷ around) again (Head by start + 4));
+        let inside = row_blocks ys (after p (place 1 (2 + one_if by) 1 1 0)) (record { label = label; exit = next; again = Some again } ∷ around) again (Head by start + 4) in
+        omega (arith, length-append own_blocks inside, for_length reverse e1 e2 by p (row_first ys (Head by start + 4) again) next start, row_many_is s xs ys good (after p (place 1 (2 + one_if by) 1 1 0)) (record { label = label; exit = next; again = Some again } ∷ around) again (Head by start + 4));
     nodes_are = λ start next. omega (arith, row_nodes_are s xs ys good (Head by start + 4) (Head by start + 1 + 1));
     vars_are = omega (arith, row_vars_are s xs ys good);
     first_is = λ start next. refl;
     stands = λ p around next start late bs ns vs.
         let again = Head by start + 1 + 1 in
         let begin = Head by start + 4 in
-        let q = after p (place 1 (2 + one_if by) 1 1) in
+        let q = after p (place 1 (2 + one_if by) 1 1 0) in
         let first = row_first ys begin again in
         let own_blocks = for_blocks s.numbers reverse e1 e2 by p first next start in
         let inside = row_blocks ys q (record { label = label; exit = next; again = Some again } ∷ around) again begin in

@@ -1,10 +1,11 @@
 -- The blocks that are built for a statement test the counters of its FORs, each once, in the order of the text.
-use Rattle.std.proofs.Common.{◌≡◌, ℕ, zero, suc, ◌+◌, ◌*◌, ◌≤◌, ◌<◌, Bool, true, false, List, [], ◌∷◌, ◌++◌, length, Option, Some, None, refl, sym, ap, ◌∙◌, subst, arith}
+use Rattle.std.proofs.Common.{◌≡◌, ℕ, zero, suc, ◌+◌, ◌*◌, ◌≤◌, ◌<◌, Bool, true, false, List, [], ◌∷◌, ◌++◌, length, Option, Some, None, refl, sym, ap, ◌∙◌, arith}
 use Rattle.std.specs.Prelude.{slice_get}
 use Rattle.away_values.specs.declared.types.Ty.{Ty}
 use Rattle.away_values.specs.declared.types.Ty.TheVariants as ty
 use Rattle.away_values.specs.declared.values.Class.{Class}
 use Rattle.away_trees.specs.declared.queries.Expr.{Expr}
+use Rattle.away_trees.specs.declared.queries.Select.{Select}
 use Rattle.away_trees.specs.declared.statements.Decl.{Decl}
 use Rattle.away_trees.specs.declared.statements.LoopKind.TheVariants as kind
 use Rattle.away_trees.specs.declared.statements.Stmt.{Stmt}
@@ -12,6 +13,8 @@ use Rattle.away_trees.specs.declared.statements.Stmt.TheBlock as b
 use Rattle.away_trees.specs.StatementAlgebra.{stmt_of, stmts_of, branches_of}
 use Rattle.away_types.specs.declared.slots.Slot.{Slot}
 use Rattle.plsql_meaning.specs.Outcomes.{Label, case_not_found, invalid_parameter}
+use Rattle.select_into.specs.Entries.{Target, checks}
+use Rattle.select_into.specs.Wrapped.{select_slots}
 use Rattle.block_forms.specs.declared.forms.Block.{Block}
 use Rattle.block_forms.specs.declared.forms.Term.{Term}
 use Rattle.block_forms.specs.declared.places.Position.{Position}
@@ -20,11 +23,12 @@ use Rattle.block_forms.specs.declared.fixed_list.Fixed.{Fixed}
 use Rattle.block_forms.specs.declared.fixed_list.Fixed.TheVariants as fix
 use Rattle.block_forms.specs.FixedList.{position}
 use Rattle.block_forms.specs.Around.{Around, exit_to, again_to}
-use Rattle.block_forms.specs.Laid.{after, place, one_if, decl_size, with_expr, a_node, decls_size}
-use Rattle.block_forms.specs.Patterns.{entry_term, source_term, is_null, in_range, not_positive, branches, jumps, fails}
+use Rattle.block_forms.specs.Laid.{after, one_if, decl_size, with_expr, a_node, decls_size}
+use Rattle.block_forms.specs.Patterns.{entry_term, source_term, select_term, is_null, copy, in_range, not_positive, branches, jumps, fails, onward}
 use Rattle.block_forms.specs.declared.forms.End.TheVariants.{Branch}
 use Rattle.goto_lower.specs.Building as spec
-use Rattle.goto_lower.specs.Building.{Built, BuiltArm, building, row_size, row_many, row_first, row_blocks, set_many, set_blocks, slot_blocks, decls_many, decls_first, decls_blocks, decl_blocks, default_of, arm_size, arms_size, arms_many, arms_first, arms_blocks, branched, looped, leave_block, step_many, step_blocks, head_at, turn_blocks, for_blocks, bound_blocks, cur_at, count_size}
+use Rattle.goto_lower.specs.Building.{Built, BuiltArm, building, row_size, row_many, row_first, row_blocks, set_many, set_blocks, slot_blocks, decls_many, decls_first, decls_blocks, decl_blocks, default_of, arm_size, arms_size, arms_many, arms_first, arms_blocks, branched, looped, leave_block, step_many, step_blocks, head_at, turn_blocks, for_blocks, bound_blocks, cur_at, count_size, into_built}
+use Rattle.goto_lower.specs.IntoBlocks.{check_many, put_many, check_blocks, pick_blocks, put_block, put_blocks}
 use Rattle.goto_lower.proofs.ForTests.{Rising, key, keys, keys_append, no_key, leaves_key}
 
 module _ (n : Numbers) where
@@ -221,6 +225,43 @@ module _ (n : Numbers) where
         (row_keys ys c (after p (count_size by)) inner again (head_at by start + 4) (omega arith));
   }
 
+  -- ---- SELECT INTO
+
+  select_key : (k : ℕ) (q : Select) (y m : ℕ) → k < S → key S (branches false (select_term k q) y m).end ≡ []
+  select_key k q y m lt = no_key S k (select_slots q) y m (λ h. omega arith) (λ h. omega arith)
+
+  check_keys : (strict : Bool) (k : ℕ) (q : Select) (first start : ℕ) → k + checks strict ≤ S → keys S (check_blocks strict k q first start) ≡ []
+  check_keys false k q first start le = refl
+  check_keys true k q first start le = λ i. select_key k q (start + 1) (start + 2) (omega arith) i ++ (select_key (k + 1) q (start + 3) first (omega arith) i ++ [])
+
+  pick_keys : (ts : List Target) (k h : ℕ) (q : Select) (start : ℕ) → keys S (pick_blocks ts k h q start) ≡ []
+  pick_keys [] k h q start = refl
+  pick_keys (t ∷ ts) k h q start = pick_keys ts (k + 1) (h + 1) q (start + 1)
+
+  put_keys : (slots : List Slot) (t : Option ℕ) (h next start : ℕ) → keys S (put_block n slots t h next start) ≡ []
+  put_keys slots None h next start = refl
+  put_keys slots (Some slot) h next start = slot_keys (slice_get slots slot) slot (copy S h) next start
+
+  puts_keys : (slots : List Slot) (ts : List Target) (h next start : ℕ) → keys S (put_blocks n slots ts h next start) ≡ []
+  puts_keys slots [] h next start = refl
+  puts_keys slots (t ∷ ts) h next start =
+      let then = start + put_many slots t.1 in
+      keys_append S (put_block n slots t.1 h (onward ts then next) start) (put_blocks n slots ts (h + 1) next then)
+      ∙ (λ i. put_keys slots t.1 h (onward ts then next) start i ++ puts_keys slots ts (h + 1) next then i)
+
+  into_keyed : (slots : List Slot) (strict : Bool) (ts : List Target) (q : Select) → Keyed (into_built n slots strict ts q)
+  into_keyed slots strict ts q = record {
+    keys_are = λ p around next start le.
+        let from = start + check_many strict in
+        let first = onward ts from next in
+        let cs = check_blocks strict p.expr q first start in
+        let ps = pick_blocks ts (p.expr + checks strict) (n.targets + p.targets) q from in
+        let us = put_blocks n slots ts (n.targets + p.targets) next (from + length ts) in
+        keys_append S cs (ps ++ us)
+        ∙ (λ i. check_keys strict p.expr q first start (omega arith) i ++ keys_append S ps us i)
+        ∙ (λ i. pick_keys ts (p.expr + checks strict) (n.targets + p.targets) q from i ++ puts_keys slots ts (n.targets + p.targets) next (from + length ts) i);
+  }
+
   -- ---- all statements
 
   module _ (slots : List Slot) (finish : ℕ) where
@@ -240,7 +281,7 @@ module _ (n : Numbers) where
       keyed (b.Continue label when) = record { keys_are = λ p around next start le. leave_keys when p.expr (again_to finish around label) next le }
       keyed (b.Return e) = record { keys_are = λ p around next start le. refl }
       keyed (b.Raise r) = record { keys_are = λ p around next start le. refl }
-      keyed (b.Into strict targets query) = record { keys_are = λ p around next start le. refl }
+      keyed (b.Into strict targets query) = into_keyed slots strict targets query
       keyed b.Nothing = record { keys_are = λ p around next start le. refl }
 
       pub rows_keyed : {m : _} → (r : b.Row_of-Stmt m) → AllKeyed (stmts_of (building n slots finish) r)

@@ -1,62 +1,35 @@
 -- The blocks that are built for a statement lead to no entry, and read and set the function's slots alone.
-use Rattle.std.proofs.Common.{◌≡◌, ℕ, zero, suc, ◌+◌, ◌*◌, ◌≤◌, ◌<◌, Bool, true, false, ◌||◌, List, [], ◌∷◌, ◌++◌, length, Option, Some, None, refl, sym, ap, ◌∙◌, subst, arith}
-use Rattle.std.specs.Prelude.{slice_get, nat_eq, All, if◌then◌else◌}
+use Rattle.std.proofs.Common.{◌≡◌, ℕ, zero, suc, ◌+◌, ◌*◌, ◌≤◌, ◌<◌, Bool, true, false, ◌||◌, List, [], ◌∷◌, ◌++◌, length, Option, Some, None, refl, sym, subst, arith}
+use Rattle.std.specs.Prelude.{slice_get, nat_eq, if◌then◌else◌}
 use Rattle.std.proofs.lemmas.Bool.{ne_eqb}
 use Rattle.away_values.specs.declared.types.Ty.{Ty}
 use Rattle.away_values.specs.declared.types.Ty.TheVariants as ty
 use Rattle.away_values.specs.declared.values.Class.{Class}
 use Rattle.away_trees.specs.declared.queries.Expr.{Expr}
+use Rattle.away_trees.specs.declared.queries.Select.{Select}
 use Rattle.away_trees.specs.declared.statements.Decl.{Decl}
-use Rattle.away_trees.specs.declared.statements.LoopKind.TheVariants as kind
-use Rattle.away_trees.specs.declared.statements.Stmt.{Stmt}
-use Rattle.away_trees.specs.declared.statements.Stmt.TheBlock as b
-use Rattle.away_trees.specs.StatementAlgebra.{stmt_of, stmts_of, branches_of}
 use Rattle.away_types.specs.declared.slots.Slot.{Slot}
 use Rattle.sql_meaning.specs.Reads.{slots_of}
-use Rattle.plsql_meaning.specs.Outcomes.{Label, case_not_found, invalid_parameter, null_not_allowed, names_loop}
-use Rattle.plsql_meaning.specs.Statements.{class_of}
+use Rattle.plsql_meaning.specs.Outcomes.{Label, invalid_parameter, null_not_allowed, no_data_found, too_many_rows, names_loop}
+use Rattle.select_into.specs.Entries.{Target, checks}
+use Rattle.select_into.specs.Wrapped.{select_slots}
 use Rattle.block_forms.specs.declared.forms.Block.{Block}
 use Rattle.block_forms.specs.declared.forms.Term.{Term}
 use Rattle.block_forms.specs.declared.places.Position.{Position}
 use Rattle.block_forms.specs.declared.places.Numbers.{Numbers}
 use Rattle.block_forms.specs.Around.{Around, exit_to, again_to, exits_at, again_at}
-use Rattle.block_forms.specs.Expressions.{sourcing, in_turn, if_there, defaults}
-use Rattle.block_forms.specs.Laid.{after, place, one_if, decl_size, with_expr, a_node, decls_size}
-use Rattle.block_forms.specs.Lowered.{TermBelow, BlockBelow, end_leads, NoWayTo}
-use Rattle.block_forms.specs.Patterns.{term, source_term, null_of, is_null, not_positive, one, copy, in_range, leaves_range, moved, sets, branches, jumps, returns, fails}
-use Rattle.block_forms.specs.Places.{Each}
-use Rattle.block_forms.specs.Targets.{targeting, row_targets, one_target}
+use Rattle.block_forms.specs.Expressions.{if_there, defaults}
+use Rattle.block_forms.specs.Intos.{Into}
+use Rattle.block_forms.specs.Laid.{after, decl_size, with_expr, a_node, decls_size}
+use Rattle.block_forms.specs.Lowered.{TermBelow, BlockBelow, end_leads}
+use Rattle.block_forms.specs.Patterns.{source_term, select_term, null_of, is_null, not_positive, one, copy, in_range, leaves_range, moved, sets, branches, jumps, returns, fails, onward}
+use Rattle.block_forms.specs.Targets.{one_target, named_targets}
 use Rattle.goto_lower.specs.Building as spec
-use Rattle.goto_lower.specs.Building.{Built, BuiltArm, building, first_from, row_size, row_many, row_first, row_blocks, set_many, set_blocks, slot_blocks, decls_many, decls_first, decls_blocks, decl_blocks, default_of, arm_size, arms_size, arms_many, arms_first, arms_blocks, branched, looped, leave_block, step_many, step_blocks, head_at, turn_blocks, for_blocks, bound_blocks, cur_at, count_size}
+use Rattle.goto_lower.specs.Building.{Built, BuiltArm, first_from, row_size, row_many, row_first, row_blocks, set_many, set_blocks, slot_blocks, decls_many, decls_first, decls_blocks, decl_blocks, default_of, arm_size, arms_size, arms_many, arms_first, arms_blocks, branched, looped, leave_block, step_many, step_blocks, head_at, turn_blocks, for_blocks, bound_blocks, cur_at, count_size, into_built}
+use Rattle.goto_lower.specs.IntoBlocks.{check_many, put_many, check_blocks, pick_blocks, put_block, put_blocks}
 use Rattle.goto_lower.specs.Whole.{Params, param_first, param_blocks}
-use Rattle.goto_lower.proofs.BuiltSizes.{Counted, counted, AllCounted, rows_counted, arms_counted, ArmsCounted, row_from, decls_from, arms_left}
-
--- ---- lists by recursion
-
-abbrev pub Every : {X : Type 0} → (X → Type 0) → List X → Type 0
-Every P [] = Unit {0}
-Every P (x ∷ xs) = P x × Every P xs
-
-pub every_of : {X : Type 0} (P : X → Type 0) (xs : List X) → All P xs → Every P xs
-every_of P [] h = tt
-every_of P (x ∷ xs) h = (h 0 x (omega arith), every_of P xs (λ k d lt. h (suc k) d (omega arith)))
-
-pub each_of : {X : Type 0} (P : X → Type 0) (xs : List X) → Every P xs → Each P xs
-each_of P [] h i x e = absurd (cc)
-each_of P (y ∷ ys) h zero x e = let same : y ≡ x = cc in subst P same h.0
-each_of P (y ∷ ys) h (suc i) x e = each_of P ys h.1 i x e
-
-every_left : {X : Type 0} (P : X → Type 0) (xs ys : List X) → Every P (xs ++ ys) → Every P xs
-every_left P [] ys h = tt
-every_left P (x ∷ xs) ys h = (h.0, every_left P xs ys h.1)
-
-every_right : {X : Type 0} (P : X → Type 0) (xs ys : List X) → Every P (xs ++ ys) → Every P ys
-every_right P [] ys h = h
-every_right P (x ∷ xs) ys h = every_right P xs ys h.1
-
-pub every_join : {X : Type 0} (P : X → Type 0) (xs ys : List X) → Every P xs → Every P ys → Every P (xs ++ ys)
-every_join P [] ys h g = g
-every_join P (x ∷ xs) ys h g = (h.0, every_join P xs ys h.1 g)
+use Rattle.goto_lower.proofs.Everywhere.{Every, each_of, every_left, every_right, every_join}
+use Rattle.goto_lower.proofs.BuiltSizes.{AllCounted, ArmsCounted, row_from, decls_from}
 
 -- ---- blocks
 
@@ -78,10 +51,10 @@ module _ (n : Numbers) (limit : ℕ) (room : n.counters ≤ limit) where
   abbrev Below : ℕ → Type 0
   Below s = s < limit
 
-  abbrev Own : ℕ → Type 0
+  abbrev pub Own : ℕ → Type 0
   Own s = s < n.counters
 
-  abbrev OwnReads : Expr → Type 0
+  abbrev pub OwnReads : Expr → Type 0
   OwnReads e = Every Own (slots_of e)
 
   widened : (xs : List ℕ) → Every Own xs → Every Below xs
@@ -91,7 +64,7 @@ module _ (n : Numbers) (limit : ℕ) (room : n.counters ≤ limit) where
   term_below : (t : Term) → Every Below t.names → TermBelow limit t
   term_below t h = record { names = each_of Below t.names h }
 
-  source_below : (k : ℕ) (e : Expr) → OwnReads e → TermBelow limit (source_term k e)
+  pub source_below : (k : ℕ) (e : Expr) → OwnReads e → TermBelow limit (source_term k e)
   source_below k e h = term_below (source_term k e) (widened (slots_of e) h)
 
   safe_sets : (slot : ℕ) (t : Term) (next : ℕ) → slot < limit → TermBelow limit t → 1 ≤ next → Safe limit (sets slot t next)
@@ -103,13 +76,13 @@ module _ (n : Numbers) (limit : ℕ) (room : n.counters ≤ limit) where
   pub safe_jump : (head : Bool) (next : ℕ) → 1 ≤ next → Safe limit (jumps head next)
   safe_jump head next p = record { elsewhere = not_zero next p; below = record { set = tt; end = tt } }
 
-  safe_return : (t : Term) → TermBelow limit t → Safe limit (returns t)
+  pub safe_return : (t : Term) → TermBelow limit t → Safe limit (returns t)
   safe_return t tb = record { elsewhere = refl; below = record { set = tt; end = tb } }
 
   pub safe_fail : (c : Class) → Safe limit (fails c)
   safe_fail c = record { elsewhere = refl; below = record { set = tt; end = tt } }
 
-  abbrev AllSafe : List Block → Type 0
+  abbrev pub AllSafe : List Block → Type 0
   AllSafe xs = Every (Safe limit) xs
 
   safe_join : (xs ys : List Block) → AllSafe xs → AllSafe ys → AllSafe (xs ++ ys)
@@ -120,7 +93,7 @@ module _ (n : Numbers) (limit : ℕ) (room : n.counters ≤ limit) where
   set_safe true t slot e next start lt eb p =
       (safe_sets slot e (start + 1) lt eb (omega arith), (safe_branch false (is_null n.fixed t slot) (start + 2) next (term_below (is_null n.fixed t slot) (lt, tt)) (omega arith) p, (safe_fail null_not_allowed, tt)))
 
-  slot_safe : (o : Option Slot) (slot : ℕ) (e : Term) (next start : ℕ) → slot < limit → TermBelow limit e → 1 ≤ next → AllSafe (slot_blocks n o slot e next start)
+  pub slot_safe : (o : Option Slot) (slot : ℕ) (e : Term) (next start : ℕ) → slot < limit → TermBelow limit e → 1 ≤ next → AllSafe (slot_blocks n o slot e next start)
   slot_safe None slot e next start lt eb p = set_safe false ty.Bigint slot e next start lt eb p
   slot_safe (Some s) slot e next start lt eb p = set_safe s.not_null s.ty slot e next start lt eb p
 
@@ -152,7 +125,7 @@ module _ (n : Numbers) (limit : ℕ) (room : n.counters ≤ limit) where
   choice true a c p q = p
   choice false a c p q = q
 
-  exit_good : (finish : ℕ) (around : Around) (l : Label) → 1 ≤ finish → GoodAround around → 1 ≤ exit_to finish around l
+  pub exit_good : (finish : ℕ) (around : Around) (l : Label) → 1 ≤ finish → GoodAround around → 1 ≤ exit_to finish around l
   exit_good finish [] l p g = p
   exit_good finish (x ∷ around) l p g = choice (exits_at l x.label x.again) x.exit (exit_to finish around l) g.0 (exit_good finish around l p g.1.1)
 
@@ -160,11 +133,11 @@ module _ (n : Numbers) (limit : ℕ) (room : n.counters ≤ limit) where
   again_one None l own outer g p = p
   again_one (Some k) l own outer g p = choice (names_loop l own) k outer g p
 
-  again_good : (finish : ℕ) (around : Around) (l : Label) → 1 ≤ finish → GoodAround around → 1 ≤ again_to finish around l
+  pub again_good : (finish : ℕ) (around : Around) (l : Label) → 1 ≤ finish → GoodAround around → 1 ≤ again_to finish around l
   again_good finish [] l p g = p
   again_good finish (x ∷ around) l p g = again_one x.again l x.label (again_to finish around l) g.1.0 (again_good finish around l p g.1.1)
 
-  leave_safe : (when : Option Expr) (k to next : ℕ) → Every OwnReads (if_there when) → 1 ≤ to → 1 ≤ next → Safe limit (leave_block when k to next)
+  pub leave_safe : (when : Option Expr) (k to next : ℕ) → Every OwnReads (if_there when) → 1 ≤ to → 1 ≤ next → Safe limit (leave_block when k to next)
   leave_safe None k to next h p q = safe_jump false to p
   leave_safe (Some e) k to next h p q = safe_branch false (source_term k e) to next (source_below k e h.0) p q
 
@@ -174,14 +147,15 @@ module _ (n : Numbers) (limit : ℕ) (room : n.counters ≤ limit) where
   pub record Within (p size : Position) : Type 0 where
     pub slots : p.slot + size.slot ≤ n.counters
     pub hidden : n.counters + 3 * (p.fors + size.fors) ≤ limit
+    pub targets : n.targets + (p.targets + size.targets) ≤ limit
 
   pub record Secure (y : Built) : Type 0 where
     pub secure : (p : Position) (around : Around) (next start : ℕ) → Within p y.size → GoodAround around → 1 ≤ next → 1 ≤ start → AllSafe (y.blocks p around next start)
 
-  abbrev AllSecure : List Built → Type 0
+  abbrev pub AllSecure : List Built → Type 0
   AllSecure ys = Every Secure ys
 
-  abbrev ArmsSecure : List BuiltArm → Type 0
+  abbrev pub ArmsSecure : List BuiltArm → Type 0
   ArmsSecure [] = Unit {0}
   ArmsSecure (y ∷ ys) = (OwnReads y.test × AllSecure y.body) × ArmsSecure ys
 
@@ -192,8 +166,8 @@ module _ (n : Numbers) (limit : ℕ) (room : n.counters ≤ limit) where
   row_safe [] c h p around next start w g q r = tt
   row_safe (y ∷ ys) c h p around next start w g q r =
       safe_join (y.blocks p around (row_first ys (start + y.many) next) start) (row_blocks ys (after p y.size) around next (start + y.many))
-      (h.0.secure p around (row_first ys (start + y.many) next) start (record { slots = omega (arith, w.slots); hidden = omega (arith, w.hidden) }) g (row_good ys c.1 (start + y.many) next (omega arith) q) r)
-      (row_safe ys c.1 h.1 (after p y.size) around next (start + y.many) (record { slots = omega (arith, w.slots); hidden = omega (arith, w.hidden) }) g q (omega arith))
+      (h.0.secure p around (row_first ys (start + y.many) next) start (record { slots = omega (arith, w.slots); hidden = omega (arith, w.hidden); targets = omega (arith, w.targets) }) g (row_good ys c.1 (start + y.many) next (omega arith) q) r)
+      (row_safe ys c.1 h.1 (after p y.size) around next (start + y.many) (record { slots = omega (arith, w.slots); hidden = omega (arith, w.hidden); targets = omega (arith, w.targets) }) g q (omega arith))
 
   arms_good : (ys : List BuiltArm) (start next : ℕ) → 1 ≤ start → 1 ≤ next → 1 ≤ arms_first ys start next
   arms_good [] start next p q = q
@@ -205,32 +179,32 @@ module _ (n : Numbers) (limit : ℕ) (room : n.counters ≤ limit) where
       let behind = start + (1 + row_many y.body) in (
         safe_branch false (source_term p.expr y.test) (row_first y.body (start + 1) next) (arms_first ys behind lack) (source_below p.expr y.test h.0.0) (row_good y.body c.0 (start + 1) next (omega arith) q) (arms_good ys behind lack (omega arith) l),
         safe_join (row_blocks y.body (after p with_expr) around next (start + 1)) (arms_blocks ys (after p (arm_size y)) around next lack behind)
-            (row_safe y.body c.0 h.0.1 (after p with_expr) around next (start + 1) (record { slots = omega (arith, w.slots); hidden = omega (arith, w.hidden) }) g q (omega arith))
-            (arms_safe ys c.1 h.1 (after p (arm_size y)) around next lack behind (record { slots = omega (arith, w.slots); hidden = omega (arith, w.hidden) }) g q l (omega arith)),
+            (row_safe y.body c.0 h.0.1 (after p with_expr) around next (start + 1) (record { slots = omega (arith, w.slots); hidden = omega (arith, w.hidden); targets = omega (arith, w.targets) }) g q (omega arith))
+            (arms_safe ys c.1 h.1 (after p (arm_size y)) around next lack behind (record { slots = omega (arith, w.slots); hidden = omega (arith, w.hidden); targets = omega (arith, w.targets) }) g q l (omega arith)),
       )
 
-  branch_secure : (ys : List BuiltArm) → ArmsCounted ys → ArmsSecure ys → (without : Option Class) → Secure (branched ys None without)
+  pub branch_secure : (ys : List BuiltArm) → ArmsCounted ys → ArmsSecure ys → (without : Option Class) → Secure (branched ys None without)
   branch_secure ys c h None = record {
-    secure = λ p around next start w g q r. arms_safe ys c h (after p a_node) around next next start (record { slots = omega (arith, w.slots); hidden = omega (arith, w.hidden) }) g q q r;
+    secure = λ p around next start w g q r. arms_safe ys c h (after p a_node) around next next start (record { slots = omega (arith, w.slots); hidden = omega (arith, w.hidden); targets = omega (arith, w.targets) }) g q q r;
   }
   branch_secure ys c h (Some x) = record {
     secure = λ p around next start w g q r.
         safe_join (arms_blocks ys (after p a_node) around next (start + arms_many ys) start) (fails x ∷ [])
-        (arms_safe ys c h (after p a_node) around next (start + arms_many ys) start (record { slots = omega (arith, w.slots); hidden = omega (arith, w.hidden) }) g q (omega arith) r) (safe_fail x, tt);
+        (arms_safe ys c h (after p a_node) around next (start + arms_many ys) start (record { slots = omega (arith, w.slots); hidden = omega (arith, w.hidden); targets = omega (arith, w.targets) }) g q (omega arith) r) (safe_fail x, tt);
   }
 
-  else_secure : (ys : List BuiltArm) → ArmsCounted ys → ArmsSecure ys → (zs : List Built) → AllCounted zs → AllSecure zs → (without : Option Class) → Secure (branched ys (Some zs) without)
+  pub else_secure : (ys : List BuiltArm) → ArmsCounted ys → ArmsSecure ys → (zs : List Built) → AllCounted zs → AllSecure zs → (without : Option Class) → Secure (branched ys (Some zs) without)
   else_secure ys c h zs d k without = record {
     secure = λ p around next start w g q r.
         let from = start + arms_many ys in
         let lack = row_first zs from next in
         let there = after (after p (after a_node (arms_size ys))) a_node in
         safe_join (arms_blocks ys (after p a_node) around next lack start) (row_blocks zs there around next from)
-        (arms_safe ys c h (after p a_node) around next lack start (record { slots = omega (arith, w.slots); hidden = omega (arith, w.hidden) }) g q (row_good zs d from next (omega arith) q) r)
-        (row_safe zs d k there around next from (record { slots = omega (arith, w.slots); hidden = omega (arith, w.hidden) }) g q (omega arith));
+        (arms_safe ys c h (after p a_node) around next lack start (record { slots = omega (arith, w.slots); hidden = omega (arith, w.hidden); targets = omega (arith, w.targets) }) g q (row_good zs d from next (omega arith) q) r)
+        (row_safe zs d k there around next from (record { slots = omega (arith, w.slots); hidden = omega (arith, w.hidden); targets = omega (arith, w.targets) }) g q (omega arith));
   }
 
-  block_secure : (label : Label) (ds : List Decl) (ys : List Built) → AllCounted ys → AllSecure ys → Every OwnReads (defaults ds) → Secure (spec.grouped n label ds ys)
+  pub block_secure : (label : Label) (ds : List Decl) (ys : List Built) → AllCounted ys → AllSecure ys → Every OwnReads (defaults ds) → Secure (spec.grouped n label ds ys)
   block_secure label ds ys c h reads = record {
     secure = λ p around next start w g q r.
         let from = start + decls_many ds in
@@ -239,24 +213,24 @@ module _ (n : Numbers) (limit : ℕ) (room : n.counters ≤ limit) where
         let inner = record { label = label; exit = next; again = None } ∷ around in
         safe_join (decls_blocks n ds (after p a_node) f start) (row_blocks ys there inner next from)
         (decls_safe ds (after p a_node) f start reads (omega (arith, w.slots)) (row_good ys c from next (omega arith) q) r)
-        (row_safe ys c h there inner next from (record { slots = omega (arith, w.slots); hidden = omega (arith, w.hidden) }) (q, (tt, g)) q (omega arith));
+        (row_safe ys c h there inner next from (record { slots = omega (arith, w.slots); hidden = omega (arith, w.hidden); targets = omega (arith, w.targets) }) (q, (tt, g)) q (omega arith));
   }
 
-  plain_secure : (label : Label) (ys : List Built) → AllCounted ys → AllSecure ys → Secure (looped label a_node (λ p first next. jumps true first) ys)
+  pub plain_secure : (label : Label) (ys : List Built) → AllCounted ys → AllSecure ys → Secure (looped label a_node (λ p first next. jumps true first) ys)
   plain_secure label ys c h = record {
     secure = λ p around next start w g q r.
         let inner = record { label = label; exit = next; again = Some start } ∷ around in (
           safe_jump true (row_first ys (start + 1) start) (row_good ys c (start + 1) start (omega arith) r),
-          row_safe ys c h (after p a_node) inner start (start + 1) (record { slots = omega (arith, w.slots); hidden = omega (arith, w.hidden) }) (q, (r, g)) r (omega arith),
+          row_safe ys c h (after p a_node) inner start (start + 1) (record { slots = omega (arith, w.slots); hidden = omega (arith, w.hidden); targets = omega (arith, w.targets) }) (q, (r, g)) r (omega arith),
         );
   }
 
-  while_secure : (label : Label) (e : Expr) (ys : List Built) → AllCounted ys → AllSecure ys → OwnReads e → Secure (looped label with_expr (λ p first next. branches true (source_term p.expr e) first next) ys)
+  pub while_secure : (label : Label) (e : Expr) (ys : List Built) → AllCounted ys → AllSecure ys → OwnReads e → Secure (looped label with_expr (λ p first next. branches true (source_term p.expr e) first next) ys)
   while_secure label e ys c h reads = record {
     secure = λ p around next start w g q r.
         let inner = record { label = label; exit = next; again = Some start } ∷ around in (
           safe_branch true (source_term p.expr e) (row_first ys (start + 1) start) next (source_below p.expr e reads) (row_good ys c (start + 1) start (omega arith) r) q,
-          row_safe ys c h (after p with_expr) inner start (start + 1) (record { slots = omega (arith, w.slots); hidden = omega (arith, w.hidden) }) (q, (r, g)) r (omega arith),
+          row_safe ys c h (after p with_expr) inner start (start + 1) (record { slots = omega (arith, w.slots); hidden = omega (arith, w.hidden); targets = omega (arith, w.targets) }) (q, (r, g)) r (omega arith),
         );
   }
 
@@ -296,7 +270,7 @@ module _ (n : Numbers) (limit : ℕ) (room : n.counters ≤ limit) where
       (safe_join two (three ++ four) (set_safe true ty.Bigint (cur_at n p + 1) (source_term (p.expr + 1) e2) (start + 3 + 3) (start + 3) c1 (source_below (p.expr + 1) e2 r2) (omega arith))
       (safe_join three four (step_safe by (p.expr + 2) (cur_at n p + 2) (head_at by start) (start + 3 + 3) r3 c2 (omega arith)) (turn_safe reverse p body next (head_at by start) lt h q r (omega arith))))
 
-  count_secure : (label : Label) (reverse : Bool) (e1 e2 : Expr) (by : Option Expr) (ys : List Built) → AllCounted ys → AllSecure ys → OwnReads e1 → OwnReads e2 → Every OwnReads (if_there by) → Secure (spec.counted n label reverse e1 e2 by ys)
+  pub count_secure : (label : Label) (reverse : Bool) (e1 e2 : Expr) (by : Option Expr) (ys : List Built) → AllCounted ys → AllSecure ys → OwnReads e1 → OwnReads e2 → Every OwnReads (if_there by) → Secure (spec.counted n label reverse e1 e2 by ys)
   count_secure label reverse e1 e2 by ys c h r1 r2 r3 = record {
     secure = λ p around next start w g q r.
         let again = head_at by start + 1 + 1 in
@@ -306,8 +280,56 @@ module _ (n : Numbers) (limit : ℕ) (room : n.counters ≤ limit) where
         let a : 1 ≤ again = omega arith in
         safe_join (for_blocks n reverse e1 e2 by p begin next start) (row_blocks ys (after p (count_size by)) inner again (head_at by start + 4))
         (for_safe reverse e1 e2 by p begin next start r1 r2 r3 (omega (arith, w.slots)) (omega (arith, w.hidden)) first q r)
-        (row_safe ys c h (after p (count_size by)) inner again (head_at by start + 4) (record { slots = omega (arith, w.slots); hidden = omega (arith, w.hidden) }) (q, (a, g)) a (omega arith));
+        (row_safe ys c h (after p (count_size by)) inner again (head_at by start + 4) (record { slots = omega (arith, w.slots); hidden = omega (arith, w.hidden); targets = omega (arith, w.targets) }) (q, (a, g)) a (omega arith));
   }
+
+  -- ---- SELECT INTO
+
+  abbrev pub OwnInto : Into → Type 0
+  OwnInto i = Every Own (select_slots i.query)
+
+  select_below : (k : ℕ) (q : Select) → Every Own (select_slots q) → TermBelow limit (select_term k q)
+  select_below k q h = term_below (select_term k q) (widened (select_slots q) h)
+
+  onward_good : (ts : List Target) (rest behind : ℕ) → 1 ≤ rest → 1 ≤ behind → 1 ≤ onward ts rest behind
+  onward_good [] rest behind p q = q
+  onward_good (t ∷ ts) rest behind p q = p
+
+  checks_safe : (strict : Bool) (k : ℕ) (q : Select) (first start : ℕ) → Every Own (select_slots q) → 1 ≤ first → AllSafe (check_blocks strict k q first start)
+  checks_safe false k q first start h p = tt
+  checks_safe true k q first start h p = (
+    safe_branch false (select_term k q) (start + 1) (start + 2) (select_below k q h) (omega arith) (omega arith),
+    (safe_fail no_data_found, (safe_branch false (select_term (k + 1) q) (start + 3) first (select_below (k + 1) q h) (omega arith) p, (safe_fail too_many_rows, tt))),
+  )
+
+  picks_safe : (ts : List Target) (k hidden : ℕ) (q : Select) (start : ℕ) → Every Own (select_slots q) → hidden + length ts ≤ limit → AllSafe (pick_blocks ts k hidden q start)
+  picks_safe [] k hidden q start h le = tt
+  picks_safe (t ∷ ts) k hidden q start h le = (safe_sets hidden (select_term k q) (start + 1) (omega arith) (select_below k q h) (omega arith), picks_safe ts (k + 1) (hidden + 1) q (start + 1) h (omega arith))
+
+  module _ (slots : List Slot) where
+    put_safe : (t : Option ℕ) (hidden next start : ℕ) → Every Own (one_target t) → hidden < limit → 1 ≤ next → AllSafe (put_block n slots t hidden next start)
+    put_safe None hidden next start a lt p = (safe_jump false next p, tt)
+    put_safe (Some slot) hidden next start a lt p = let own : slot < n.counters = a.0 in slot_safe (slice_get slots slot) slot (copy n.fixed hidden) next start (omega arith) (term_below (copy n.fixed hidden) (lt, tt)) p
+
+    puts_safe : (ts : List Target) (hidden next start : ℕ) → Every Own (named_targets ts) → hidden + length ts ≤ limit → 1 ≤ next → 1 ≤ start → AllSafe (put_blocks n slots ts hidden next start)
+    puts_safe [] hidden next start a le p r = tt
+    puts_safe (t ∷ ts) hidden next start a le p r =
+        let behind = start + put_many slots t.1 in
+        safe_join (put_block n slots t.1 hidden (onward ts behind next) start) (put_blocks n slots ts (hidden + 1) next behind)
+        (put_safe t.1 hidden (onward ts behind next) start (every_left Own (one_target t.1) (named_targets ts) a) (omega arith) (onward_good ts behind next (omega arith) p))
+        (puts_safe ts (hidden + 1) next behind (every_right Own (one_target t.1) (named_targets ts) a) (omega arith) p (omega arith))
+
+    pub into_secure : (strict : Bool) (ts : List Target) (q : Select) → Every Own (select_slots q) → Every Own (named_targets ts) → Secure (into_built n slots strict ts q)
+    into_secure strict ts q h a = record {
+      secure = λ p around next start w g e r.
+          let from = start + check_many strict in
+          let first = onward ts from next in
+          let hidden = n.targets + p.targets in
+          let ps = pick_blocks ts (p.expr + checks strict) hidden q from in
+          let us = put_blocks n slots ts hidden next (from + length ts) in
+          safe_join (check_blocks strict p.expr q first start) (ps ++ us) (checks_safe strict p.expr q first start h (onward_good ts from next (omega arith) e))
+          (safe_join ps us (picks_safe ts (p.expr + checks strict) hidden q from h (omega (arith, w.targets))) (puts_safe ts hidden next (from + length ts) a (omega (arith, w.targets)) e (omega arith)));
+    }
 
   -- ---- parameters
 
@@ -324,56 +346,4 @@ module _ (n : Numbers) (limit : ℕ) (room : n.counters ≤ limit) where
       let here : k < limit = omega arith in (
         safe_branch false (is_null n.fixed x.1 k) (start + 1) next (term_below (is_null n.fixed x.1 k) (here, tt)) (omega arith) (params_first true ps (start + 2) body (omega arith) q),
         (safe_return (null_of n.fixed result) (term_below (null_of n.fixed result) tt), params_safe true result (k + 1) ps (start + 2) body (omega arith) (omega arith) q),
-      )
-
-  -- ---- all statements
-
-  module _ (slots : List Slot) (finish : ℕ) (ends : 1 ≤ finish) where
-    mutual
-      pub secure : (x : Stmt) → Every OwnReads (stmt_of sourcing x) → Every Own (stmt_of targeting x) → Secure (stmt_of (building n slots finish) x)
-      secure (b.Block' label decls m body closing) r a =
-          let ys = stmts_of (building n slots finish) body in
-          block_secure label decls ys (rows_counted n slots finish body) (rows_secure body (every_right OwnReads (defaults decls) (in_turn (stmts_of sourcing body)) r) a) (every_left OwnReads (defaults decls) (in_turn (stmts_of sourcing body)) r)
-      secure (b.Assign name None e) r a = record { secure = λ p around next start w g q t. (safe_jump false next q, tt) }
-      secure (b.Assign name (Some slot) e) r a = record {
-        secure = λ p around next start w g q t. let own : slot < n.counters = a.0 in slot_safe (slice_get slots slot) slot (source_term p.expr e) next start (omega arith) (source_below p.expr e r.0) q;
-      }
-      secure (b.If' m arms b.None') r a = branch_secure (branches_of (building n slots finish) arms) (arms_counted n slots finish arms) (arms_secure arms (every_left OwnReads (in_turn (branches_of sourcing arms)) [] r) (every_left Own (row_targets (branches_of targeting arms)) [] a)) None
-      secure (b.If' m arms (b.Some' k body)) r a =
-          else_secure (branches_of (building n slots finish) arms) (arms_counted n slots finish arms)
-          (arms_secure arms (every_left OwnReads (in_turn (branches_of sourcing arms)) (in_turn (stmts_of sourcing body)) r) (every_left Own (row_targets (branches_of targeting arms)) (row_targets (stmts_of targeting body)) a))
-          (stmts_of (building n slots finish) body) (rows_counted n slots finish body)
-          (rows_secure body (every_right OwnReads (in_turn (branches_of sourcing arms)) (in_turn (stmts_of sourcing body)) r) (every_right Own (row_targets (branches_of targeting arms)) (row_targets (stmts_of targeting body)) a))
-          None
-      secure (b.Cases' m arms b.None') r a = branch_secure (branches_of (building n slots finish) arms) (arms_counted n slots finish arms) (arms_secure arms (every_left OwnReads (in_turn (branches_of sourcing arms)) [] r) (every_left Own (row_targets (branches_of targeting arms)) [] a)) (Some case_not_found)
-      secure (b.Cases' m arms (b.Some' k body)) r a =
-          else_secure (branches_of (building n slots finish) arms) (arms_counted n slots finish arms)
-          (arms_secure arms (every_left OwnReads (in_turn (branches_of sourcing arms)) (in_turn (stmts_of sourcing body)) r) (every_left Own (row_targets (branches_of targeting arms)) (row_targets (stmts_of targeting body)) a))
-          (stmts_of (building n slots finish) body) (rows_counted n slots finish body)
-          (rows_secure body (every_right OwnReads (in_turn (branches_of sourcing arms)) (in_turn (stmts_of sourcing body)) r) (every_right Own (row_targets (branches_of targeting arms)) (row_targets (stmts_of targeting body)) a))
-          (Some case_not_found)
-      secure (b.Loop' label kind.Plain m body closing) r a = plain_secure label (stmts_of (building n slots finish) body) (rows_counted n slots finish body) (rows_secure body r a)
-      secure (b.Loop' label (kind.While e) m body closing) r a = while_secure label e (stmts_of (building n slots finish) body) (rows_counted n slots finish body) (rows_secure body r.1 a) r.0
-      secure (b.Loop' label (kind.Count var reverse e1 e2 by) m body closing) r a =
-          count_secure label reverse e1 e2 by (stmts_of (building n slots finish) body) (rows_counted n slots finish body) (rows_secure body (every_right OwnReads (if_there by) (in_turn (stmts_of sourcing body)) r.1.1) a) r.0 r.1.0
-          (every_left OwnReads (if_there by) (in_turn (stmts_of sourcing body)) r.1.1)
-      secure (b.Exit label when) r a = record { secure = λ p around next start w g q t. (leave_safe when p.expr (exit_to finish around label) next r (exit_good finish around label ends g) q, tt) }
-      secure (b.Continue label when) r a = record { secure = λ p around next start w g q t. (leave_safe when p.expr (again_to finish around label) next r (again_good finish around label ends g) q, tt) }
-      secure (b.Return e) r a = record { secure = λ p around next start w g q t. (safe_return (source_term p.expr e) (source_below p.expr e r.0), tt) }
-      secure (b.Raise x) r a = record { secure = λ p around next start w g q t. (safe_fail (class_of x), tt) }
-      secure (b.Into strict targets query) r a = record { secure = λ p around next start w g q t. tt }
-      secure b.Nothing r a = record { secure = λ p around next start w g q t. (safe_jump false next q, tt) }
-
-      rows_secure : {m : _} → (x : b.Row_of-Stmt m) → Every OwnReads (in_turn (stmts_of sourcing x)) → Every Own (row_targets (stmts_of targeting x)) → AllSecure (stmts_of (building n slots finish) x)
-      rows_secure b.end_of-Stmt r a = tt
-      rows_secure (b.more_of-Stmt x rest) r a = (
-        secure x (every_left OwnReads (stmt_of sourcing x) (in_turn (stmts_of sourcing rest)) r) (every_left Own (stmt_of targeting x) (row_targets (stmts_of targeting rest)) a),
-        rows_secure rest (every_right OwnReads (stmt_of sourcing x) (in_turn (stmts_of sourcing rest)) r) (every_right Own (stmt_of targeting x) (row_targets (stmts_of targeting rest)) a),
-      )
-
-      arms_secure : {m : _} → (x : b.Row_of-Arm m) → Every OwnReads (in_turn (branches_of sourcing x)) → Every Own (row_targets (branches_of targeting x)) → ArmsSecure (branches_of (building n slots finish) x)
-      arms_secure b.end_of-Arm r a = tt
-      arms_secure (b.more_of-Arm test m body rest) r a = (
-        (r.0, rows_secure body (every_left OwnReads (in_turn (stmts_of sourcing body)) (in_turn (branches_of sourcing rest)) r.1) (every_left Own (row_targets (stmts_of targeting body)) (row_targets (branches_of targeting rest)) a)),
-        arms_secure rest (every_right OwnReads (in_turn (stmts_of sourcing body)) (in_turn (branches_of sourcing rest)) r.1) (every_right Own (row_targets (stmts_of targeting body)) (row_targets (branches_of targeting rest)) a),
       )

@@ -1,7 +1,6 @@
 -- A statement has as many blocks as are counted, and begins at its first one, or where it has none at what follows.
-use Rattle.std.proofs.Common.{◌≡◌, ℕ, zero, suc, ◌+◌, Bool, true, false, List, [], ◌∷◌, ◌++◌, length, Option, Some, None, refl, sym, ap, ◌∙◌, subst, arith, length-append}
+use Rattle.std.proofs.Common.{◌≡◌, ℕ, zero, suc, ◌+◌, Bool, true, false, List, [], ◌∷◌, length, Option, Some, None, refl, ap, ◌∙◌, arith, length-append}
 use Rattle.std.specs.Prelude.{slice_get}
-use Rattle.away_values.specs.declared.types.Ty.{Ty}
 use Rattle.away_values.specs.declared.values.Class.{Class}
 use Rattle.away_trees.specs.declared.queries.Expr.{Expr}
 use Rattle.away_trees.specs.declared.statements.Decl.{Decl}
@@ -12,7 +11,6 @@ use Rattle.away_trees.specs.StatementAlgebra.{stmt_of, stmts_of, branches_of}
 use Rattle.away_types.specs.declared.slots.Slot.{Slot}
 use Rattle.plsql_meaning.specs.Outcomes.{Label, case_not_found}
 use Rattle.block_forms.specs.declared.forms.Block.{Block}
-use Rattle.block_forms.specs.declared.forms.Term.{Term}
 use Rattle.block_forms.specs.declared.places.Position.{Position}
 use Rattle.block_forms.specs.declared.places.Numbers.{Numbers}
 use Rattle.block_forms.specs.Around.{Around}
@@ -20,6 +18,8 @@ use Rattle.block_forms.specs.Laid.{after, decl_size, with_expr, a_node, decls_si
 use Rattle.block_forms.specs.Patterns.{source_term, branches, jumps, fails}
 use Rattle.goto_lower.specs.Building as spec
 use Rattle.goto_lower.specs.Building.{Built, BuiltArm, building, first_from, row_many, row_first, row_blocks, set_many, slot_many, set_blocks, slot_blocks, decls_many, decls_first, decls_blocks, decl_blocks, default_of, arm_size, arms_size, arms_many, arms_first, arms_blocks, branched, looped, step_many, step_blocks, head_at, turn_blocks, for_blocks, cur_at, count_size}
+use Rattle.goto_lower.proofs.IntoSizes.{into_length, into_from}
+use Rattle.goto_lower.proofs.SetSizes.{set_length, slot_length}
 
 pub record Counted (y : Built) : Type 0 where
   pub many_is : (p : Position) (around : Around) (next start : ℕ) → length (y.blocks p around next start) ≡ y.many
@@ -80,19 +80,11 @@ arms_length (y ∷ ys) c p around next lack start =
 -- ---- how many blocks there are
 
 module _ (n : Numbers) where
-  pub set_length : (strict : Bool) (t : Ty) (slot : ℕ) (e : Term) (next start : ℕ) → length (set_blocks n strict t slot e next start) ≡ set_many strict
-  set_length false t slot e next start = refl
-  set_length true t slot e next start = refl
-
-  slot_length : (o : Option Slot) (slot : ℕ) (e : Term) (next start : ℕ) → length (slot_blocks n o slot e next start) ≡ slot_many o
-  slot_length None slot e next start = refl
-  slot_length (Some x) slot e next start = set_length x.not_null x.ty slot e next start
-
   pub decls_length : (ds : List Decl) (p : Position) (next start : ℕ) → length (decls_blocks n ds p next start) ≡ decls_many ds
   decls_length [] p next start = refl
   decls_length (d ∷ ds) p next start =
       let then = decls_first ds (start + set_many d.not_null) next in
-      omega (arith, length-append (decl_blocks n d p then start) (decls_blocks n ds (after p (decl_size d)) next (start + set_many d.not_null)), set_length d.not_null d.ty p.slot (default_of n d.default d.ty p.expr) then start, decls_length ds (after p (decl_size d)) next (start + set_many d.not_null))
+      omega (arith, length-append (decl_blocks n d p then start) (decls_blocks n ds (after p (decl_size d)) next (start + set_many d.not_null)), set_length n d.not_null d.ty p.slot (default_of n d.default d.ty p.expr) then start, decls_length ds (after p (decl_size d)) next (start + set_many d.not_null))
 
   step_length : (by : Option Expr) (k slot head start : ℕ) → length (step_blocks n by k slot head start) ≡ step_many by
   step_length None k slot head start = refl
@@ -173,7 +165,10 @@ module _ (n : Numbers) (slots : List Slot) (finish : ℕ) where
     counted (b.Continue label when) = record { many_is = λ p around next start. refl; first_is = λ start next. refl }
     counted (b.Return e) = record { many_is = λ p around next start. refl; first_is = λ start next. refl }
     counted (b.Raise r) = record { many_is = λ p around next start. refl; first_is = λ start next. refl }
-    counted (b.Into strict targets query) = record { many_is = λ p around next start. refl; first_is = λ start next. refl }
+    counted (b.Into strict targets query) = record {
+      many_is = λ p around next start. into_length n slots strict targets query p next start;
+      first_is = λ start next. into_from slots strict targets start next;
+    }
     counted b.Nothing = record { many_is = λ p around next start. refl; first_is = λ start next. refl }
 
     pub rows_counted : {m : _} → (r : b.Row_of-Stmt m) → AllCounted (stmts_of (building n slots finish) r)

@@ -1,24 +1,21 @@
 -- The form that is built for a whole function: entry, end, parameters, body. All of its patterns stand.
-use Rattle.std.proofs.Common.{◌≡◌, ℕ, zero, suc, ◌+◌, ◌*◌, ◌≤◌, Bool, true, false, List, [], ◌∷◌, ◌++◌, length, map, replicate, Option, Some, None, refl, sym, ap, ◌∙◌, subst, arith, length-append}
+use Rattle.std.proofs.Common.{◌≡◌, ℕ, ◌+◌, ◌*◌, Bool, true, false, List, [], ◌∷◌, ◌++◌, length, map, replicate, Some, refl, sym, ap, ◌∙◌, subst, arith, length-append, append_assoc}
 use Rattle.std.specs.Prelude.{slice_get}
 use Rattle.std.proofs.lemmas.List.{length-map}
 use Rattle.away_values.specs.declared.types.Ty.{Ty}
 use Rattle.away_values.specs.declared.types.Ty.TheVariants as ty
 use Rattle.away_trees.specs.declared.statements.Function.{Function}
-use Rattle.away_trees.specs.StatementAlgebra.{stmt_of}
 use Rattle.away_types.specs.declared.slots.Slot.{Slot}
-use Rattle.block_forms.specs.declared.forms.Block.{Block}
-use Rattle.block_forms.specs.declared.forms.Goto.{Goto}
 use Rattle.block_forms.specs.Patterns.{shared, is_null, null_of, branches, jumps, returns, fails, node, yes_of, end_in, yes_in}
 use Rattle.plsql_meaning.specs.Outcomes.{no_return}
-use Rattle.block_forms.specs.declared.places.Numbers.{Numbers}
-use Rattle.block_forms.specs.Laid.{Setting, laid, laying}
-use Rattle.block_forms.specs.Slots.{has_into, seeking, slot, variables}
+use Rattle.block_forms.specs.Laid.{Setting, laid}
+use Rattle.block_forms.specs.Intos.{into_targets}
+use Rattle.block_forms.specs.Slots.{slot, variables, param_slots, shown_types, hidden_slot}
 use Rattle.block_forms.specs.OwnSlots.{OwnSlots}
 use Rattle.block_forms.specs.Lowered.{all_parts, setting, numbers_of, body_place, param_parts, params_parts}
-use Rattle.goto_lower.specs.Building.{Built, building, built_of}
+use Rattle.goto_lower.specs.Building.{built_of}
 use Rattle.goto_lower.specs.Whole.{Params, param_many, param_first, param_firsts, param_blocks, finish, body_of, body_start, body_first, built}
-use Rattle.goto_lower.proofs.BuiltRows.{Good, node_is}
+use Rattle.goto_lower.proofs.BuiltRows.{node_is}
 use Rattle.goto_lower.proofs.BuiltCounts.{Found}
 use Rattle.goto_lower.proofs.BuiltVars.{vars_same}
 use Rattle.goto_lower.proofs.BuiltTrees.{good}
@@ -74,18 +71,14 @@ module _ (s : Setting) (result : Ty) where
 whole : {X : Type 0} (xs : List X) → Seg xs 0 xs
 whole xs = record { there = λ i y e. subst (λ j. slice_get xs j ≡ Some y) (let z : i ≡ 0 + i = omega arith in z) e }
 
-pub no_into : (f : Function) (slots : List Slot) → OwnSlots f slots → stmt_of seeking f.body ≡ false
-unfolding has_into
-no_into f slots owned = owned.no_into
-
 -- the variables of the body stand behind the parameters
 own_vars : (f : Function) (slots : List Slot) → OwnSlots f slots → Seg slots (length f.params) (body_of f slots).vars
 unfolding variables built_of
 own_vars f slots owned =
-    let params = map (λ (p : List ℕ × Ty). slot p.1) f.params in
-    let hidden = replicate (3 * (laid f.body).size.fors) (slot ty.Bigint) in
+    let params = param_slots f.params in
+    let hidden = replicate (3 * (laid f.body).size.fors) (slot ty.Bigint) ++ map (hidden_slot (shown_types f)) (into_targets f.body) in
     let vars = variables f.body in
-    let all : Seg slots 0 (params ++ (vars ++ hidden)) = subst (λ xs. Seg slots 0 xs) owned.slots_are (whole slots) in
+    let all : Seg slots 0 (params ++ (vars ++ hidden)) = subst (λ xs. Seg slots 0 xs) (owned.slots_are ∙ append_assoc params vars hidden) (whole slots) in
     let rest : Seg slots (0 + length f.params) (vars ++ hidden) = seg_right slots params (vars ++ hidden) 0 (length f.params) (length-map f.params (λ (p : List ℕ × Ty). slot p.1)) all in
     let behind : 0 + length f.params ≡ length f.params = omega arith in
     subst (λ xs. Seg slots (length f.params) xs) (sym (vars_same (numbers_of f) slots finish f.body)) (subst (λ k. Seg slots k vars) behind (seg_left slots vars hidden (0 + length f.params) rest))
@@ -97,7 +90,7 @@ built_stands f slots owned found =
     let s = setting f slots (built f slots) in
     let B = s.goto.blocks in
     let N = s.goto.nodes in
-    let g = good s found f.body (no_into f slots owned) in
+    let g = good s found f.body in
     let first = body_first f slots in
     let params = param_blocks s.numbers.fixed f.strict f.result 0 f.params 2 first in
     let body = (body_of f slots).blocks (body_place f) [] 1 (body_start f) in
@@ -129,7 +122,7 @@ pub nodes_are : (f : Function) (slots : List Slot) → OwnSlots f slots → Foun
 unfolding laid built_of
 nodes_are f slots owned found =
     let s = setting f slots (built f slots) in
-    let g = good s found f.body (no_into f slots owned) in
+    let g = good s found f.body in
     let first = body_first f slots in
     length-append (param_firsts f.strict f.params 2 first) ((body_of f slots).firsts (body_start f) 1)
     ∙ (λ i. params_nodes s f.result f.strict f.params 2 first i + g.nodes_are (body_start f) 1 i)

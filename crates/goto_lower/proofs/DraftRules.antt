@@ -1,5 +1,5 @@
 -- What a form that is built has, by what was pushed.
-use Rattle.std.proofs.Common.{◌≡◌, ◌≢◌, ℕ, zero, suc, ◌+◌, Bool, true, false, List, [], ◌∷◌, ◌++◌, length, Option, Some, None, refl, ap, ◌∙◌, arith, length-append, append_assoc}
+use Rattle.std.proofs.Common.{◌≡◌, ℕ, zero, suc, ◌+◌, List, [], ◌∷◌, ◌++◌, length, Option, Some, None, refl, ap, ◌∙◌, arith, length-append, append_assoc, append-nil}
 use Rattle.block_forms.specs.declared.forms.Block.{Block}
 use Rattle.block_forms.specs.declared.places.Position.{Position}
 use Rattle.block_forms.specs.declared.forms.Term.{Term}
@@ -29,6 +29,10 @@ extended_length xs d = length-append d.blocks xs
 pub extended_more : (xs ys : List Block) (d : Draft) → extended ys (extended xs d) ≡ extended (xs ++ ys) d
 unfolding extended
 extended_more xs ys d = λ i. record { nodes = d.nodes; blocks = append_assoc d.blocks xs ys i; place = d.place }
+
+pub extended_none : (d : Draft) → extended [] d ≡ d
+unfolding extended
+extended_none d = λ i. record { nodes = d.nodes; blocks = append-nil d.blocks i; place = d.place }
 
 pub three : (x y z : Block) (d : Draft) → pushed z (pushed y (pushed x d)) ≡ extended (x ∷ y ∷ z ∷ []) d
 three x y z d = ap (pushed z) (extended_more (x ∷ []) (y ∷ []) d) ∙ extended_more (x ∷ y ∷ []) (z ∷ []) d

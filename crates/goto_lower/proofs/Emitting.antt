@@ -1,5 +1,5 @@
 -- What is pushed for a statement is what is pushed for its parts, one after the other.
-use Rattle.std.proofs.Common.{◌≡◌, ℕ, zero, suc, ◌+◌, Bool, true, false, List, [], ◌∷◌, ◌++◌, length, Option, Some, None, refl, sym, ap, ◌∙◌, subst, arith, length-append, append_assoc, append-nil}
+use Rattle.std.proofs.Common.{◌≡◌, ℕ, ◌+◌, Bool, false, List, [], ◌∷◌, ◌++◌, length, Option, Some, None, refl, sym, ap, ◌∙◌, arith, length-append, append_assoc, append-nil}
 use Rattle.away_values.specs.declared.values.Class.{Class}
 use Rattle.away_trees.specs.declared.queries.Expr.{Expr}
 use Rattle.away_trees.specs.declared.statements.Decl.{Decl}
@@ -14,34 +14,35 @@ use Rattle.goto_lower.specs.declared.draft.Draft.{Draft}
 use Rattle.goto_lower.specs.Building as spec
 use Rattle.goto_lower.specs.Building.{Built, BuiltArm, first_from, row_size, row_many, row_first, row_blocks, row_firsts, set_many, decls_many, decls_first, decls_firsts, decls_blocks, decl_blocks, grouped, arm_size, arms_size, arms_many, arms_first, arms_blocks, arms_firsts, branched, looped, head_at, for_blocks, count_size, step_many}
 use Rattle.goto_lower.specs.Drafts.{extended, pushed, begun, emitted, emitted_row, emitted_arms, declared, all_declared, started, tested, count_begun}
-use Rattle.goto_lower.proofs.BuiltSizes.{Counted, AllCounted, ArmsCounted, row_from, row_length, decls_from, arms_length, set_length, decls_length, for_length}
-use Rattle.goto_lower.proofs.SizeEquations.{same_place, after_assoc, after_nothing, nothing_after}
+use Rattle.goto_lower.proofs.BuiltSizes.{Counted, AllCounted, ArmsCounted, row_from, row_length, decls_from, arms_length, decls_length, for_length}
+use Rattle.goto_lower.proofs.SetSizes.{set_length}
+use Rattle.goto_lower.proofs.SizeEquations.{after_assoc, after_nothing}
 
 -- first blocks, blocks and a size are added
-abbrev add : List ℕ → List Block → Position → Draft → Draft
+abbrev pub add : List ℕ → List Block → Position → Draft → Draft
 add ns bs p d = record { nodes = d.nodes ++ ns; blocks = d.blocks ++ bs; place = after d.place p }
 
-add_add : (ns ms : List ℕ) (bs cs : List Block) (p q : Position) (d : Draft) → add ms cs q (add ns bs p d) ≡ add (ns ++ ms) (bs ++ cs) (after p q) d
+pub add_add : (ns ms : List ℕ) (bs cs : List Block) (p q : Position) (d : Draft) → add ms cs q (add ns bs p d) ≡ add (ns ++ ms) (bs ++ cs) (after p q) d
 add_add ns ms bs cs p q d = λ i. record { nodes = append_assoc d.nodes ns ms i; blocks = append_assoc d.blocks bs cs i; place = after_assoc d.place p q i }
 
 begun_is : (size : Position) (first : ℕ) (d : Draft) → begun size first d ≡ add (first ∷ []) [] size d
 unfolding begun
 begun_is size first d = λ i. record { nodes = d.nodes ++ first ∷ []; blocks = sym (append-nil d.blocks) i; place = after d.place size }
 
-extended_is : (bs : List Block) (d : Draft) → extended bs d ≡ add [] bs nothing d
+pub extended_is : (bs : List Block) (d : Draft) → extended bs d ≡ add [] bs nothing d
 unfolding extended
 extended_is bs d = λ i. record { nodes = sym (append-nil d.nodes) i; blocks = d.blocks ++ bs; place = sym (after_nothing d.place) i }
 
-abbrev Many : Draft → ℕ
+abbrev pub Many : Draft → ℕ
 Many d = length d.blocks
 
 -- a node with its first blocks
-node_is : (size : Position) (first : ℕ) (bs : List Block) (d : Draft) → extended bs (begun size first d) ≡ add (first ∷ []) bs size d
+pub node_is : (size : Position) (first : ℕ) (bs : List Block) (d : Draft) → extended bs (begun size first d) ≡ add (first ∷ []) bs size d
 unfolding extended begun
 node_is size first bs d = refl
 
 module _ (start : ℕ) (around : Around) (next : ℕ) (d : Draft) (at : Many d ≡ start) where
-  emitted_at : (x : Built) → emitted x around next d ≡ add (x.firsts start next) (x.blocks d.place around next start) x.size d
+  pub emitted_at : (x : Built) → emitted x around next d ≡ add (x.firsts start next) (x.blocks d.place around next start) x.size d
   unfolding emitted
   emitted_at x = λ i. add (x.firsts (at i) next) (x.blocks d.place around next (at i)) x.size d
 

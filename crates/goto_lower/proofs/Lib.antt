@@ -1,6 +1,8 @@
 pub mod Segments
 pub mod Covering
 pub mod Standing
+pub mod SetSizes
+pub mod IntoSizes
 pub mod BuiltRows
 pub mod BuiltSteps
 pub mod BuiltBlocks
@@ -8,6 +10,7 @@ pub mod BuiltBranches
 pub mod BuiltCounts
 pub mod BuiltFew
 pub mod BuiltVars
+pub mod BuiltInto
 pub mod BuiltTrees
 pub mod BuiltWhole
 pub mod Raising
@@ -16,13 +19,16 @@ pub mod SizeEquations
 pub mod BuildingEquations
 pub mod BuiltSizes
 pub mod Emitting
+pub mod IntoWalk
 pub mod Walk
 pub mod WholeWalk
 pub mod BuildingRules
 pub mod ForTests
 pub mod BuiltKeys
 pub mod BuiltFound
+pub mod Everywhere
 pub mod BuiltSafe
+pub mod SafeTrees
 pub mod NodesCounted
 pub mod ReadsOwn
 pub mod BuiltLowered

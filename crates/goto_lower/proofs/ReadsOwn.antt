@@ -1,13 +1,19 @@
--- An expression that reads slots below a number alone has slots below it.
-use Rattle.std.proofs.Common.{◌≡◌, ℕ, zero, suc, ◌<◌, Bool, true, false, cond, not, ◌&&◌, List, [], ◌∷◌, Option, Some, None, nat_eq, nat_lt, refl, arith}
-use Rattle.std.specs.Prelude.{filter, filter_map, slice_get, ◌==◌}
+-- An expression or a select that reads slots below a number alone has slots below it.
+use Rattle.std.proofs.Common.{◌≡◌, ℕ, suc, ◌<◌, Bool, true, false, cond, not, ◌&&◌, List, [], ◌∷◌, nat_lt, refl, ap, ◌∙◌, subst, append-nil}
+use Rattle.std.specs.Prelude.{filter, filter_map, ◌==◌}
 use Rattle.std.specs.List.{list_all}
 use Rattle.std.proofs.lemmas.Bool.{ltb-true}
 use Rattle.away_trees.specs.declared.queries.Expr.{Expr}
-use Rattle.sql_meaning.specs.Reads.{Read, Slot, Param, Table, Outer, reads, allows, slot_of, first_occurrences, slots_of}
+use Rattle.away_trees.specs.declared.queries.Select.{Select}
+use Rattle.away_trees.specs.Algebra.{select_of}
+use Rattle.away_trees.proofs.Equations as eq
+use Rattle.sql_meaning.specs.Reads.{Read, Reads, reading, Slot, Param, Table, Outer, reads, allows, slot_of, first_occurrences, slots_of}
+use Rattle.sql_meaning.specs.Trees.{one}
+use Rattle.plsql_meaning.specs.Sight.{query_of}
+use Rattle.select_into.specs.Wrapped.{select_slots}
 use Rattle.block_forms.specs.OwnSlots.{ReadsBelow}
 use Rattle.block_forms.specs.Places.{Each}
-use Rattle.goto_lower.proofs.BuiltSafe.{Every}
+use Rattle.goto_lower.proofs.Everywhere.{Every}
 
 pub every_from : {X : Type 0} (P : X → Type 0) (xs : List X) → Each P xs → Every P xs
 every_from P [] h = tt
@@ -39,3 +45,11 @@ allowed n tables (Outer c ∷ rs) e = absurd (cc)
 
 pub slots_below : (n : ℕ) (e : Expr) → ReadsBelow n e → Every (λ i. i < n) (slots_of e)
 slots_below n e r = firsts (λ i. i < n) (filter_map slot_of (reads e)) (allowed n r.tables (reads e) r.alone)
+
+-- a select by itself reads what it reads as an expression
+select_reads : (q : Select) → reads (query_of q) ≡ select_of reading q 0
+select_reads q =
+    ap (λ (u : Reads). u 0) (eq.of_scalar reading (one q)) ∙ ap (λ (u : Reads). u 0) (eq.of_query reading (q ∷ [])) ∙ append-nil (select_of reading q 0)
+
+pub select_below : (n : ℕ) (q : Select) → ReadsBelow n (query_of q) → Every (λ i. i < n) (select_slots q)
+select_below n q r = subst (Every (λ i. i < n)) (ap (λ rs. first_occurrences (filter_map slot_of rs)) (select_reads q)) (slots_below n (query_of q) r)

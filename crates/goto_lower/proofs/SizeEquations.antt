@@ -1,5 +1,5 @@
 -- How much a statement has, by its parts.
-use Rattle.std.proofs.Common.{◌≡◌, ℕ, ◌+◌, Bool, List, [], ◌∷◌, length, map, Option, Some, None, refl, ap, ◌∙◌, arith}
+use Rattle.std.proofs.Common.{◌≡◌, ℕ, Bool, List, Option, Some, None, refl, ap, arith}
 use Rattle.away_trees.specs.declared.queries.Expr.{Expr}
 use Rattle.away_trees.specs.declared.queries.Select.{Select}
 use Rattle.away_trees.specs.declared.statements.Arm.{Arm}
@@ -11,7 +11,7 @@ use Rattle.away_trees.specs.declared.statements.Stmt.TheVariants as stmt
 use Rattle.away_trees.proofs.StatementEquations.{of_block, of_loop, of_if, of_cases}
 use Rattle.block_forms.specs.declared.places.Position.{Position}
 use Rattle.plsql_meaning.specs.Outcomes.{Label}
-use Rattle.block_forms.specs.Laid.{Laid, laying, laid, laid_arm, laid_row, laid_arms, place, after, nothing, a_node, with_expr, one_if, decls_size, row_size, arms_size, kind_size}
+use Rattle.block_forms.specs.Laid.{Laid, laying, laid, laid_arm, laid_row, laid_arms, place, after, nothing, a_node, with_expr, one_if, decls_size, row_size, arms_size, kind_size, into_size}
 
 -- of an ELSE, with its node
 unfoldable pub size_of_else : Option (List Stmt) → Position
@@ -49,11 +49,11 @@ pub size_assign : (name : List ℕ) (slot : Option ℕ) (e : Expr) → (laid (st
 unfolding laid
 size_assign name slot e = refl
 
-pub size_exit : (label : Label) (when : Option Expr) → (laid (stmt.Exit label when)).size ≡ place 1 (one_if when) 0 0
+pub size_exit : (label : Label) (when : Option Expr) → (laid (stmt.Exit label when)).size ≡ place 1 (one_if when) 0 0 0
 unfolding laid
 size_exit label when = refl
 
-pub size_continue : (label : Label) (when : Option Expr) → (laid (stmt.Continue label when)).size ≡ place 1 (one_if when) 0 0
+pub size_continue : (label : Label) (when : Option Expr) → (laid (stmt.Continue label when)).size ≡ place 1 (one_if when) 0 0 0
 unfolding laid
 size_continue label when = refl
 
@@ -65,7 +65,7 @@ pub size_raise : (r : Raised) → (laid (stmt.Raise r)).size ≡ a_node
 unfolding laid
 size_raise r = refl
 
-pub size_into : (strict : Bool) (targets : List (List ℕ × Option ℕ)) (query : Select) → (laid (stmt.Into strict targets query)).size ≡ place (1 + length targets) 0 0 0
+pub size_into : (strict : Bool) (targets : List (List ℕ × Option ℕ)) (query : Select) → (laid (stmt.Into strict targets query)).size ≡ into_size strict targets
 unfolding laid
 size_into strict targets query = refl
 
@@ -77,17 +77,17 @@ pub size_arm : (x : Arm) → (laid_arm x).size ≡ after with_expr (row_size (la
 unfolding laid laid_arm
 size_arm x = refl
 
-pub same_place : (a b c d a' b' c' d' : ℕ) → a ≡ a' → b ≡ b' → c ≡ c' → d ≡ d' → place a b c d ≡ place a' b' c' d'
-same_place a b c d a' b' c' d' p q r t = λ i. place (p i) (q i) (r i) (t i)
+pub same_place : (a b c d e a' b' c' d' e' : ℕ) → a ≡ a' → b ≡ b' → c ≡ c' → d ≡ d' → e ≡ e' → place a b c d e ≡ place a' b' c' d' e'
+same_place a b c d e a' b' c' d' e' p q r t v = λ i. place (p i) (q i) (r i) (t i) (v i)
 
 pub after_assoc : (p q r : Position) → after (after p q) r ≡ after p (after q r)
-after_assoc p q r = same_place _ _ _ _ _ _ _ _ (omega arith) (omega arith) (omega arith) (omega arith)
+after_assoc p q r = same_place _ _ _ _ _ _ _ _ _ _ (omega arith) (omega arith) (omega arith) (omega arith) (omega arith)
 
 pub after_nothing : (p : Position) → after p nothing ≡ p
-after_nothing p = same_place _ _ _ _ _ _ _ _ (omega arith) (omega arith) (omega arith) (omega arith)
+after_nothing p = same_place _ _ _ _ _ _ _ _ _ _ (omega arith) (omega arith) (omega arith) (omega arith) (omega arith)
 
 pub nothing_after : (p : Position) → after nothing p ≡ p
-nothing_after p = same_place _ _ _ _ _ _ _ _ (omega arith) (omega arith) (omega arith) (omega arith)
+nothing_after p = same_place _ _ _ _ _ _ _ _ _ _ (omega arith) (omega arith) (omega arith) (omega arith) (omega arith)
 
 pub ruleset size_rules =
     (size_block, size_loop, size_if, size_cases, no_else, else_is, size_assign, size_exit, size_continue, size_return, size_raise, size_into, size_nothing, size_arm, after_assoc, after_nothing)

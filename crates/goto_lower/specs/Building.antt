@@ -23,6 +23,7 @@ use Rattle.away_values.specs.declared.types.Ty.{Ty}
 use Rattle.away_values.specs.declared.types.Ty.TheVariants as ty
 use Rattle.away_values.specs.declared.values.Class.{Class}
 use Rattle.away_trees.specs.declared.queries.Expr.{Expr}
+use Rattle.away_trees.specs.declared.queries.Select.{Select}
 use Rattle.away_trees.specs.declared.statements.Arm.{Arm}
 use Rattle.away_trees.specs.declared.statements.Decl.{Decl}
 use Rattle.away_trees.specs.declared.statements.LoopKind.{LoopKind}
@@ -32,7 +33,7 @@ use Rattle.away_trees.specs.declared.statements.Stmt.TheOpen.{Stmt-F, Arm-F}
 use Rattle.away_trees.specs.declared.statements.Stmt.TheOpen as st
 use Rattle.away_trees.specs.StatementAlgebra.{StatementAlgebra, stmt_of, branch_of}
 use Rattle.away_types.specs.declared.slots.Slot.{Slot}
-use Rattle.plsql_meaning.specs.Outcomes.{Label, invalid_parameter, null_not_allowed, case_not_found}
+use Rattle.plsql_meaning.specs.Outcomes.{Label, invalid_parameter, case_not_found}
 use Rattle.plsql_meaning.specs.Statements.{class_of}
 use Rattle.block_forms.specs.declared.places.Position.{Position}
 use Rattle.block_forms.specs.declared.places.Numbers.{Numbers}
@@ -48,11 +49,11 @@ use Rattle.block_forms.specs.Laid.{
   one_if,
   decl_size,
   decls_size,
+  into_size,
 }
 use Rattle.block_forms.specs.Patterns.{
   source_term,
   null_of,
-  is_null,
   not_positive,
   one,
   copy,
@@ -66,6 +67,15 @@ use Rattle.block_forms.specs.Patterns.{
   fails,
 }
 use Rattle.block_forms.specs.Slots.{slot, slot_of}
+use Rattle.select_into.specs.Entries.{Target}
+pub use Rattle.goto_lower.specs.SlotBlocks.{set_many, slot_many, set_blocks, slot_blocks}
+use Rattle.goto_lower.specs.IntoBlocks.{
+  check_many,
+  into_many,
+  into_first,
+  into_blocks,
+  pick_firsts,
+}
 
 -- How much there is; so many blocks; the first block, from the number at which they begin and the
 -- block that follows; the blocks, from their place, what stands around them and these two; the
@@ -131,44 +141,30 @@ abbrev pub leave_block : Option Expr → ℕ → ℕ → ℕ → Block
 leave_block None k to next = jumps false to
 leave_block (Some e) k to next = branches false (source_term k e) to next
 
--- INTO isn't built
-abbrev pub unbuilt : Built
-unbuilt = record {
-  size = nothing;
-  many = 0;
-  first = λ start next. next;
-  blocks = λ p around next start. [];
-  firsts = λ start next. [];
-  vars = [];
-}
-
 -- ---- setting a slot
 
-abbrev pub set_many : Bool → ℕ
-set_many false = 1
-set_many true = 3
-
-abbrev pub slot_many : Option Slot → ℕ
-slot_many None = 1
-slot_many (Some s) = set_many s.not_null
-
 module _ (n : Numbers) where
-  abbrev pub set_blocks : Bool → Ty → ℕ → Term → ℕ → ℕ → List Block
-  set_blocks false t slot e next start = sets slot e next ∷ []
-  set_blocks true t slot e next start =
-      sets slot e (start + 1) ∷ branches false (is_null n.fixed t slot) (start + 2) next ∷ fails null_not_allowed ∷ []
-
-  abbrev pub slot_blocks : Option Slot → ℕ → Term → ℕ → ℕ → List Block
-  slot_blocks None slot e next start = set_blocks false ty.Bigint slot e next start
-  slot_blocks (Some s) slot e next start = set_blocks s.not_null s.ty slot e next start
-
   abbrev pub assigned : Option Slot → ℕ → Expr → Built
   assigned s slot e = record {
     size = with_expr;
     many = slot_many s;
     first = λ start next. start;
-    blocks = λ p around next start. slot_blocks s slot (source_term p.expr e) next start;
+    blocks = λ p around next start. slot_blocks n s slot (source_term p.expr e) next start;
     firsts = λ start next. start ∷ [];
+    vars = [];
+  }
+
+-- ---- SELECT INTO
+
+module _ (n : Numbers) (slots : List Slot) where
+  abbrev pub into_built : Bool → List Target → Select → Built
+  into_built strict ts q = record {
+    size = into_size strict ts;
+    many = into_many slots strict ts;
+    first = λ start next. into_first strict ts start next;
+    blocks = λ p around next start. into_blocks n slots strict ts q p next start;
+    firsts = λ start next.
+        into_first strict ts start next ∷ pick_firsts ts (start + check_many strict);
     vars = [];
   }
 
@@ -306,7 +302,7 @@ abbrev pub head_at : Option Expr → ℕ → ℕ
 head_at by start = start + 3 + 3 + step_many by
 
 abbrev pub count_size : Option Expr → Position
-count_size by = place 1 (2 + one_if by) 1 1
+count_size by = place 1 (2 + one_if by) 1 1 0
 
 module _ (n : Numbers) where
   -- a bound is set and is not NULL; the next block follows
@@ -366,12 +362,12 @@ module _ (n : Numbers) (slots : List Slot) (finish : ℕ) where
   built_step (st.If arms other) = branched arms other None
   built_step (st.Cases arms other) = branched arms other (Some case_not_found)
   built_step (st.Loop label k body _) = loop_built n label k body
-  built_step (st.Exit label when) = simple (place 1 (one_if when) 0 0) (λ p around next. leave_block when p.expr (exit_to finish around label) next)
-  built_step (st.Continue label when) = simple (place 1 (one_if when) 0 0)
+  built_step (st.Exit label when) = simple (place 1 (one_if when) 0 0 0) (λ p around next. leave_block when p.expr (exit_to finish around label) next)
+  built_step (st.Continue label when) = simple (place 1 (one_if when) 0 0 0)
       (λ p around next. leave_block when p.expr (again_to finish around label) next)
   built_step (st.Return e) = simple with_expr (λ p around next. returns (source_term p.expr e))
   built_step (st.Raise r) = simple a_node (λ p around next. fails (class_of r))
-  built_step (st.Into strict targets query) = unbuilt
+  built_step (st.Into strict targets query) = into_built n slots strict targets query
   built_step st.Nothing = simple a_node (λ p around next. jumps false next)
 
   abbrev pub building : StatementAlgebra

@@ -16,6 +16,7 @@ use Rattle.std.specs.Prelude.{
 }
 use Rattle.away_values.specs.declared.types.Ty.{Ty}
 use Rattle.away_trees.specs.declared.queries.Expr.{Expr}
+use Rattle.away_trees.specs.declared.queries.Select.{Select}
 use Rattle.away_trees.specs.declared.statements.Arm.{Arm}
 use Rattle.away_trees.specs.declared.statements.Decl.{Decl}
 use Rattle.away_trees.specs.declared.statements.Stmt.{Stmt}
@@ -50,6 +51,8 @@ use Rattle.goto_lower.specs.Building.{
   arms_first,
 }
 use Rattle.block_forms.specs.Patterns.{source_term, jumps, branches}
+use Rattle.select_into.specs.Entries.{Target}
+use Rattle.goto_lower.specs.IntoBlocks.{pick_firsts, pick_blocks}
 use Rattle.goto_lower.specs.Whole.{finish, Params, param_firsts, param_blocks}
 
 abbrev pub statement_in : Setting → Stmt → Built
@@ -112,6 +115,15 @@ all_declared n xs next d = record {
   place = after d.place (decls_size xs);
 }
 
+-- the picks of a SELECT INTO, each with its node
+unfoldable pub taken : Numbers → List Target → Select → Draft → Draft
+taken n ts q d = record {
+  nodes = d.nodes ++ pick_firsts ts (length d.blocks);
+  blocks =
+      d.blocks ++ pick_blocks ts d.place.expr (n.targets + d.place.targets) q (length d.blocks);
+  place = after d.place (place (length ts) (length ts) 0 0 (length ts));
+}
+
 -- the blocks of a FOR, but its body's
 abbrev pub count_begun : Numbers → Bool → Expr → Expr → Option Expr → ℕ → ℕ → Draft → Draft
 count_begun n reverse e1 e2 by body next d =
@@ -143,5 +155,5 @@ unfoldable pub begun_params : Numbers → Bool → Ty → Params → ℕ → Dra
 begun_params n strict result ps body d = record {
   nodes = d.nodes ++ param_firsts strict ps (length d.blocks) body;
   blocks = d.blocks ++ param_blocks n.fixed strict result d.place.slot ps (length d.blocks) body;
-  place = after d.place (place (length ps) 0 (length ps) 0);
+  place = after d.place (place (length ps) 0 (length ps) 0 0);
 }

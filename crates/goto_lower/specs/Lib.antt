@@ -1,3 +1,5 @@
+pub mod SlotBlocks
+pub mod IntoBlocks
 pub mod Building
 pub mod Whole
 pub mod Drafts

@@ -3,13 +3,15 @@
 ghost use Rattle.std.specs.Prelude.{◌≡◌, ◌+◌, IfOk, map};
 ghost use Rattle.std.specs.Option.{option_copied};
 ghost use Rattle.goto_lower.specs.Building as spec;
+ghost use Rattle.goto_lower.specs.IntoBlocks.{check_many, put_many, puts_many, into_many};
 ghost use Rattle.goto_lower.specs.Drafts.{statement_in, row_in, arm_in, arms_in};
 
 use crate::setting::Setting;
+use crate::sizes::targets_of;
 use crate::sums::sum;
 use away_trees::{Arm, Decl, Expr, LoopKind, Stmt};
 use away_types::Slot;
-use away_values::NoMemory;
+use away_values::{Name, NoMemory};
 
 pub(crate) fn set_many(not_null: bool) -> u32
     ensures { result ≡ spec.set_many not_null }
@@ -43,6 +45,42 @@ pub(crate) fn step_many(step: &Option<Expr>) -> u32
         None => 1,
         Some(_) => 5,
     }
+}
+
+pub(crate) fn check_many(strict: bool) -> u32
+    ensures { result ≡ check_many strict }
+{
+    if strict { 4 } else { 0 }
+}
+
+pub(crate) fn put_many(setting: &Setting<'_>, target: Option<u32>) -> u32
+    ensures { result ≡ put_many setting.now.slots.now target }
+{
+    match target {
+        None => 1,
+        Some(slot) => slot_many(setting.slot(slot)),
+    }
+}
+
+fn puts_many(setting: &Setting<'_>, targets: &[(Name, Option<u32>)]) -> Result<u32, NoMemory>
+    ensures { IfOk result (λ k. k ≡ puts_many setting.now.slots.now targets.now) }
+{
+    let mut many = 0;
+    for i in 0..targets.len() {
+        many = sum(many, put_many(setting, targets[i].1))?;
+    }
+    Ok(many)
+}
+
+fn into_many(
+    setting: &Setting<'_>,
+    strict: bool,
+    targets: &[(Name, Option<u32>)],
+) -> Result<u32, NoMemory>
+    ensures { IfOk result (λ k. k ≡ into_many setting.now.slots.now strict targets.now) }
+{
+    let puts = puts_many(setting, targets)?;
+    sum(check_many(strict), sum(targets_of(targets)?, puts)?)
 }
 
 #[cycle(many)]
@@ -80,7 +118,11 @@ pub(crate) fn statement_many(setting: &Setting<'_>, s: &Stmt) -> Result<u32, NoM
                 LoopKind::Count { step, .. } => sum(10 + step_many(step), inside),
             }
         }
-        Stmt::Into { .. } => Ok(0),
+        Stmt::Into {
+            strict,
+            targets,
+            ..
+        } => into_many(setting, *strict, targets.as_slice()),
         Stmt::Exit(_, _)
         | Stmt::Continue(_, _)
         | Stmt::Return(_)

@@ -38,9 +38,12 @@ fn numbers_of(f: &Function) -> Result<Numbers, NoMemory>
     ensures { IfOk result (λ n. n ≡ numbers_of f.now) }
 {
     let size = size_of(&f.body)?;
+    let counters = sum(count_of(f.params.len())?, size.slot)?;
+    let hidden = sum(size.fors, sum(size.fors, size.fors)?)?;
     Ok(Numbers {
         fixed: size.expr,
-        counters: sum(count_of(f.params.len())?, size.slot)?,
+        counters,
+        targets: sum(counters, hidden)?,
     })
 }
 
@@ -62,11 +65,11 @@ fn push_params(
             let other = sum(start, 2)?;
             let next = first_of(f.params.len() - (i + 1), other, body);
             let test = is_null(alloc, numbers.fixed, f.params.as_slice()[i].1, k)?;
-            draft.begin(place(1, 0, 1, 0), start)?;
+            draft.begin(place(1, 0, 1, 0, 0), start)?;
             draft.push(branches(false, test, sum(start, 1)?, next))?;
             draft.push(returns(null_of(alloc, numbers.fixed, f.result)?))?;
         } else {
-            draft.begin(place(1, 0, 1, 0), body)?;
+            draft.begin(place(1, 0, 1, 0, 0), body)?;
         }
     }
     Ok(())
@@ -97,7 +100,7 @@ pub(crate) fn lowered(alloc: Global, f: &Function, slots: &[Slot]) -> Result<Got
     let mut draft = Draft {
         nodes: Items::new(alloc),
         blocks: Items::new(alloc),
-        place: place(0, 0, 0, 0),
+        place: place(0, 0, 0, 0, 0),
     };
     let tests = if f.strict { f.params.len() } else { 0 };
     let entry = first_of(tests, 2, body);

@@ -15,6 +15,7 @@ mod shapes;
 mod sizes;
 mod statements;
 mod sums;
+mod targets;
 mod terms;
 
 pub use function::lower;

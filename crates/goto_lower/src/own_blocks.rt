@@ -50,7 +50,7 @@ pub(crate) fn push_leave(
 ) -> Result<(), NoMemory>
     ensures { OnOk result (draft.new
         ≡ pushed (spec.leave_block when.now draft.old.place.expr to next)
-        (begun (laid.place 1 (laid.one_if when.now) 0 0) (length draft.old.blocks) draft.old)) }
+        (begun (laid.place 1 (laid.one_if when.now) 0 0 0) (length draft.old.blocks) draft.old)) }
 {
     let at = draft.place;
     let start = draft.here()?;
@@ -79,7 +79,7 @@ pub(crate) fn push_return(alloc: Global, draft: &mut Draft, e: &Expr) -> Result<
 {
     let at = draft.place;
     let start = draft.here()?;
-    draft.begin(place(1, 1, 0, 0), start)?;
+    draft.begin(place(1, 1, 0, 0, 0), start)?;
     draft.push(returns(source_term(alloc, at.expr, e)?))
 }
 
@@ -89,7 +89,7 @@ pub(crate) fn push_raise(alloc: Global, draft: &mut Draft, raised: &Raised) -> R
         (begun a_node (length draft.old.blocks) draft.old)) }
 {
     let start = draft.here()?;
-    draft.begin(place(1, 0, 0, 0), start)?;
+    draft.begin(place(1, 0, 0, 0, 0), start)?;
     draft.push(fails(raised_class(alloc, raised)?))
 }
 
@@ -107,7 +107,7 @@ pub(crate) fn push_assign(
 {
     let at = draft.place;
     let start = draft.here()?;
-    draft.begin(place(1, 1, 0, 0), start)?;
+    draft.begin(place(1, 1, 0, 0, 0), start)?;
     let term = source_term(alloc, at.expr, e)?;
     push_slot(
         alloc,
@@ -138,11 +138,11 @@ pub(crate) fn push_head(
     let first = first_of(inside as usize, sum(start, 1)?, start);
     match test {
         None => {
-            draft.begin(place(1, 0, 0, 0), start)?;
+            draft.begin(place(1, 0, 0, 0, 0), start)?;
             draft.push(jumps(true, first))?;
         }
         Some(e) => {
-            draft.begin(place(1, 1, 0, 0), start)?;
+            draft.begin(place(1, 1, 0, 0, 0), start)?;
             draft.push(branches(true, source_term(alloc, at.expr, e)?, first, next))?;
         }
     }
@@ -165,7 +165,7 @@ pub(crate) fn push_test(
 {
     let at = draft.place;
     let start = draft.here()?;
-    draft.begin(place(1, 1, 0, 0), start)?;
+    draft.begin(place(1, 1, 0, 0, 0), start)?;
     draft.push(branches(false, source_term(alloc, at.expr, test)?, first, other))
 }
 
@@ -185,6 +185,6 @@ pub(crate) fn push_start(
     let start = draft.here()?;
     let many = decls_many(decls)?;
     let first = first_of(inside as usize, sum(start, many)?, next);
-    draft.begin(place(1, 0, 0, 0), first_of(many as usize, start, first))?;
+    draft.begin(place(1, 0, 0, 0, 0), first_of(many as usize, start, first))?;
     push_decls(alloc, setting.numbers, draft, decls, first)
 }

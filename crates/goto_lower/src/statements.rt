@@ -18,6 +18,7 @@ use crate::own_blocks::{
 use crate::setting::Setting;
 use crate::shapes::fails;
 use crate::sums::{place, sum};
+use crate::targets::{Into, push_into};
 use away_trees::{Arm, LoopKind, Stmt};
 use away_values::{Name, NoMemory, sqlstate};
 use std::alloc::Global;
@@ -78,7 +79,7 @@ pub(crate) fn push_statement(
             push_row(alloc, setting, draft, body.as_slice(), &flow)
         }
         Stmt::Assign(_, target, e) => match target {
-            None => push_jump(draft, place(1, 1, 0, 0), flow.next),
+            None => push_jump(draft, place(1, 1, 0, 0, 0), flow.next),
             Some(slot) => push_assign(alloc, setting, draft, *slot, e, flow.next),
         },
         Stmt::If(arms, other) => match other {
@@ -125,8 +126,19 @@ pub(crate) fn push_statement(
         }
         Stmt::Return(e) => push_return(alloc, draft, e),
         Stmt::Raise(raised) => push_raise(alloc, draft, raised),
-        Stmt::Into { .. } => Ok(()),
-        Stmt::Nothing => push_jump(draft, place(1, 0, 0, 0), flow.next),
+        Stmt::Into {
+            strict,
+            targets,
+            query,
+        } => {
+            let into = Into {
+                strict: *strict,
+                targets: targets.as_slice(),
+                query,
+            };
+            push_into(alloc, setting, draft, &into, flow.next)
+        }
+        Stmt::Nothing => push_jump(draft, place(1, 0, 0, 0, 0), flow.next),
     }
 }
 
@@ -199,7 +211,7 @@ fn push_tests(
         (frames_of flow.now.around.now) flow.now.next lack draft.old) }
 {
     let first = first_of(arms.len(), draft.here()?, lack);
-    draft.begin(place(1, 0, 0, 0), first)?;
+    draft.begin(place(1, 0, 0, 0, 0), first)?;
     push_arms(alloc, setting, draft, arms, flow, lack)
 }
 
@@ -217,7 +229,7 @@ fn push_other(
     ensures { OnOk result (draft.new ≡ emitted_row (row_in setting.now body.now)
         (frames_of flow.now.around.now) flow.now.next (begun a_node first draft.old)) }
 {
-    draft.begin(place(1, 0, 0, 0), first)?;
+    draft.begin(place(1, 0, 0, 0, 0), first)?;
     push_row(alloc, setting, draft, body, flow)
 }
 

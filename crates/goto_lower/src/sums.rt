@@ -16,14 +16,15 @@ pub(crate) fn sum(a: u32, b: u32) -> Result<u32, NoMemory>
     }
 }
 
-pub(crate) fn place(node: u32, expr: u32, slot: u32, fors: u32) -> Position
-    ensures { result ≡ spec.place node expr slot fors }
+pub(crate) fn place(node: u32, expr: u32, slot: u32, fors: u32, targets: u32) -> Position
+    ensures { result ≡ spec.place node expr slot fors targets }
 {
     Position {
         node,
         expr,
         slot,
         fors,
+        targets,
     }
 }
 
@@ -36,5 +37,6 @@ pub(crate) fn after(p: Position, q: Position) -> Result<Position, NoMemory>
         expr: sum(p.expr, q.expr)?,
         slot: sum(p.slot, q.slot)?,
         fors: sum(p.fors, q.fors)?,
+        targets: sum(p.targets, q.targets)?,
     })
 }

@@ -4,9 +4,10 @@ ghost use Rattle.std.specs.Prelude.{◌≡◌, [], ◌∷◌, IfOk};
 ghost use Rattle.block_forms.specs.Patterns as spec;
 
 use crate::sums::sum;
-use away_trees::Expr;
+use away_trees::{Expr, Select};
 use away_values::{NoMemory, Ty};
 use block_forms::{Fixed, Term};
+use select_into::select_slots;
 use sqlite_items::Items;
 use std::alloc::Global;
 use tree_events::slots_of;
@@ -17,6 +18,16 @@ pub(crate) fn source_term(alloc: Global, k: u32, e: &Expr) -> Result<Term, NoMem
     Ok(Term {
         expr: k,
         names: slots_of(alloc, e)?,
+    })
+}
+
+/// An entry of a SELECT INTO, which reads what its select reads.
+pub(crate) fn select_term(alloc: Global, k: u32, query: &Select) -> Result<Term, NoMemory>
+    ensures { IfOk result (λ t. t ≡ spec.select_term k query.now) }
+{
+    Ok(Term {
+        expr: k,
+        names: select_slots(alloc, query)?,
     })
 }
 

@@ -7,7 +7,6 @@ use Rattle.std.specs.Prelude.{
   ◌+◌,
   Bool,
   true,
-  false,
   ◌&&◌,
   ◌||◌,
   ◌==◌,
@@ -20,6 +19,8 @@ use Rattle.std.specs.Prelude.{
   None,
 }
 use Rattle.away_trees.specs.declared.queries.Expr.{Expr}
+use Rattle.away_trees.specs.declared.queries.Expr.TheVariants as expr
+use Rattle.away_trees.specs.declared.queries.Expr.TheViews.{roll-Query}
 use Rattle.away_trees.specs.declared.queries.Select.{Select}
 use Rattle.away_trees.specs.declared.statements.Decl.{Decl}
 use Rattle.away_trees.specs.declared.statements.LoopKind.{LoopKind}
@@ -128,10 +129,17 @@ module _ (r : Readers) where
   abbrev pub reads_in_sight : Stmt → ℕ → Sight → Bool
   reads_in_sight s = (stmt_of seeing s).sees
 
+-- a select as the only one of a subquery
+abbrev pub query_of : Select → Expr
+query_of s = expr.Scalar (roll-Query (record { recursive = None; selects = s ∷ [] }))
+
 -- Over so many tables an expression reads slots in sight, these tables and no parameter of a query.
--- SELECT INTO isn't spoken of.
+-- So does the select of an INTO.
 abbrev pub of_expressions : ℕ → Readers
-of_expressions tables = record { expr = λ sight e. fits sight 0 tables e; select = λ sight s. false }
+of_expressions tables = record {
+  expr = λ sight e. fits sight 0 tables e;
+  select = λ sight s. fits sight 0 tables (query_of s);
+}
 
 -- ---- what it means
 

@@ -5,8 +5,9 @@ use Rattle.away_grammar.specs.declared.grammar.Mark.TheVariants as m
 use Rattle.away_grammar.specs.Terminals.{Terminal, mark, name}
 use Rattle.away_grammar.specs.Grammar.{mark_binds, StopsAt, perhaps}
 use Rattle.away_grammar.specs.FunctionGrammar as g
-use Rattle.away_grammar.specs.FunctionGrammar.{Part, PartTree, ReadsPart, decl, default, statement, elsifs, whens, otherwise, condition, block, repeated, kind, step, parameters, signature, attribute_of, gives_default}
+use Rattle.away_grammar.specs.FunctionGrammar.{Part, PartTree, ReadsPart, decl, default, statement, elsifs, whens, otherwise, condition, targets, clauses, block, repeated, kind, step, parameters, signature, attribute_of, gives_default}
 use Rattle.sql_text.specs.Plans.{Begins}
+use Rattle.sql_text.proofs.CompleteStops.{followed}
 use Rattle.plsql_parse.specs.Sorts.{is_name}
 use Rattle.plsql_parse.specs.Bodies.{next, closes, opens, opens_block}
 use Rattle.plsql_parse.specs.Headers.{is_over}
@@ -27,6 +28,9 @@ begins_next test terminal e b = let k : next test _ ≡ test terminal = ap (next
 pub stops_at : {ts : List Terminal} (terminal : Mark) → mark_binds terminal < 21 → Begins ts terminal → StopsAt 21 ts
 stops_at terminal h b = subst (λ ts. StopsAt 21 ts) (sym b.1) h
 
+pub semicolon_stops : {ts : List Terminal} → Begins ts m.Semicolon → StopsAt 6 ts
+semicolon_stops b = subst (λ ts. StopsAt 6 ts) (sym b.1) (lit< tt)
+
 closes_too : (ts : List Terminal) → next closes_arms ts ≡ true → next closes ts ≡ true
 closes_too (mark m.End ∷ ts) e = refl
 closes_too (mark m.Else ∷ ts) e = refl
@@ -43,6 +47,8 @@ Beginning elsifs ts rest = next closes_arms rest ≡ true → next closes ts ≡
 Beginning whens ts rest = next closes_arms rest ≡ true → next closes ts ≡ true
 Beginning otherwise ts rest = Begins rest m.End → next closes_arms ts ≡ true
 Beginning condition ts rest = Begins rest m.Semicolon → is_name ts ≡ false
+Beginning targets ts rest = is_name ts ≡ true
+Beginning (clauses list) ts rest = Begins rest m.Semicolon → StopsAt 10 ts
 Beginning (block label) ts rest = (next opens ts ≡ true) × (next opens_block ts ≡ true)
 Beginning (repeated label) ts rest = (next opens ts ≡ true) × (next opens_block ts ≡ false)
 Beginning kind ts rest = Begins rest m.Loop → (next opens ts ≡ true) × (next opens_block ts ≡ false)
@@ -101,6 +107,11 @@ beginning (g.exit_of label d) = refl
 beginning (g.continue_of label d) = refl
 beginning (g.raise_message w) = refl
 beginning (g.raise_state w) = refl
+beginning g.last_target = refl
+beginning (g.another_target d) = refl
+beginning (g.clauses_of a b c d) = λ e. followed a (followed b (followed c (followed d (semicolon_stops e))))
+beginning (g.select_into d e f) = refl
+beginning (g.list_into d e f) = refl
 beginning (g.parameter_of w t e) = no_close _ _ _ w
 beginning (g.last_parameter d) = beginning d
 beginning (g.another_parameter d e) = beginning d

@@ -46,16 +46,17 @@ maybe_named plan (Some n) h d = perhaps_found name_in (λ n. plan (Some n)) (sym
 
 -- ---- marks that begin no statement
 
-pub begins_none : (terminal : Mark) {ts new : List Terminal} → ¬ (terminal ≡ m.Null) → ¬ (terminal ≡ m.Return) → ¬ (terminal ≡ m.If) → ¬ (terminal ≡ m.Case) → ¬ (terminal ≡ m.Exit) → ¬ (terminal ≡ m.Continue) → ¬ (terminal ≡ m.Raise)
+pub begins_none : (terminal : Mark) {ts new : List Terminal} → ¬ (terminal ≡ m.Null) → ¬ (terminal ≡ m.Return) → ¬ (terminal ≡ m.If) → ¬ (terminal ≡ m.Case) → ¬ (terminal ≡ m.Exit) → ¬ (terminal ≡ m.Continue) → ¬ (terminal ≡ m.Raise) → ¬ (terminal ≡ m.Select)
     → PartGives statement (marked_plan terminal) ts (Err NoTree) new
-begins_none m.Null a b c d e f g = absurd (a refl)
-begins_none m.Return a b c d e f g = absurd (b refl)
-begins_none m.If a b c d e f g = absurd (c refl)
-begins_none m.Case a b c d e f g = absurd (d refl)
-begins_none m.Exit a b c d e f g = absurd (e refl)
-begins_none m.Continue a b c d e f g = absurd (f refl)
-begins_none m.Raise a b c d e f g = absurd (g refl)
-begins_none _ a b c d e f g = failed
+begins_none m.Null a b c d e f g h = absurd (a refl)
+begins_none m.Return a b c d e f g h = absurd (b refl)
+begins_none m.If a b c d e f g h = absurd (c refl)
+begins_none m.Case a b c d e f g h = absurd (d refl)
+begins_none m.Exit a b c d e f g h = absurd (e refl)
+begins_none m.Continue a b c d e f g h = absurd (f refl)
+begins_none m.Raise a b c d e f g h = absurd (g refl)
+begins_none m.Select a b c d e f g h = absurd (h refl)
+begins_none _ a b c d e f g h = failed
 
 -- ---- the end of a statement
 

@@ -1,11 +1,15 @@
 -- Bodies: what the grammar reads, the plans give, step by step.
-use Rattle.std.proofs.Common.{◌≡◌, ℕ, Bool, true, false, List, [], ◌∷◌, Option, Some, None, refl, ap, lit<}
+use Rattle.std.proofs.Common.{◌≡◌, ℕ, Bool, true, false, List, [], ◌∷◌, Option, Some, None, refl, ap, lit<, lit≤}
 use Rattle.std.specs.Prelude.{codes}
 use Rattle.away_grammar.specs.declared.grammar.Mark.{Mark}
 use Rattle.away_grammar.specs.declared.grammar.Mark.TheVariants as m
 use Rattle.away_grammar.specs.declared.grammar.Level.TheVariants as l
 use Rattle.away_values.specs.declared.types.Ty.{Ty}
 use Rattle.away_trees.specs.declared.queries.Expr.{Expr}
+use Rattle.away_trees.specs.declared.queries.FromItem.{FromItem}
+use Rattle.away_trees.specs.declared.queries.Item.{Item}
+use Rattle.away_trees.specs.declared.queries.Key.{Key}
+use Rattle.away_trees.specs.declared.queries.Select.{Select}
 use Rattle.away_trees.specs.declared.statements.Decl.{Decl}
 use Rattle.away_trees.specs.declared.statements.Arm.{Arm}
 use Rattle.away_trees.specs.declared.statements.LoopKind.{LoopKind}
@@ -14,16 +18,20 @@ use Rattle.away_trees.specs.declared.statements.Raised.TheVariants as r
 use Rattle.away_trees.specs.declared.statements.Stmt.{Stmt}
 use Rattle.away_trees.specs.declared.statements.Stmt.TheVariants as s
 use Rattle.away_grammar.specs.Terminals.{Terminal, mark, name, string}
-use Rattle.away_grammar.specs.Grammar.{at, Reads, perhaps, not_null, type_named}
-use Rattle.away_grammar.specs.FunctionGrammar.{decl, decls, default, statement, statements, branch, elsifs, whens, otherwise, condition, block, repeated, kind, step, body, labelled, perhaps_name, either, gives_default, assigns, opens_loop}
+use Rattle.away_grammar.specs.Grammar.{at, items, from_clause, where_clause, order_clause, limit_clause, Reads, perhaps, not_null, type_named, StopsAt}
+use Rattle.away_grammar.specs.FunctionGrammar.{decl, decls, default, statement, statements, branch, elsifs, whens, otherwise, condition, targets, into, clauses, Target, block, repeated, kind, step, body, labelled, perhaps_name, either, gives_default, assigns, opens_loop}
 use Rattle.sql_text.specs.Plans.{Begins, done, eat, expect, ends, takes, eats, leaves, sees, misses, reads}
 use Rattle.sql_text.specs.TerminalKinds.{name_in, type_in}
 use Rattle.sql_text.proofs.Starts.{starts, cannot_begin}
 use Rattle.sql_text.proofs.CompleteSteps.{other_mark, other_terminal}
+use Rattle.sql_text.proofs.Complete.{complete}
+use Rattle.sql_text.proofs.CompleteStops.{followed, no_mark}
+use Rattle.sql_text.specs.Descent.{select_with}
 use Rattle.plsql_parse.specs.Sorts.{string_in, is_name}
 use Rattle.plsql_parse.specs.Bodies.{next, closes, opens, default_plan, default_value, valued_plan, typed_plan, counted_plan, value_plan, raised_plan, raise_plan, left_plan, labelled_plan, outermost_plan, statement_plan}
 use Rattle.plsql_parse.specs.Stops.{closes_arms}
-use Rattle.plsql_parse.proofs.Beginnings.{Beginning, other_begins, not_next, begins_next, stops_at}
+use Rattle.plsql_parse.proofs.Beginnings.{Beginning, other_begins, not_next, begins_next, stops_at, semicolon_stops}
+use Rattle.plsql_parse.proofs.Lifted.{lifted_runs}
 use Rattle.plsql_parse.proofs.RunSteps.{PartRuns, GivenPart, expression_run, wants, maybe_name_run}
 
 -- ---- declarations
@@ -208,6 +216,52 @@ pub given_raise_state : {rest : List Terminal} {z : List ℕ} (w : Bool)
     → GivenPart statement (mark m.Raise ∷ perhaps w (name (codes "exception")) (name (codes "sqlstate") ∷ string z ∷ mark m.Semicolon ∷ rest)) (s.Raise (r.State z)) rest
 given_raise_state w stops =
     leaves (other_mark (λ same. absurd (cc same))) (misses refl (takes (exception_run w (sees refl (takes (wants string_in _ refl (eats ends)))) (λ d. misses refl d))))
+
+-- ---- SELECT INTO
+
+pub given_last_target : {rest : List Terminal} {n : List ℕ} → GivenPart targets (name n ∷ rest) ((n, None) ∷ []) rest
+given_last_target stops = wants name_in _ refl (leaves stops ends)
+
+pub given_another_target : {middle rest : List Terminal} {n : List ℕ} {ns : List Target} → GivenPart targets middle ns rest
+    → GivenPart targets (name n ∷ mark m.Comma ∷ middle) ((n, None) ∷ ns) rest
+given_another_target d stops = wants name_in _ refl (eats (reads (d stops) ends))
+
+name_first : {ts : List Terminal} (terminal : Mark) → is_name ts ≡ true → ¬ (Begins ts terminal)
+name_first terminal e b = let k : is_name _ ≡ false = ap is_name b.1 in cc (e, k)
+
+pub given_into_of : {ts rest : List Terminal} {ns : List Target} (w : Bool) → Beginning targets ts rest → GivenPart targets ts ns rest
+    → GivenPart into (perhaps w (mark m.Strict) ts) (w, ns) rest
+given_into_of true begins d stops = eats (reads (d stops) ends)
+given_into_of false begins d stops = leaves (name_first m.Strict begins) (reads (d stops) ends)
+
+pub given_clauses_of : {ts after middle before rest : List Terminal} {xs : List Item} {fs : List FromItem} {w : Option Expr} {ks : List Key} {n : Option Expr}
+    → Reads from_clause ts fs after → Reads where_clause after w middle → Reads order_clause middle ks before → Reads limit_clause before n rest
+    → GivenPart (clauses xs) ts (select_with xs fs w ks n) rest
+given_clauses_of {after = after} {middle = middle} {before = before} {rest = rest} a b c d stops =
+    let at_rest : StopsAt 6 rest = semicolon_stops stops in
+    let at_before : StopsAt 7 before = followed d at_rest in
+    let at_middle : StopsAt 8 middle = followed c at_before in
+    let at_after : StopsAt 9 after = followed b at_middle in
+    reads (lifted_runs (complete a at_after)) (reads (lifted_runs (complete b at_middle))
+    (reads (lifted_runs (complete c at_before)) (reads (lifted_runs (complete d at_rest)) ends)))
+
+pub given_select_into : {ts after middle rest : List Terminal} {w : Bool} {ns : List Target} {xs : List Item} {q : Select}
+    → Reads items after xs middle → Beginning (clauses xs) middle (mark m.Semicolon ∷ rest)
+    → GivenPart into ts (w, ns) after → GivenPart (clauses xs) middle q (mark m.Semicolon ∷ rest)
+    → GivenPart statement (mark m.Select ∷ mark m.Into ∷ ts) (s.Into w ns q) rest
+given_select_into c begins d e stops =
+    leaves (other_mark (λ same. absurd (cc same))) (misses refl (takes (eats
+    (reads (d (cannot_begin (starts c) (lit< tt))) (reads (lifted_runs (complete c (begins (_, refl)))) (reads (e (_, refl)) (eats ends)))))))
+
+pub given_list_into : {ts after middle rest : List Terminal} {w : Bool} {ns : List Target} {xs : List Item} {q : Select}
+    → Reads items ts xs (mark m.Into ∷ after) → Beginning (clauses xs) middle (mark m.Semicolon ∷ rest)
+    → GivenPart into after (w, ns) middle → GivenPart (clauses xs) middle q (mark m.Semicolon ∷ rest)
+    → GivenPart statement (mark m.Select ∷ ts) (s.Into w ns q) rest
+given_list_into {middle = middle} c begins d e stops =
+    leaves (other_mark (λ same. absurd (cc same))) (misses refl (takes (leaves (cannot_begin (starts c) (lit< tt))
+    (reads (lifted_runs (complete c (lit< tt))) (eats (reads (d (no_mark 10 middle m.Comma (lit≤ tt) (begins (_, refl)))) (reads (e (_, refl)) (eats ends))))))))
+
+-- ---- lists of statements
 
 pub given_no_statement : {ts : List Terminal} → GivenPart statements ts [] ts
 given_no_statement stops = sees stops ends

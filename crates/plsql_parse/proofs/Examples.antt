@@ -11,7 +11,7 @@ use Rattle.plsql_parse.specs.Plans.{any_plan, part_plan}
 use Rattle.plsql_parse.specs.Stops.{StopsPart}
 use Rattle.away_grammar.specs.OutsideWords.{is_outside}
 use Rattle.plsql_parse.specs.WorkedTokens.{OutsideWordsFound}
-use Rattle.plsql_parse.specs.WorkedTerminals.{collatz_outer, collatz_body, walk_outer, walk_body, many_terminals, many_statements, unpaired_terminals}
+use Rattle.plsql_parse.specs.WorkedTerminals.{collatz_outer, collatz_body, walk_outer, walk_body, many_terminals, many_statements, into_terminals, into_statements, unlisted_terminals, unpaired_terminals}
 use Rattle.plsql_parse.proofs.Sound.{sound}
 use Rattle.plsql_parse.proofs.OneTree.{nothing_read}
 use Rattle.plsql_parse.proofs.Trying.{tried, tried_runs}
@@ -41,6 +41,14 @@ walk_read = tried_reads 200 refl
 pub many_read : ReadsPart body many_terminals many_statements []
 unfolding word_mark symbol_mark number type_named
 many_read = tried_reads 200 refl
+
+pub into_read : ReadsPart body into_terminals into_statements []
+unfolding word_mark symbol_mark number type_named
+into_read = tried_reads 200 refl
+
+pub unlisted_unread : (x : Stmt) → ¬ (ReadsPart body unlisted_terminals x [])
+unfolding word_mark symbol_mark number type_named
+unlisted_unread x d = tried_fails 200 refl d refl
 
 pub unpaired_unread : (x : Stmt) → ¬ (ReadsPart body unpaired_terminals x [])
 unfolding word_mark symbol_mark number type_named

@@ -19,3 +19,4 @@ pub mod WholeFile
 pub mod HeaderLoops
 pub mod BodySteps
 pub mod BodyLoops
+pub mod TargetLoops

@@ -1,7 +1,7 @@
 -- What the plan of a part gives, the grammar reads.
 use Rattle.std.proofs.Common.{List, Some, refl}
 use Rattle.away_grammar.specs.Terminals.{Terminal}
-use Rattle.away_grammar.specs.FunctionGrammar.{Part, PartTree, ReadsPart, decl, decls, default, statement, statements, branch, elsifs, whens, otherwise, condition, block, repeated, kind, step, body, parameter, parameters, signature, attribute_of, attributes, function}
+use Rattle.away_grammar.specs.FunctionGrammar.{Part, PartTree, ReadsPart, decl, decls, default, statement, statements, branch, elsifs, whens, otherwise, condition, targets, into, clauses, block, repeated, kind, step, body, parameter, parameters, signature, attribute_of, attributes, function}
 use Rattle.sql_text.specs.Plans.{Runs}
 use Rattle.sql_text.specs.Descent.{plan}
 use Rattle.sql_text.proofs.Holds.{Holds, Nothing, here, plan_gives}
@@ -10,7 +10,7 @@ use Rattle.plsql_parse.specs.Sorts.{AnySort, sql, part, AnyTree, ReadsAny}
 use Rattle.plsql_parse.specs.Plans.{any_plan, part_plan}
 use Rattle.plsql_parse.proofs.Lifted.{lifted_holds}
 use Rattle.plsql_parse.proofs.HoldsMore.{PartHolds}
-use Rattle.plsql_parse.proofs.SoundBodies.{default_holds, decl_holds, decls_hold, block_holds, repeated_holds, kind_holds, step_holds, branch_holds, elsifs_hold, whens_hold, otherwise_holds, condition_holds, statement_holds, statements_hold, body_holds}
+use Rattle.plsql_parse.proofs.SoundBodies.{targets_hold, into_holds, clauses_hold, default_holds, decl_holds, decls_hold, block_holds, repeated_holds, kind_holds, step_holds, branch_holds, elsifs_hold, whens_hold, otherwise_holds, condition_holds, statement_holds, statements_hold, body_holds}
 use Rattle.plsql_parse.proofs.SoundHeaders.{parameter_holds, parameters_hold, signature_holds, attribute_holds, attributes_hold, function_holds}
 
 part_holds : (p : Part) → PartHolds p (part_plan p) Nothing here
@@ -24,6 +24,9 @@ part_holds elsifs = elsifs_hold
 part_holds whens = whens_hold
 part_holds otherwise = otherwise_holds
 part_holds condition = condition_holds
+part_holds targets = targets_hold
+part_holds into = into_holds
+part_holds (clauses list) = clauses_hold list
 part_holds (block label) = block_holds label
 part_holds (repeated label) = repeated_holds label
 part_holds kind = kind_holds

@@ -3,16 +3,17 @@ use Rattle.std.proofs.Common.{ℕ, Bool, true, false, List, [], ◌∷◌, Optio
 use Rattle.std.specs.Prelude.{codes}
 use Rattle.away_grammar.specs.declared.grammar.Mark.{Mark}
 use Rattle.away_grammar.specs.declared.grammar.Mark.TheVariants as m
+use Rattle.away_trees.specs.declared.queries.Item.{Item}
 use Rattle.away_trees.specs.declared.statements.Raised.TheVariants as r
 use Rattle.away_trees.specs.declared.statements.Stmt.TheVariants as s
 use Rattle.away_grammar.specs.Terminals.{Terminal, mark, name}
 use Rattle.away_grammar.specs.Grammar.{perhaps}
 use Rattle.away_grammar.specs.FunctionGrammar as g
-use Rattle.away_grammar.specs.FunctionGrammar.{Part, decl, decls, default, statement, statements, branch, elsifs, whens, otherwise, condition, block, repeated, kind, step, body, labelled}
+use Rattle.away_grammar.specs.FunctionGrammar.{Part, decl, decls, default, statement, statements, branch, elsifs, whens, otherwise, condition, targets, into, clauses, block, repeated, kind, step, body, labelled}
 use Rattle.sql_text.specs.Plans.{done}
 use Rattle.sql_text.proofs.Holds.{Nothing, here, name_taken, type_taken}
 use Rattle.plsql_parse.specs.Sorts.{ReadsAny}
-use Rattle.plsql_parse.specs.Bodies.{default_plan, typed_plan, decl_plan, decls_plan, statement_plan, statements_plan, branch_plan, elsifs_plan, whens_plan, otherwise_plan, condition_plan, block_plan, repeated_plan, counted_plan, kind_plan, step_plan, text_plan, raised_plan, left_plan, marked_plan, statement_by, labelled_plan, outermost_plan, body_plan}
+use Rattle.plsql_parse.specs.Bodies.{default_plan, typed_plan, decl_plan, decls_plan, statement_plan, statements_plan, branch_plan, elsifs_plan, whens_plan, otherwise_plan, condition_plan, block_plan, repeated_plan, counted_plan, kind_plan, step_plan, text_plan, raised_plan, left_plan, marked_plan, statement_by, labelled_plan, outermost_plan, body_plan, targets_plan, into_plan, clauses_plan}
 use Rattle.plsql_parse.proofs.HoldsMore.{PartHolds, beside, maybe_name_holds, eat_word_holds, string_taken}
 
 -- ---- declarations
@@ -75,6 +76,15 @@ otherwise_holds = (λ ss ts k. g.else_of k.2, λ ts k. g.no_else)
 pub condition_holds : PartHolds condition condition_plan Nothing here
 condition_holds = (λ x ts k. g.condition_of k.2, λ ts k. g.no_condition)
 
+pub targets_hold : PartHolds targets targets_plan Nothing here
+targets_hold = (tt, name_taken ReadsAny _ _ _ (λ n. (λ ns ts k. g.another_target k.2, λ ts k. g.last_target)))
+
+pub into_holds : PartHolds into into_plan Nothing here
+into_holds = (λ ns ts k. g.into_of true k.2, λ ns ts k. g.into_of false k.2)
+
+pub clauses_hold : (list : List Item) → PartHolds (clauses list) (clauses_plan list) Nothing here
+clauses_hold list fs w ks n = λ ts k. g.clauses_of k.1.1.1.2 k.1.1.2 k.1.2 k.2
+
 raised_holds : (w : Bool) → PartHolds statement raised_plan Nothing (λ ts k. mark m.Raise ∷ perhaps w (name (codes "exception")) ts)
 raised_holds w =
     eat_word_holds Nothing (λ ts k. mark m.Raise ∷ perhaps w (name (codes "exception")) ts) (codes "sqlstate") (text_plan r.State) (text_plan r.Message)
@@ -89,6 +99,10 @@ mark_holds m.Case = (λ a more other. (((λ ts k. g.cases_of k.1.1.2 k.1.2 k.2, 
 mark_holds m.Exit = maybe_name_holds Nothing (λ ts k. mark m.Exit ∷ ts) (λ label. left_plan (s.Exit label)) (λ label x. (λ ts k. g.exit_of label k.2, tt))
 mark_holds m.Continue = maybe_name_holds Nothing (λ ts k. mark m.Continue ∷ ts) (λ label. left_plan (s.Continue label)) (λ label x. (λ ts k. g.continue_of label k.2, tt))
 mark_holds m.Raise = eat_word_holds Nothing (λ ts k. mark m.Raise ∷ ts) (codes "exception") raised_plan raised_plan (raised_holds true) (raised_holds false)
+mark_holds m.Select = (
+  λ x list q. (λ ts k. g.select_into k.1.1.2 k.1.2 k.2, tt),
+  λ list. (λ x q. (λ ts k. g.list_into k.1.1.2 k.1.2 k.2, tt), tt),
+)
 mark_holds _ = tt
 
 statement_taken : (s : Terminal) → PartHolds statement (statement_by (Some s)) Nothing (λ ts k. s ∷ ts)

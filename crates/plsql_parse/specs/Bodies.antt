@@ -4,6 +4,7 @@ use Rattle.away_grammar.specs.declared.grammar.Mark.{Mark}
 use Rattle.away_grammar.specs.declared.grammar.Mark.TheVariants as m
 use Rattle.away_values.specs.declared.types.Ty.{Ty}
 use Rattle.away_trees.specs.declared.queries.Expr.{Expr}
+use Rattle.away_trees.specs.declared.queries.Item.{Item}
 use Rattle.away_trees.specs.declared.statements.Decl.{Decl}
 use Rattle.away_trees.specs.declared.statements.LoopKind.{LoopKind}
 use Rattle.away_trees.specs.declared.statements.LoopKind.TheVariants as k
@@ -31,9 +32,16 @@ use Rattle.away_grammar.specs.FunctionGrammar.{
   step,
   body,
   opens_loop,
+  targets,
+  into,
+  clauses,
+  Target,
 }
+use Rattle.away_grammar.specs.Grammar.{items, from_clause, where_clause, order_clause, limit_clause}
+use Rattle.sql_text.specs.Descent.{select_with}
 use Rattle.sql_text.specs.Plans.{done, fail, take, eat, look, read, want, expect}
 use Rattle.plsql_parse.specs.Sorts.{
+  sql,
   part,
   PartPlan,
   expression,
@@ -195,6 +203,44 @@ raised_plan = eat_word (codes "sqlstate") (text_plan r.State) (text_plan r.Messa
 abbrev pub raise_plan : PartPlan statement
 raise_plan = eat_word (codes "exception") raised_plan raised_plan
 
+-- ---- SELECT INTO
+
+abbrev pub targets_plan : PartPlan targets
+targets_plan =
+    a_name (λ n. eat m.Comma
+    (read (part targets) (λ ns. done ((n, None) ∷ ns)))
+    (done ((n, None) ∷ [])))
+
+-- behind INTO, and STRICT where it is written
+abbrev pub strict_plan : Bool → PartPlan into
+strict_plan strict = read (part targets) (λ ns. done (strict, ns))
+
+abbrev pub into_plan : PartPlan into
+into_plan = eat m.Strict (strict_plan true) (strict_plan false)
+
+abbrev pub clauses_plan : (list : List Item) → PartPlan (clauses list)
+clauses_plan list =
+    read (sql from_clause) (λ fs. read (sql where_clause)
+    (λ w. read (sql order_clause) (λ ks. read (sql limit_clause)
+    (λ n. done (select_with list fs w ks n)))))
+
+-- behind the list and the INTO of a select
+abbrev pub selected_plan : Bool × List Target → List Item → PartPlan statement
+selected_plan x list =
+    read (part (clauses list)) (λ q. expect m.Semicolon (done (s.Into x.0 x.1 q)))
+
+-- behind SELECT INTO
+abbrev pub into_first_plan : PartPlan statement
+into_first_plan = read (part into) (λ x. read (sql items) (λ list. selected_plan x list))
+
+-- behind the list of a select
+abbrev pub into_behind_plan : List Item → PartPlan statement
+into_behind_plan list = expect m.Into (read (part into) (λ x. selected_plan x list))
+
+-- behind SELECT
+abbrev pub select_plan : PartPlan statement
+select_plan = eat m.Into into_first_plan (read (sql items) into_behind_plan)
+
 -- behind a mark
 abbrev pub marked_plan : Mark → PartPlan statement
 marked_plan m.Null = expect m.Semicolon (done s.Nothing)
@@ -204,6 +250,7 @@ marked_plan m.Case = cases_plan
 marked_plan m.Exit = leaving_plan s.Exit
 marked_plan m.Continue = leaving_plan s.Continue
 marked_plan m.Raise = raise_plan
+marked_plan m.Select = select_plan
 marked_plan _ = fail
 
 abbrev pub statement_by : Option Terminal → PartPlan statement

@@ -21,6 +21,9 @@ use Rattle.away_grammar.specs.FunctionGrammar.{
   body,
   parameter,
   parameters,
+  targets,
+  into,
+  clauses,
 }
 use Rattle.away_grammar.specs.FunctionGrammar.{signature, attribute_of, attributes, function}
 use Rattle.away_trees.specs.declared.statements.Stmt.{Stmt}
@@ -47,6 +50,7 @@ use Rattle.plsql_parse.specs.Bodies.{
   repeated_plan,
 }
 use Rattle.plsql_parse.specs.Bodies.{kind_plan, step_plan, body_plan}
+use Rattle.plsql_parse.specs.Bodies.{targets_plan, into_plan, clauses_plan}
 use Rattle.plsql_parse.specs.Headers.{
   parameter_plan,
   parameters_plan,
@@ -67,6 +71,9 @@ part_plan elsifs = elsifs_plan
 part_plan whens = whens_plan
 part_plan otherwise = otherwise_plan
 part_plan condition = condition_plan
+part_plan targets = targets_plan
+part_plan into = into_plan
+part_plan (clauses list) = clauses_plan list
 part_plan (block label) = block_plan label
 part_plan (repeated label) = repeated_plan label
 part_plan kind = kind_plan

@@ -20,6 +20,9 @@ use Rattle.away_grammar.specs.FunctionGrammar.{
   kind,
   step,
   body,
+  targets,
+  into,
+  clauses,
   parameters,
   attributes,
   function,
@@ -45,6 +48,9 @@ StopsPart elsifs ts = next closes_arms ts ≡ true
 StopsPart whens ts = next closes_arms ts ≡ true
 StopsPart otherwise ts = Begins ts m.End
 StopsPart condition ts = Begins ts m.Semicolon
+StopsPart targets ts = ¬ (Begins ts m.Comma)
+StopsPart into ts = ¬ (Begins ts m.Comma)
+StopsPart (clauses list) ts = Begins ts m.Semicolon
 StopsPart (block label) ts = is_name ts ≡ false
 StopsPart (repeated label) ts = is_name ts ≡ false
 StopsPart kind ts = Begins ts m.Loop

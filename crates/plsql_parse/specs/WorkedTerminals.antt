@@ -4,6 +4,15 @@ use Rattle.away_grammar.specs.declared.tokens.TokenKind.TheVariants.{Word, Integ
 use Rattle.away_values.specs.declared.types.Ty.TheVariants as ty
 use Rattle.away_trees.specs.declared.queries.Expr.{Expr}
 use Rattle.away_trees.specs.declared.queries.Expr.TheVariants as e
+use Rattle.away_trees.specs.declared.queries.Expr.TheViews.{
+  roll-Item,
+  roll-FromItem,
+  roll-Key,
+  roll-Select,
+}
+use Rattle.away_trees.specs.declared.queries.Source.TheVariants as source
+use Rattle.away_trees.specs.declared.queries.FromItem.{FromItem}
+use Rattle.away_trees.specs.declared.queries.Item.{Item}
 use Rattle.away_trees.specs.declared.statements.LoopKind.TheVariants as k
 use Rattle.away_trees.specs.declared.statements.Raised.TheVariants as r
 use Rattle.away_trees.specs.declared.statements.Stmt.{Stmt}
@@ -133,6 +142,57 @@ many_statements = s.Block (Some (codes "top"))
     ∷ s.Loop None (k.While (e.Cases ((a, b) ∷ []) None)) [] None
     ∷ [])
     (Some (codes "top"))
+
+-- BEGIN
+--   SELECT INTO STRICT a, b -1, a;
+--   SELECT a AS c INTO b FROM t WHERE a ORDER BY b DESC LIMIT 1;
+-- END
+abbrev pub into_terminals : List Terminal
+into_terminals =
+    w (codes "BEGIN") ∷ w (codes "SELECT") ∷ w (codes "INTO") ∷ w (codes "STRICT") ∷ w (codes "a")
+    ∷ y (codes ",") ∷ w (codes "b") ∷ y (codes "-") ∷ i (codes "1") ∷ y (codes ",")
+    ∷ w (codes "a") ∷ y (codes ";")
+    ∷ w (codes "SELECT") ∷ w (codes "a") ∷ w (codes "AS") ∷ w (codes "c") ∷ w (codes "INTO")
+    ∷ w (codes "b") ∷ w (codes "FROM") ∷ w (codes "t") ∷ w (codes "WHERE") ∷ w (codes "a")
+    ∷ w (codes "ORDER") ∷ w (codes "BY") ∷ w (codes "b") ∷ w (codes "DESC") ∷ w (codes "LIMIT")
+    ∷ i (codes "1") ∷ y (codes ";") ∷ w (codes "END") ∷ []
+
+abbrev unnamed : Expr → Item
+unnamed x = roll-Item (record { expr = x; alias = None })
+
+abbrev table_t : FromItem
+table_t = roll-FromItem (record {
+  source = source.Table (codes "t");
+  alias = codes "t";
+  columns = [];
+})
+
+abbrev pub into_statements : Stmt
+into_statements = s.Block None []
+    (s.Into true ((codes "a", None) ∷ (codes "b", None) ∷ [])
+    (roll-Select (record {
+      list = unnamed (e.Neg (e.Int (pos 1))) ∷ unnamed a ∷ [];
+      from = [];
+      filter = None;
+      order = [];
+      limit = None;
+    }))
+    ∷ s.Into false ((codes "b", None) ∷ [])
+    (roll-Select (record {
+      list = roll-Item (record { expr = a; alias = Some (codes "c") }) ∷ [];
+      from = table_t ∷ [];
+      filter = Some a;
+      order = roll-Key (record { expr = b; descending = true }) ∷ [];
+      limit = Some (e.Int (pos 1));
+    }))
+    ∷ [])
+    None
+
+-- BEGIN SELECT INTO a, b FROM t; END: the second name is a target
+abbrev pub unlisted_terminals : List Terminal
+unlisted_terminals =
+    w (codes "BEGIN") ∷ w (codes "SELECT") ∷ w (codes "INTO") ∷ w (codes "a") ∷ y (codes ",")
+    ∷ w (codes "b") ∷ w (codes "FROM") ∷ w (codes "t") ∷ y (codes ";") ∷ w (codes "END") ∷ []
 
 -- The END before LOOP belongs to END LOOP, so nothing ends the CASE.
 -- BEGIN

@@ -3,6 +3,7 @@
 
 mod attributes;
 mod bodies;
+mod clauses;
 mod counts;
 mod declarations;
 mod expressions;
@@ -12,6 +13,7 @@ mod lookahead;
 mod loop_kinds;
 mod outside;
 mod read;
+mod select_into;
 mod simple_statements;
 mod statements;
 mod words_and_strings;
@@ -25,5 +27,5 @@ pub use laws::{
 pub use read::read_function;
 pub use worked_functions::{
     a_function_with_for_reads, a_function_with_while_reads, end_loop_ends_no_case,
-    every_kind_of_statement_reads, words_outside_are_found,
+    every_kind_of_statement_reads, select_into_reads, words_outside_are_found,
 };

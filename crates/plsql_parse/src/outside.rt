@@ -8,7 +8,7 @@ ghost use Rattle.away_lex.specs.Lexed.{seen};
 
 use away_lex::{Token, TokenKind};
 
-const OUTSIDE: [&str; 58] = [
+const OUTSIDE: [&str; 57] = [
     "alias",
     "array",
     "assert",
@@ -37,7 +37,6 @@ const OUTSIDE: [&str; 58] = [
     "int4",
     "integer",
     "intersect",
-    "into",
     "join",
     "left",
     "like",

@@ -19,6 +19,7 @@ use crate::declarations::decls_of;
 use crate::expressions::value_of;
 use crate::lookahead::{sees_block, sees_closing, sees_opening};
 use crate::loop_kinds::kind_of;
+use crate::select_into::select_statement;
 use crate::simple_statements::{
     assignment_statement, continue_statement, exit_statement, null_statement, raise_statement,
     return_statement,
@@ -108,6 +109,7 @@ fn marked(alloc: Global, tokens: &mut Cursor<'_>, mark: Mark) -> Result<Stmt, Re
         Mark::Exit => exit_statement(alloc, tokens),
         Mark::Continue => continue_statement(alloc, tokens),
         Mark::Raise => raise_statement(alloc, tokens),
+        Mark::Select => select_statement(alloc, tokens),
         _ => Err(Refusal::NoTree),
     }
 }

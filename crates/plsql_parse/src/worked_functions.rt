@@ -5,7 +5,7 @@ ghost use Rattle.away_trees.specs.declared.statements.Stmt.{Stmt};
 ghost use Rattle.away_grammar.specs.FunctionGrammar.{ReadsPart, body, function};
 ghost use Rattle.away_trees.specs.WorkedFunctions.{collatz, walk};
 ghost use Rattle.plsql_parse.specs.WorkedTokens.{OutsideWordsFound};
-ghost use Rattle.plsql_parse.specs.WorkedTerminals.{collatz_body, collatz_outer, many_terminals, many_statements, unpaired_terminals, walk_body, walk_outer};
+ghost use Rattle.plsql_parse.specs.WorkedTerminals.{collatz_body, collatz_outer, into_statements, into_terminals, many_terminals, many_statements, unlisted_terminals, unpaired_terminals, walk_body, walk_outer};
 
 /// The two lists of terminals of a function with a WHILE loop and an IF read as its tree.
 pub fn a_function_with_while_reads()
@@ -22,6 +22,12 @@ pub fn a_function_with_for_reads()
 /// A body with statements of every other kind reads as its tree.
 pub fn every_kind_of_statement_reads()
     ensures { ReadsPart body many_terminals many_statements [] }
+{}
+
+/// INTO stands before a list or behind it, and its names end where no comma follows one.
+pub fn select_into_reads()
+    ensures both { ReadsPart body into_terminals into_statements [] }
+    ensures none { (x : Stmt) → ¬ (ReadsPart body unlisted_terminals x []) }
 {}
 
 /// A CASE isn't ended by the END of END LOOP.

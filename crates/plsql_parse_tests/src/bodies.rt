@@ -1,7 +1,7 @@
 //! What the reader of bodies gives.
 
 use away_lex::ReadRefusal;
-use away_trees::{Arm, Decl, Expr, Function, LoopKind, Raised, Stmt};
+use away_trees::{Arm, Decl, Expr, Function, LoopKind, Raised, Select, Stmt};
 use away_values::Name;
 use plsql_parse::read_function;
 use sqlite_items::{Boxed, Items};
@@ -10,7 +10,7 @@ use std::test::Fail;
 
 /// Texts and the outlines of the bodies that they are, `-` where a text is none, and `outside` where a word outside the
 /// profile stands in it.
-static ROWS: [(&str, &str); 59] = [
+static ROWS: [(&str, &str); 69] = [
     ("BEGIN END", ""),
     ("begin end;", ""),
     ("BEGIN END;;", "-"),
@@ -103,6 +103,25 @@ static ROWS: [(&str, &str); 59] = [
     ),
     ("BEGIN BEGIN END END", "-"),
     ("BEGIN SELECT; END", "-"),
+    (
+        "BEGIN SELECT INTO a 1; SELECT 1 INTO a; END",
+        " into a * into a *",
+    ),
+    (
+        "BEGIN SELECT INTO STRICT a, b 1, 2 AS c FROM t WHERE x ORDER BY y LIMIT 1; END",
+        " strict a b ** from where order limit",
+    ),
+    (
+        "BEGIN select 1, 2 into strict A, b from t, u limit 1; END",
+        " strict a b ** from limit",
+    ),
+    ("BEGIN SELECT INTO a -1; END", " into a *"),
+    ("BEGIN SELECT INTO a, t.k FROM t; END", "-"),
+    ("BEGIN SELECT INTO a, b FROM t; END", "-"),
+    ("BEGIN SELECT 1 FROM t INTO a; END", "-"),
+    ("BEGIN SELECT 1 INTO a FROM t UNION ALL SELECT 2; END", "-"),
+    ("BEGIN a := (SELECT 1 INTO a); END", "-"),
+    ("BEGIN SELECT 1 INTO a FROM t GROUP BY x; END", "outside"),
 ];
 
 /// The outline of the function's body that a text is.
@@ -204,9 +223,44 @@ fn add_statement(shown: &mut String, statement: &Stmt) -> Result<(), AllocError>
         Stmt::Continue(label, test) => add_leaving(shown, "continue", label, test),
         Stmt::Return(_) => shown.push_str("return"),
         Stmt::Raise(raised) => add_raised(shown, raised),
-        Stmt::Into { .. } => shown.push_str("into"),
+        Stmt::Into {
+            strict,
+            targets,
+            query,
+        } => add_into(shown, *strict, targets, query),
         Stmt::Nothing => shown.push_str("null"),
     }
+}
+
+/// The targets, a star for each item of the list, and the clauses that are written.
+fn add_into(
+    shown: &mut String,
+    strict: bool,
+    targets: &Items<(Name, Option<u32>)>,
+    query: &Select,
+) -> Result<(), AllocError> {
+    shown.push_str(if strict { "strict" } else { "into" })?;
+    for target in targets.as_slice().iter() {
+        shown.push_str(" ")?;
+        shown.push_str(target.0.text())?;
+    }
+    shown.push_str(" ")?;
+    for _item in query.list.as_slice().iter() {
+        shown.push_str("*")?;
+    }
+    if !query.from.as_slice().is_empty() {
+        shown.push_str(" from")?;
+    }
+    if query.filter.is_some() {
+        shown.push_str(" where")?;
+    }
+    if !query.order.as_slice().is_empty() {
+        shown.push_str(" order")?;
+    }
+    if query.limit.is_some() {
+        shown.push_str(" limit")?;
+    }
+    Ok(())
 }
 
 fn add_labelled(

@@ -350,7 +350,7 @@ fn nesting(rt: HostRuntime) -> Result<(), Fail> {
 /// The words that aren't read.
 static WORDS: &str =
     "alias array assert call close collate commit cross cursor debug delete diagnostics distinct execute fetch foreach full get \
-    group having ilike info inout insert int int4 integer intersect into join left like log merge move next notice numeric open \
+    group having ilike info inout insert int int4 integer intersect join left like log merge move next notice numeric open \
     out over perform query record right rollback security set setof similar slice trigger update using variadic warning window \
     with";
 

@@ -1,7 +1,20 @@
 -- Worked functions of type bigint without parameters, over the table t, and the least rule that
 -- each breaks: each rule broken once by a small text and kept by its nearest neighbour, and the
 -- lesser of two that are broken at once.
-use Rattle.std.specs.Prelude.{ℕ, true, false, List, [], ◌∷◌, Option, Some, None, option_map, codes}
+use Rattle.std.specs.Prelude.{
+  ℕ,
+  true,
+  false,
+  List,
+  [],
+  ◌∷◌,
+  map,
+  Option,
+  Some,
+  None,
+  option_map,
+  codes,
+}
 use Rattle.away_values.specs.declared.types.Ty.TheVariants as ty
 use Rattle.away_trees.specs.declared.queries.Expr.{Expr}
 use Rattle.away_trees.specs.declared.queries.Expr.TheVariants as expr
@@ -28,6 +41,9 @@ use Rattle.rule_tests.specs.Pieces.{
   plus,
 }
 use Rattle.rule_tests.specs.Pieces.{one, scalar, from, from_t, var, declared, block, loop, counting}
+use Rattle.rule_tests.specs.Pieces.{Name, item, select, ordered}
+use Rattle.away_trees.specs.declared.queries.Select.{Select}
+use Rattle.away_trees.specs.declared.statements.Decl.{Decl}
 
 abbrev pub of_body : Stmt → Function
 of_body body = record { name = codes "f"; strict = false; params = []; result = ty.Bigint; body = body }
@@ -150,6 +166,85 @@ types =
     ∷ (returns (plus (expr.Str (codes "a")) (n 1)), Some rule.Types)
     ∷ []
 
+-- ---- SELECT INTO
+
+-- SELECT .. INTO names ..
+abbrev into : List Name → Select → Stmt
+into names query = stmt.Into false (map (λ x. (x, None)) names) query
+
+-- DECLARE decls BEGIN SELECT .. INTO names ..; RETURN 1; END
+abbrev taking : List Decl → List Name → Select → Stmt
+taking decls names query = block decls (into names query ∷ return_1 ∷ [])
+
+-- DECLARE x bigint; y bigint; s text; k bigint
+abbrev variables : List Decl
+variables =
+    var (codes "x") ty.Bigint ∷ var (codes "y") ty.Bigint ∷ var (codes "s") ty.Text
+    ∷ var (codes "k") ty.Bigint ∷ []
+
+abbrev x_alone : List Name
+x_alone = codes "x" ∷ []
+
+abbrev x_and_y : List Name
+x_and_y = codes "x" ∷ codes "y" ∷ []
+
+abbrev pub selects_into : List (Row Stmt)
+selects_into =
+    -- SELECT 1, 1 INTO z, z, which breaks X7 too
+    (taking [] (codes "z" ∷ codes "z" ∷ []) (select (n 1 ∷ n 1 ∷ []) []), Some rule.Duplicates)
+    ∷ (taking [] (codes "z" ∷ []) (select (n 1 ∷ []) []), Some rule.Names)
+    ∷ (taking variables x_alone (select (n 1 ∷ []) []), None)
+    -- a target is no reference: beside the column k it's the variable
+    ∷ (taking variables (codes "k" ∷ []) (select (t_k ∷ []) from_t), None)
+    ∷ (taking variables (codes "k" ∷ []) (select (k ∷ []) from_t), Some rule.Ambiguity)
+    ∷ (taking variables x_alone (select (n 1 ∷ []) (from (codes "nope") ∷ [])), Some rule.Tables)
+    -- c CONSTANT, which has another type too
+    ∷ (
+      taking (declared (codes "c") true false (Some (n 1)) ∷ []) (codes "c" ∷ [])
+          (select (expr.Str (codes "x") ∷ []) []),
+      Some rule.Constants,
+    )
+    -- the number of the items, and their types place by place
+    ∷ (taking variables x_and_y (select (n 1 ∷ n 2 ∷ []) []), None)
+    ∷ (taking variables x_and_y (select (n 1 ∷ []) []), Some rule.Types)
+    ∷ (taking variables x_alone (select (n 1 ∷ n 2 ∷ []) []), Some rule.Types)
+    ∷ (
+      taking variables (codes "x" ∷ codes "s" ∷ [])
+          (select (n 1 ∷ expr.Str (codes "a") ∷ []) []),
+      None,
+    )
+    ∷ (
+      taking variables (codes "s" ∷ codes "x" ∷ [])
+          (select (n 1 ∷ expr.Str (codes "a") ∷ []) []),
+      Some rule.Types,
+    )
+    ∷ (taking variables [] (select (n 1 ∷ []) []), Some rule.Types)
+    -- the literal NULL has every type, and CASE of NULL alone is text
+    ∷ (taking variables x_alone (select (expr.Null ∷ []) []), None)
+    ∷ (
+      taking variables x_alone
+          (select (expr.Cases ((expr.Bool true, expr.Null) ∷ []) None ∷ []) []),
+      Some rule.Types,
+    )
+    -- sum(k), and LIMIT t.k
+    ∷ (taking variables x_alone (select (sum_of t_k ∷ []) from_t), Some rule.Types)
+    ∷ (taking variables x_alone (select (as_bigint (sum_of t_k) ∷ []) from_t), None)
+    ∷ (taking variables x_alone (ordered (item t_k ∷ []) [] (Some t_k)), Some rule.Types)
+    ∷ (taking variables x_alone (ordered (item t_k ∷ []) [] (Some (named (codes "y")))), None)
+    -- max(y) of a variable
+    ∷ (
+      taking variables x_alone (select (max_of (named (codes "y")) ∷ []) from_t),
+      Some rule.Aggregates,
+    )
+    -- away_x, declared and not
+    ∷ (
+      taking (var (codes "away_x") ty.Bigint ∷ []) (codes "away_x" ∷ [])
+          (select (n 1 ∷ []) []),
+      Some rule.Reserved,
+    )
+    ∷ (taking [] (codes "away_x" ∷ []) (select (n 1 ∷ []) []), Some rule.Names)
+    ∷ []
+
 -- ---- the statement that is told
 
 abbrev pub node_of : Stmt × ℕ → Option ℕ
@@ -160,6 +255,9 @@ wanted_node row = Some row.1
 
 abbrev return_y : Stmt
 return_y = stmt.Return (named (codes "y"))
+
+abbrev return_z : Stmt
+return_z = stmt.Return (named (codes "z"))
 
 abbrev pub nodes : List (Stmt × ℕ)
 nodes =
@@ -177,4 +275,7 @@ nodes =
     ∷ (block [] (return_1 ∷ block (declared (codes "x") false false (Some (named (codes "y"))) ∷ []) [] ∷ []), 2)
     -- a statement inside loops
     ∷ (block [] (loop None (loop None (return_y ∷ []) None ∷ []) None ∷ []), 3)
+    -- a target is a node, and what it breaks is told by its statement
+    ∷ (block variables (into x_and_y (select (n 1 ∷ n 2 ∷ []) []) ∷ return_z ∷ []), 8)
+    ∷ (block variables (return_1 ∷ into (codes "z" ∷ []) (select (n 1 ∷ []) []) ∷ []), 6)
     ∷ []

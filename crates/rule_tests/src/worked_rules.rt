@@ -10,6 +10,8 @@ pub fn functions_break_their_rules()
     ensures names { map functions.broken functions.names ≡ map functions.wanted functions.names }
     ensures labels { map functions.broken functions.labels ≡ map functions.wanted functions.labels }
     ensures types { map functions.broken functions.types ≡ map functions.wanted functions.types }
+    ensures selects_into { map functions.broken functions.selects_into
+        ≡ map functions.wanted functions.selects_into }
 {}
 
 /// Of the statements that break the least rule the first is told, by its number among the nodes of the function.

@@ -1,16 +1,17 @@
--- An expression has the same value in two contexts that agree on what it reads.
+-- An expression has the same value in two contexts that agree on what it reads, and a select the same rows.
 use Rattle.std.proofs.Common.{◌≡◌, refl, ap, ℕ, suc, Bool, true, nat_lt, List, [], ◌++◌, slice_index_or, Option, Ok}
 use Rattle.std.specs.List.{list_all, flat_map}
 use Rattle.away_values.specs.declared.operators.ChainOp.{ChainOp}
 use Rattle.away_trees.specs.declared.queries.Expr.{Expr}
+use Rattle.away_trees.specs.declared.queries.Select.{Select}
 use Rattle.away_values.specs.Results.{Or}
-use Rattle.away_trees.specs.Algebra.{expr_of}
+use Rattle.away_trees.specs.Algebra.{expr_of, select_of}
 use Rattle.sql_meaning.specs.Context.{Context, argument, at}
 use Rattle.sql_meaning.specs.Expressions.{ExprMeaning, SourceMeaning, FromMeaning, SelectMeaning, KeyMeaning, QueryMeaning}
 use Rattle.sql_meaning.specs.Meaning.{meaning}
 use Rattle.sql_meaning.specs.Reads.{Read, Reads, SourceReads, reading, allows, of_list, of_option}
 use Rattle.sql_meaning.specs.Selects.{place_of}
-use Rattle.sql_meaning.proofs.Related.{Alike, AlikeOption, AlikeLink, AlikeArm, Relation, IsKept, expr_related}
+use Rattle.sql_meaning.proofs.Related.{Alike, AlikeOption, AlikeLink, AlikeArm, Relation, IsKept, expr_related, select_related}
 use Rattle.sql_meaning.proofs.Lists.{Zipped, ZippedOption}
 use Rattle.sql_meaning.proofs.Uses.{and_first, left, right, own_column, zipped, zipped_option}
 use Rattle.sql_meaning.proofs.Same as same
@@ -137,3 +138,6 @@ module _ (one two : same.Surroundings) (slots : ℕ → Bool) (params places : �
 
     pub reads_same : (e : Expr) → list_all ok (expr_of reading e 0) ≡ true → Same 0 (expr_of meaning e) (expr_of meaning e)
     reads_same e h = expr_related meaning reading meaning relation steps e 0 h
+
+    pub select_same : (s : Select) → list_all ok (select_of reading s 0) ≡ true → Gives 0 (select_of meaning s) (select_of meaning s)
+    select_same s h = select_related meaning reading meaning relation steps s 0 h

@@ -24,4 +24,5 @@ pub use nodes::unboxed;
 pub use one_tree::a_text_reads_as_one_tree;
 pub use read::{as_text, read_expr, read_query, read_schema};
 pub use refusal::Refusal;
+pub use selects::{from_of, items_of, limit_of, order_of, where_of};
 pub use terminals::{Terminal, is_public, terminals_of, text_of};

@@ -70,7 +70,7 @@ fn select_of(alloc: Global, tokens: &mut Cursor<'_>) -> Result<Select, Refusal>
 
 /// The items of a select list.
 #[cycle(reader)]
-fn items_of(alloc: Global, tokens: &mut Cursor<'_>) -> Result<Items<Item>, Refusal>
+pub fn items_of(alloc: Global, tokens: &mut Cursor<'_>) -> Result<Items<Item>, Refusal>
     ensures found { Gives Tree plan items items_plan tokens.old result tokens.new }
     ensures shrinks { length tokens.new ≤ length tokens.old }
 {
@@ -99,7 +99,7 @@ fn item_of(alloc: Global, tokens: &mut Cursor<'_>) -> Result<Item, Refusal>
 
 /// FROM and its items, if it stands there.
 #[cycle(reader)]
-fn from_of(alloc: Global, tokens: &mut Cursor<'_>) -> Result<Items<FromItem>, Refusal>
+pub fn from_of(alloc: Global, tokens: &mut Cursor<'_>) -> Result<Items<FromItem>, Refusal>
     ensures found { Gives Tree plan from_clause from_clause_plan tokens.old result tokens.new }
     ensures shrinks { length tokens.new ≤ length tokens.old }
 {
@@ -154,7 +154,7 @@ fn subquery(alloc: Global, tokens: &mut Cursor<'_>, lateral: bool) -> Result<Fro
 
 /// WHERE and its condition, if it stands there.
 #[cycle(reader)]
-fn where_of(alloc: Global, tokens: &mut Cursor<'_>) -> Result<Option<Boxed<Expr>>, Refusal>
+pub fn where_of(alloc: Global, tokens: &mut Cursor<'_>) -> Result<Option<Boxed<Expr>>, Refusal>
     ensures found { Gives Tree plan where_clause where_plan tokens.old result tokens.new }
     ensures shrinks { length tokens.new ≤ length tokens.old }
 {
@@ -167,7 +167,7 @@ fn where_of(alloc: Global, tokens: &mut Cursor<'_>) -> Result<Option<Boxed<Expr>
 
 /// LIMIT and its count, if it stands there.
 #[cycle(reader)]
-fn limit_of(alloc: Global, tokens: &mut Cursor<'_>) -> Result<Option<Boxed<Expr>>, Refusal>
+pub fn limit_of(alloc: Global, tokens: &mut Cursor<'_>) -> Result<Option<Boxed<Expr>>, Refusal>
     ensures found { Gives Tree plan limit_clause limit_plan tokens.old result tokens.new }
     ensures shrinks { length tokens.new ≤ length tokens.old }
 {
@@ -180,7 +180,7 @@ fn limit_of(alloc: Global, tokens: &mut Cursor<'_>) -> Result<Option<Boxed<Expr>
 
 /// ORDER BY and its keys, if it stands there.
 #[cycle(reader)]
-fn order_of(alloc: Global, tokens: &mut Cursor<'_>) -> Result<Items<Key>, Refusal>
+pub fn order_of(alloc: Global, tokens: &mut Cursor<'_>) -> Result<Items<Key>, Refusal>
     ensures found { Gives Tree plan order_clause order_plan tokens.old result tokens.new }
     ensures shrinks { length tokens.new ≤ length tokens.old }
 {

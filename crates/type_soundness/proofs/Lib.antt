@@ -14,4 +14,7 @@ pub mod Found
 pub mod Tables
 pub mod Recursions
 pub mod Queries
+pub mod Deeper
+pub mod NoArguments
+pub mod IntoTypes
 pub mod Statements

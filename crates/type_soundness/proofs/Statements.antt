@@ -1,5 +1,5 @@
 -- Each expression of a checked function gives a value of the type that is asked of it.
-use Rattle.std.proofs.Common.{◌≡◌, refl, sym, subst, ℕ, zero, suc, Bool, true, false, not, ◌||◌, List, [], ◌∷◌, ◌++◌, fold, Option, Some, None}
+use Rattle.std.proofs.Common.{sym, subst, ℕ, not, ◌||◌, List, [], ◌∷◌, ◌++◌, fold, Option, Some, None}
 use Rattle.std.specs.Prelude.{slice_get}
 use Rattle.away_values.specs.declared.types.Ty.{Ty}
 use Rattle.away_values.specs.declared.types.Ty.TheVariants.{Bigint, Boolean}
@@ -18,7 +18,6 @@ use Rattle.away_names.specs.Notes.{clean, joined, breaks}
 use Rattle.away_typing.specs.Aggregates.{outside}
 use Rattle.away_typing.specs.Kinds.{fits}
 use Rattle.away_typing.specs.Trees.{kind_of, uses_of}
-use Rattle.sql_meaning.specs.Context.{argument}
 use Rattle.away_types.specs.declared.finding.Report.{Report}
 use Rattle.away_types.specs.Findings.{own, nothing, followed, branched}
 use Rattle.away_types.specs.declared.slots.Slot.{Slot}
@@ -26,31 +25,21 @@ use Rattle.away_types.specs.CheckedFunctions.{IsChecked}
 use Rattle.away_types.specs.FunctionChecks.{asked_in, slot_types, function_note, head_note, types_note, body_of, slots_of}
 use Rattle.away_types.specs.StatementTypes as checks
 use Rattle.away_types.specs.StatementTypes.{Asked, asked, maybe_asked, asked_of_slot, head_asked, asked_stmt}
-use Rattle.type_soundness.specs.Arguments.{Params, Supplied, params_in}
-use Rattle.type_soundness.specs.Sorts.{IsOf, Every}
+use Rattle.select_into.specs.Laws.{KeepsRows}
+use Rattle.type_soundness.specs.Arguments.{Supplied, params_in}
+use Rattle.type_soundness.specs.Sorts.{Every}
 use Rattle.away_types.proofs.ClearReports.{Clear, clear_own, clear_parts, clear_within, clear_branches, clear_bodies}
 use Rattle.type_soundness.proofs.CleanNotes.{Clean, clean_parts, not_broken, test_fails}
+use Rattle.type_soundness.proofs.IntoTypes.{neither, into_typed}
 use Rattle.type_soundness.proofs.KindRules.{fits_typed}
 use Rattle.type_soundness.proofs.Lists.{every_append}
+use Rattle.type_soundness.proofs.NoArguments.{none_supplied}
 use Rattle.type_soundness.proofs.Trees.{expr_holds}
 use Rattle.type_soundness.specs.AskedTypes as here
 use Rattle.type_soundness.specs.AskedTypes.{GivesItsType, Asks}
 use Rattle.type_soundness.proofs.Recursions.{not_false}
 
--- without arguments a parameter is NULL, which has every type
-none_null : (i : ℕ) (t : Ty) → IsOf t (argument [] i)
-none_null zero t = tt
-none_null (suc i) t = tt
-
-none_supplied : (ps : Params) → Supplied [] ps
-none_supplied [] = tt
-none_supplied (p ∷ ps) = (none_null p.0 p.1, none_supplied ps)
-
-neither : (a b : Bool) → (a || b) ≡ false → (a ≡ false) × (b ≡ false)
-neither true b h = cc
-neither false b h = (refl, h)
-
-module _ (s : Schema) (slots : List Slot) (result : Ty) where
+module _ (keeps : KeepsRows) (s : Schema) (slots : List Slot) (result : Ty) where
   abbrev a : Asked
   a = asked_in s slots result
 
@@ -124,7 +113,7 @@ module _ (s : Schema) (slots : List Slot) (result : Ty) where
     stmt_typed (b.Continue label when) c = maybe_typed Boolean when (clear_own 1 _ c)
     stmt_typed (b.Return e) c = (one_typed result e (clear_own 1 _ c), tt)
     stmt_typed (b.Raise raised) c = tt
-    stmt_typed (b.Into strict targets query) c = tt
+    stmt_typed (b.Into strict targets query) c = into_typed s slots result keeps strict targets query (clear_own _ _ c)
     stmt_typed b.Nothing c = tt
 
     stmts_typed : {m : _} (body : b.Row_of-Stmt m) (acc : Report) → Clear (fold (λ r (f : checks.By). followed r (f a)) acc (stmts_of checks.asking body)) → Clear acc × AllGive (values (here.all (stmts_of here.asking body)))
@@ -150,12 +139,12 @@ module _ (s : Schema) (slots : List Slot) (result : Ty) where
     else_typed b.None' c = tt
     else_typed (b.Some' n body) c = (stmts_typed body nothing (clear_within 1 clean (checks.all_by (stmts_of checks.asking body) a) c).1).1
 
-of_function : (s : Schema) (f : Function) → Clear (function_note s f) → Every (GivesItsType s (slots_of s f) f.result) (stmt_of here.asking (body_of s f).it (slot_types (slots_of s f)) f.result)
+of_function : KeepsRows → (s : Schema) (f : Function) → Clear (function_note s f) → Every (GivesItsType s (slots_of s f) f.result) (stmt_of here.asking (body_of s f).it (slot_types (slots_of s f)) f.result)
 unfolding asked_stmt
-of_function s f c = stmt_typed s (slots_of s f) f.result (body_of s f).it (clear_bodies _ (head_note f) (body_of s f).note (types_note s f) c).1
+of_function keeps s f c = stmt_typed keeps s (slots_of s f) f.result (body_of s f).it (clear_bodies _ (head_note f) (body_of s f).note (types_note s f) c).1
 
-pub typed : (s : Schema) (written checked : Function) (slots : List Slot) → IsChecked s written checked slots → Every (GivesItsType s slots checked.result) (here.asked_of checked slots)
-typed s written checked slots h =
+pub typed : KeepsRows → (s : Schema) (written checked : Function) (slots : List Slot) → IsChecked s written checked slots → Every (GivesItsType s slots checked.result) (here.asked_of checked slots)
+typed keeps s written checked slots h =
     subst (λ f. Every (GivesItsType s slots f.result) (here.asked_of f slots)) (sym h.function)
     (subst (λ xs. Every (GivesItsType s xs written.result) (stmt_of here.asking (body_of s written).it (slot_types xs) written.result)) (sym h.slots_are)
-    (of_function s written h.unbroken))
+    (of_function keeps s written h.unbroken))

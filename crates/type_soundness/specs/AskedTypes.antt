@@ -1,11 +1,27 @@
 -- The expressions of a function whose names are resolved, each with the type that is asked of it
 -- where it stands.
-use Rattle.std.specs.Prelude.{◌≡◌, ℕ, List, [], ◌∷◌, ◌++◌, slice_get, Option, Some, None, Ok}
+use Rattle.std.specs.Prelude.{
+  ◌≡◌,
+  ℕ,
+  ◌+◌,
+  Bool,
+  List,
+  [],
+  ◌∷◌,
+  ◌++◌,
+  map,
+  slice_get,
+  Option,
+  Some,
+  None,
+  Ok,
+}
 use Rattle.std.specs.List.{flat_map}
 use Rattle.away_values.specs.declared.types.Ty.{Ty}
 use Rattle.away_values.specs.declared.types.Ty.TheVariants.{Bigint, Boolean}
 use Rattle.away_values.specs.declared.values.Value.{Value}
 use Rattle.away_trees.specs.declared.queries.Expr.{Expr}
+use Rattle.away_trees.specs.declared.queries.Select.{Select}
 use Rattle.away_trees.specs.declared.schemas.Schema.{Schema}
 use Rattle.away_trees.specs.declared.statements.Decl.{Decl}
 use Rattle.away_trees.specs.declared.statements.Function.{Function}
@@ -20,6 +36,8 @@ use Rattle.sql_meaning.specs.Meaning.{value}
 use Rattle.away_types.specs.declared.slots.Slot.{Slot}
 use Rattle.away_types.specs.CheckedFunctions.{IsChecked}
 use Rattle.away_types.specs.FunctionChecks.{asked_in, slot_types}
+use Rattle.select_into.specs.Entries.{Target, check_entries, target_types}
+use Rattle.select_into.specs.Wrapped.{pick, picked}
 use Rattle.type_soundness.specs.Sorts.{IsOf, Every}
 use Rattle.type_soundness.specs.Surroundings.{Fit}
 
@@ -57,9 +75,19 @@ head kind.Plain = []
 head (kind.While e) = one Boolean e
 head (kind.Count var reverse first last step) = one Bigint first ++ (one Bigint last ++ maybe Bigint step)
 
+-- from a place on, the picks of a select for targets
+abbrev pub picks : List Ty → List Target → ℕ → Select → Asked
+picks slots [] place q = []
+picks slots (t ∷ ts) place q = (slot_type slots t.1, pick q place) ∷ picks slots ts (place + 1) q
+
+abbrev pub into : List Ty → Bool → List Target → Select → Asked
+into slots strict targets q =
+    map (λ e. (Some Boolean, e)) (check_entries strict q)
+    ++ picks slots targets 0 (picked (target_types slots targets) q)
+
 -- The default of a declaration and what is assigned have the variable's type, conditions are
 -- boolean, the bounds and the step of a FOR bigint, and what is returned has the type of the
--- result.
+-- result. The tests of SELECT INTO are boolean, and its picks have their targets' types.
 abbrev pub statement : Stmt-F Asks Asks → Asks
 statement (st.Block label decls body closing) slots result = defaults decls ++ all body slots result
 statement (st.Assign name slot e) slots result = (slot_type slots slot, e) ∷ []
@@ -70,7 +98,7 @@ statement (st.Exit label when) slots result = maybe Boolean when
 statement (st.Continue label when) slots result = maybe Boolean when
 statement (st.Return e) slots result = one result e
 statement (st.Raise raised) slots result = []
-statement (st.Into strict targets query) slots result = []
+statement (st.Into strict targets query) slots result = into slots strict targets query
 statement st.Nothing slots result = []
 
 abbrev pub asking : StatementAlgebra

@@ -7,16 +7,18 @@ use Rattle.away_values.specs.declared.values.Value.TheVariants as val
 use Rattle.away_trees.specs.declared.queries.Expr.{Expr}
 use Rattle.away_trees.specs.declared.queries.Expr.TheVariants as expr
 use Rattle.away_trees.specs.declared.queries.Query.{Query}
+use Rattle.away_trees.specs.declared.queries.Select.{Select}
 use Rattle.away_trees.specs.declared.queries.Expr.TheViews.{roll-Recursive, roll-Query}
 use Rattle.away_trees.specs.declared.statements.Function.{Function}
 use Rattle.away_trees.specs.declared.statements.LoopKind.TheVariants as kind
 use Rattle.away_trees.specs.declared.statements.Stmt.TheVariants as stmt
 use Rattle.away_types.specs.declared.slots.Slot.{Slot}
 use Rattle.sql_meaning.specs.Trees.{select}
+use Rattle.select_into.specs.Wrapped.{no_row, more_rows, pick}
 use Rattle.type_soundness.specs.Arguments.{params_in_query, Supplied}
 use Rattle.type_soundness.specs.Sorts.{IsOf}
 use Rattle.type_soundness.specs.Surroundings.{AreTables, IsSeen}
-use Rattle.type_soundness.specs.AskedTypes.{Asked, asked_of}
+use Rattle.type_soundness.specs.AskedTypes.{Asked, asked_of, into}
 
 -- ---- what is asked
 
@@ -68,6 +70,19 @@ asked_of_each =
     ∷ (Some ty.Text, expr.Slot 1)
     ∷ []
 
+-- SELECT 1, NULL, of which the NULL takes the type of its target
+abbrev one_and_null : Select
+one_and_null = select (n 1 ∷ expr.Null ∷ []) [] None
+
+abbrev pub with_its_type : Select
+with_its_type = select (n 1 ∷ expr.Cast expr.Null ty.Text ∷ []) [] None
+
+-- SELECT 1, NULL INTO STRICT b, a, where a is slot 0 and b slot 1
+abbrev pub asked_of_into : Asked
+asked_of_into =
+    into (ty.Text ∷ ty.Bigint ∷ []) true ((codes "b", Some 1) ∷ (codes "a", Some 0) ∷ [])
+    one_and_null
+
 -- ---- parameters
 
 -- WITH RECURSIVE r AS (SELECT $1::bigint UNION ALL SELECT $2::bigint WHERE $3::boolean) SELECT
@@ -88,6 +103,12 @@ with_parameters =
 
 pub record WorkedTypes : Type 0 where
   pub asked : asked_of asking_each its_slots ≡ asked_of_each
+  pub into_asks : asked_of_into
+      ≡ (Some ty.Boolean, no_row one_and_null)
+      ∷ (Some ty.Boolean, more_rows one_and_null)
+      ∷ (Some ty.Bigint, pick with_its_type 0)
+      ∷ (Some ty.Text, pick with_its_type 1)
+      ∷ []
   pub parameters : params_in_query with_parameters ≡ (1, ty.Bigint) ∷ (2, ty.Bigint) ∷ (3, ty.Boolean) ∷ (4, ty.Text) ∷ []
   pub supplied : Supplied (val.Int (pos 7) ∷ []) ((1, ty.Bigint) ∷ [])
   pub not_supplied : Supplied (val.Int (pos 7) ∷ []) ((1, ty.Text) ∷ []) → ⊥

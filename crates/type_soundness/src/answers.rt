@@ -12,6 +12,8 @@ ghost use Rattle.type_soundness.specs.Worked.{checked_seven, no_table, seven};
 ghost use Rattle.type_soundness.specs.WorkedTypes.{WorkedTypes};
 ghost use Rattle.type_soundness.specs.Sorts.{IsOf};
 
+use select_into::entries_ask_the_select;
+
 /// Over tables that fit the schema, with arguments of its parameters' types, a checked query gives rows of the type of its
 /// first column and a text, and what it answers is of that type.
 pub fn a_checked_query_answers_its_type()
@@ -21,7 +23,9 @@ pub fn a_checked_query_answers_its_type()
 /// Each expression of a checked function gives a value of the type that is asked of it where it stands, NULL or a fault.
 pub fn expressions_of_a_checked_function_have_their_types()
     ensures { CheckedFunctionsAreTyped }
-{}
+{
+    entries_ask_the_select();
+}
 
 /// A worked query over no table is checked, and so what it answers is a whole number.
 pub fn a_worked_query_answers_a_number()

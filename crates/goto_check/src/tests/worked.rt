@@ -34,22 +34,22 @@ pub(crate) fn slots<const N: usize>() -> [Slot; N] {
     }; N]
 }
 
-fn named(rt: &(impl Abort + AllocGlobal), text: &str) -> Name {
+pub(crate) fn named(rt: &(impl Abort + AllocGlobal), text: &str) -> Name {
     let made = name(rt.alloc(), text).expect(rt, "memory");
     made.expect(rt, "a name")
 }
 
-fn boxed<T: Drop>(rt: &(impl Abort + AllocGlobal), value: T) -> Boxed<T> {
+pub(crate) fn boxed<T: Drop>(rt: &(impl Abort + AllocGlobal), value: T) -> Boxed<T> {
     Boxed::new(rt.alloc(), value).expect(rt, "memory")
 }
 
-fn with<T: Drop>(rt: &(impl Abort + AllocGlobal), list: Items<T>, last: T) -> Items<T> {
+pub(crate) fn with<T: Drop>(rt: &(impl Abort + AllocGlobal), list: Items<T>, last: T) -> Items<T> {
     let mut list = list;
     list.push(last).expect(rt, "memory");
     list
 }
 
-fn one<T: Drop>(rt: &(impl Abort + AllocGlobal), only: T) -> Items<T> {
+pub(crate) fn one<T: Drop>(rt: &(impl Abort + AllocGlobal), only: T) -> Items<T> {
     with(rt, Items::new(rt.alloc()), only)
 }
 
@@ -61,7 +61,7 @@ fn comparison(rt: &(impl Abort + AllocGlobal), op: CmpOp, left: Expr, right: Exp
     Expr::Compare(op, boxed(rt, left), boxed(rt, right))
 }
 
-fn function(
+pub(crate) fn function(
     rt: &(impl Abort + AllocGlobal),
     decls: Items<Decl>,
     body: Items<Stmt>,
@@ -131,14 +131,14 @@ pub(crate) fn collatz(rt: &(impl Abort + AllocGlobal)) -> Boxed<Function> {
     function(rt, one(rt, steps), body)
 }
 
-fn term(rt: &(impl Abort + AllocGlobal), expr: u32, names: &[u32]) -> Term {
+pub(crate) fn term(rt: &(impl Abort + AllocGlobal), expr: u32, names: &[u32]) -> Term {
     Term {
         expr,
         names: Items::from_slice(rt.alloc(), names).expect(rt, "memory"),
     }
 }
 
-fn sets(head: bool, slot: u32, t: Term, next: u32) -> Block {
+pub(crate) fn sets(head: bool, slot: u32, t: Term, next: u32) -> Block {
     Block {
         head,
         set: Some((slot, t)),
@@ -146,7 +146,7 @@ fn sets(head: bool, slot: u32, t: Term, next: u32) -> Block {
     }
 }
 
-fn ends(head: bool, end: End) -> Block {
+pub(crate) fn ends(head: bool, end: End) -> Block {
     Block {
         head,
         set: None,
@@ -154,7 +154,7 @@ fn ends(head: bool, end: End) -> Block {
     }
 }
 
-fn form(
+pub(crate) fn form(
     rt: &(impl Abort + AllocGlobal),
     entry: u32,
     finish: u32,

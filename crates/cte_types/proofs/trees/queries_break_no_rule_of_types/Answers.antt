@@ -38,7 +38,7 @@ typed schema written f slots g z a r count params checked low named called merge
   columned = columned;
   entry = merged.entry;
   trees = labels_have_trees slots g z a r (expressions f) called columned (terms_fit f slots g low count params z named a called) merged;
-  terms = terms_typed schema f slots (facts schema written f slots checked) h.types g low count params z named a called;
+  terms = terms_typed schema f slots (facts schema written f slots checked) h.types h.items g low count params z named a called;
   calls = calls_keep slots g z a count params named called;
 }
 

@@ -1,4 +1,4 @@
-use Rattle.std.proofs.Common.{◌≡◌, ◌+◌, true, ◌↔◌, IsTrue, length, refl, sym, ◌∙◌, subst}
+use Rattle.std.proofs.Common.{◌≡◌, ◌+◌, ◌*◌, true, ◌↔◌, IsTrue, length, refl, sym, ◌∙◌, subst}
 use Rattle.block_forms.specs.Laid.{laid}
 use Rattle.block_forms.specs.Lowered.{AllStand, numbers_of, parts_in}
 use Rattle.goto_check.specs.declared.asking.Asking.{Asking}
@@ -13,9 +13,9 @@ returns c =
     let f = c.args.f.now in
     let g = c.args.g.now in
     let size = c.size_of-size.result in
-    let a : Asking = record { goto = c.args.g; slots = c.args.slots; fixed = size.expr; counters = c.len.result + size.slot; question = question.Fails } in
+    let a : Asking = record { goto = c.args.g; slots = c.args.slots; fixed = size.expr; counters = c.len.result + size.slot; targets = c.len.result + size.slot + 3 * size.fors; question = question.Fails } in
     let ps = parts_in (setting_in a) f in
-    let at : numbers_in a ≡ numbers_of f = λ i. record { fixed = (c.size_of-size.ensures i).expr; counters = c.len.ensures i + (c.size_of-size.ensures i).slot } in
+    let at : numbers_in a ≡ numbers_of f = λ i. record { fixed = (c.size_of-size.ensures i).expr; counters = c.len.ensures i + (c.size_of-size.ensures i).slot; targets = c.len.ensures i + (c.size_of-size.ensures i).slot + 3 * (c.size_of-size.ensures i).fors } in
     let has : IsTrue c.has_nodes.result = subst (λ b. IsTrue b) (sym c.if-not-has_nodes.false) (let t : IsTrue true = search in t) in
     let as_many : length g.nodes ≡ length f.params + (laid f.body).size.node = sym c.nodes_given.ensures.value ∙ c.has_nodes.ensures.0 has in
     let fails = c.is_empty.ensures in

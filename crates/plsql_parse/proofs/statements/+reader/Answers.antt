@@ -96,7 +96,7 @@ pub labelled-returns-in_ok-expect-2-clause-found : goal.labelled-returns-in_ok-e
 labelled-returns-in_ok-expect-2-clause-found t c = rw c.into_inner-else-sees_block.ensures (overlooked (sym c.if-sees_block.ensures) (read_on c.in_ok-found-2.ensures.found (eaten m.Semicolon c.in_ok-expect-2.ensures.found (finished refl))))
 
 pub marked-returns-in_default-clause-found : goal.marked-returns-in_default-clause-found
-marked-returns-in_default-clause-found t c = begins_none _ (λ e. c.in_default.not-Null e) (λ e. c.in_default.not-Return e) (λ e. c.in_default.not-If e) (λ e. c.in_default.not-Case e) (λ e. c.in_default.not-Exit e) (λ e. c.in_default.not-Continue e) (λ e. c.in_default.not-Raise e)
+marked-returns-in_default-clause-found t c = begins_none _ (λ e. c.in_default.not-Null e) (λ e. c.in_default.not-Return e) (λ e. c.in_default.not-If e) (λ e. c.in_default.not-Case e) (λ e. c.in_default.not-Exit e) (λ e. c.in_default.not-Continue e) (λ e. c.in_default.not-Raise e) (λ e. c.in_default.not-Select e)
 
 pub if_of-returns-in_err-arms-clause-found : goal.if_of-returns-in_err-arms-clause-found
 if_of-returns-in_err-arms-clause-found t c =

@@ -1,4 +1,4 @@
-use Rattle.rule_tests.proofs.BrokenRules.{names_break, labels_break, types_break}
+use Rattle.rule_tests.proofs.BrokenRules.{names_break, labels_break, types_break, selects_into_break}
 use Rattle.rule_tests.proofs.worked_rules.functions_break_their_rules.Goals as goal
 
 pub returns-clause-names : goal.returns-clause-names
@@ -9,3 +9,6 @@ returns-clause-labels c = labels_break
 
 pub returns-clause-types : goal.returns-clause-types
 returns-clause-types c = types_break
+
+pub returns-clause-selects_into : goal.returns-clause-selects_into
+returns-clause-selects_into c = selects_into_break

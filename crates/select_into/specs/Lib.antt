@@ -1,0 +1,4 @@
+pub mod Wrapped
+pub mod Entries
+pub mod Laws
+pub mod Examples
