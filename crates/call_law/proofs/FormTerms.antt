@@ -1,5 +1,5 @@
 -- In the forms of a function each term has one name for each slot of its expression, and each fail has a class.
-use Rattle.std.proofs.Common.{◌≡◌, refl, ap, sym, ◌∙◌, subst, ℕ, zero, suc, ◌+◌, ◌<◌, Bool, true, false, List, [], ◌∷◌, length, get_or, slice_get, Some, None, arith}
+use Rattle.std.proofs.Common.{◌≡◌, refl, ap, sym, ◌∙◌, subst, ℕ, zero, suc, ◌+◌, ◌<◌, Bool, true, false, List, [], ◌∷◌, ◌++◌, length, get_or, slice_get, Option, Some, None, arith}
 use Rattle.away_values.specs.Classes.{is_class}
 use Rattle.away_values.specs.declared.types.Ty.{Ty}
 use Rattle.away_trees.specs.declared.queries.Expr.{Expr}
@@ -7,6 +7,7 @@ use Rattle.away_trees.specs.declared.queries.Expr.TheVariants as expr
 use Rattle.away_trees.specs.declared.statements.Function.{Function}
 use Rattle.away_types.specs.declared.slots.Slot.{Slot}
 use Rattle.sql_meaning.specs.Reads.{slots_of}
+use Rattle.block_forms.specs.declared.forms.Block.{Block}
 use Rattle.block_forms.specs.declared.forms.End.{End}
 use Rattle.block_forms.specs.declared.forms.End.TheVariants as jump
 use Rattle.block_forms.specs.declared.forms.Goto.{Goto}
@@ -16,9 +17,10 @@ use Rattle.block_forms.specs.declared.forms.Term.{Term}
 use Rattle.block_forms.specs.Expressions.{sources, source_expressions, expressions}
 use Rattle.block_forms.specs.FixedList.{fixed_list}
 use Rattle.block_forms.specs.Forms.{Assignment, Pairs}
-use Rattle.block_forms.specs.Laid.{Setting, laid}
+use Rattle.block_forms.specs.Laid.{Setting, laying, laid}
 use Rattle.block_forms.specs.Lowered.{Lowered, setting, all_parts, param_parts, params_parts, body_place, numbers_of}
 use Rattle.block_forms.specs.Named.{Named, TermRenamed, AssignmentRenamed, EndRenamed}
+use Rattle.block_forms.specs.Patterns.{Part, node}
 use Rattle.block_forms.specs.Slots.{shown_types}
 use Rattle.block_forms.specs.Places.{Each}
 use Rattle.call_forms.specs.declared.forms.Anf.{Anf}
@@ -29,7 +31,7 @@ use Rattle.call_forms.specs.Called.{Called, EndCalled}
 use Rattle.call_law.proofs.Labels.{element_there}
 use Rattle.call_law.specs.Terms.{OneForEach, SetOneForEach, EndOneForEach, BlockOneForEach, EndHasClass, FailsByClass}
 use Rattle.call_law.proofs.PartTerms.{AllFit, BlockFits, EndFits, FixedFits, fit_both, fits_at, fixed_fits, sources_sit}
-use Rattle.call_law.proofs.StatementTerms.{statement_fits}
+use Rattle.call_law.proofs.StatementTerms.{StatementFits, statement_fits}
 
 inside : {X : Type 0} (xs : List X) (i : ℕ) (x : X) → slice_get xs i ≡ Some x → i < length xs
 inside [] i x h = absurd (cc)

@@ -9,6 +9,7 @@ use Rattle.block_forms.specs.declared.forms.End.TheVariants as jump
 use Rattle.block_forms.specs.declared.forms.Goto.{Goto}
 use Rattle.block_forms.specs.declared.forms.Ssa.{Ssa}
 use Rattle.block_forms.specs.declared.forms.SsaBlock.{SsaBlock}
+use Rattle.block_forms.specs.declared.forms.Term.{Term}
 use Rattle.block_forms.specs.Forms.{Assignment}
 use Rattle.block_forms.specs.Places.{Each}
 use Rattle.call_forms.specs.declared.forms.Call.{Call}
@@ -22,10 +23,10 @@ use Rattle.call_forms.specs.Called.{Among, AssignmentReads, EndReads, own_names,
 use Rattle.call_forms.specs.Columned.{PlacesAt, Columned}
 use Rattle.call_forms.specs.Forms.{params_of, label_of}
 use Rattle.call_forms.specs.Merged.{Merged}
-use Rattle.call_forms.specs.Templated.{HasTree}
+use Rattle.call_forms.specs.Templated.{HasReferences, PassesKnown, HasTree}
 use Rattle.call_law.proofs.Labels.{element_there, place_found}
 use Rattle.call_law.proofs.Ways.{label_ends}
-use Rattle.call_law.specs.Terms.{SetOneForEach, EndOneForEach, BlockOneForEach}
+use Rattle.call_law.specs.Terms.{OneForEach, SetOneForEach, EndOneForEach, BlockOneForEach}
 
 module _ (slots : List Slot) (g : Goto) (z : Ssa) (a : Anf) (r : Tail) (table : List Expr) (called : Called g z a) (columned : Columned slots z a r) (terms : Each (BlockOneForEach table) a.blocks) where
   -- ---- calls pass one name for each parameter

@@ -1,5 +1,5 @@
 -- The parts of each statement fit the expressions that it has in the table.
-use Rattle.std.proofs.Common.{◌≡◌, refl, ap, sym, ◌∙◌, subst, ℕ, zero, suc, ◌+◌, Bool, true, false, List, [], ◌∷◌, ◌++◌, length, map, get_or, slice_get, length-append, Option, Some, None, arith}
+use Rattle.std.proofs.Common.{◌≡◌, refl, ap, sym, ◌∙◌, subst, ℕ, zero, suc, ◌+◌, ◌≤◌, ◌<◌, Bool, true, false, List, [], ◌∷◌, ◌++◌, length, map, get_or, slice_get, length-append, Option, Some, None, arith}
 use Rattle.std.proofs.lemmas.List.{length-map}
 use Rattle.away_values.specs.Classes.{is_class}
 use Rattle.away_values.specs.declared.types.Ty.{Ty}
@@ -26,8 +26,8 @@ use Rattle.block_forms.specs.declared.forms.Term.{Term}
 use Rattle.block_forms.specs.declared.places.Position.{Position}
 use Rattle.block_forms.specs.Around.{Around, exit_to, again_to}
 use Rattle.block_forms.specs.Expressions.{Sources, in_turn, if_there, defaults, of_kind, of_else, sourcing}
-use Rattle.block_forms.specs.Laid.{Setting, Laid, LaidArm, laying, after, a_node, with_expr, decl_size, decls_size, kind_size, row_size, arms_size, else_size, into_size, first_block, row_parts, default_term, decl_parts, decls_parts, arms_parts, lack, lack_parts, else_parts, branch_parts, inside_of, block_parts, again_of, kind_parts, loop_parts, one_if}
-use Rattle.block_forms.specs.Patterns.{Part, own, shared, branches, fails, not_positive, node, jump_of, yes_of, no_of, source_term, select_term, copy, check_parts, pick_parts, put_part, put_parts, puts_of, after_put, onward, into_parts, set_parts, slot_parts, leave_parts, exit_parts, bound_parts, step_parts, turn_parts, for_parts, cur_of, after_bound, for_head, for_test}
+use Rattle.block_forms.specs.Laid.{Setting, Laid, LaidArm, laying, after, a_node, with_expr, decl_size, decls_size, kind_size, row_size, arms_size, else_size, into_size, first_block, row_parts, default_term, decl_parts, decls_parts, assign_parts, arms_parts, lack, lack_parts, else_parts, branch_parts, inside_of, block_parts, again_of, kind_parts, loop_parts, one_if}
+use Rattle.block_forms.specs.Patterns.{Part, own, shared, branches, fails, not_positive, node, jump_of, yes_of, no_of, source_term, select_term, null_of, copy, check_parts, pick_parts, put_part, put_parts, puts_of, after_put, onward, into_parts, set_parts, slot_parts, leave_parts, exit_parts, bound_parts, step_parts, turn_parts, for_parts, cur_of, after_bound, for_head, for_test}
 use Rattle.block_forms.proofs.Exits.{exit_either}
 use Rattle.call_law.specs.Terms.{OneForEach}
 use Rattle.call_law.proofs.PartTerms.{AllFit, fit_both, Sits, sits_left, sits_right, source_fits, FixedFits, is_class_of}

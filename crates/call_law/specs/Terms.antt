@@ -1,6 +1,6 @@
 -- What the terms and ends of a normal form have beside its relations: they follow from the
 -- relations to the function.
-use Rattle.std.specs.Prelude.{◌≡◌, true, List, length, get_or, Some, None}
+use Rattle.std.specs.Prelude.{◌≡◌, ℕ, true, List, length, get_or, Option, Some, None}
 use Rattle.away_trees.specs.declared.queries.Expr.{Expr}
 use Rattle.away_trees.specs.declared.queries.Expr.TheVariants as expr
 use Rattle.away_values.specs.Classes.{is_class}

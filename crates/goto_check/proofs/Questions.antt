@@ -2,12 +2,12 @@
 use Rattle.std.proofs.Common.{◌≡◌, ℕ, suc, ◌+◌, Bool, true, false, not, List, [], ◌∷◌, ◌↔◌, cond, refl, sym, ap, ◌∙◌, nat_eq, slice_get, arith}
 use Rattle.std.proofs.lemmas.Bool.{eqb-true, eq-eqb}
 use Rattle.block_forms.specs.declared.forms.Block.{Block}
-use Rattle.block_forms.specs.Lowered.{one_of, AllStand, owners, sharers}
+use Rattle.block_forms.specs.Lowered.{one_of, Stands, AllStand, owners, sharers}
 use Rattle.block_forms.specs.Patterns.{Part, own, shared, same, never}
 use Rattle.goto_check.specs.declared.asking.Question.TheVariants as question
 use Rattle.goto_check.specs.declared.asking.Asking.{Asking}
 use Rattle.goto_check.specs.declared.runs.Run.TheVariants.{Empty}
-use Rattle.goto_check.specs.Asking.{is_found}
+use Rattle.goto_check.specs.Asking.{is_found, says_yes}
 use Rattle.goto_check.specs.Runs.{run_of, repeated}
 use Rattle.goto_check.specs.AnswerRuns.{yes_numbers, answer_run, blocks_in}
 use Rattle.goto_check.proofs.Blocks.{same_found}

@@ -1,5 +1,5 @@
 -- What is built for a statement, by its parts.
-use Rattle.std.proofs.Common.{◌≡◌, ℕ, ◌+◌, Bool, List, map, Option, Some, None, refl, ap, ◌∙◌, false, arith}
+use Rattle.std.proofs.Common.{◌≡◌, ℕ, ◌+◌, Bool, List, [], ◌∷◌, map, Option, Some, None, refl, ap, ◌∙◌, true, false, arith}
 use Rattle.std.specs.Prelude.{slice_get}
 use Rattle.away_trees.specs.declared.queries.Expr.{Expr}
 use Rattle.away_trees.specs.declared.queries.Select.{Select}

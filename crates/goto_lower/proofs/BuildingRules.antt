@@ -1,5 +1,5 @@
 -- What is pushed for each statement, in the words of what the walk pushes.
-use Rattle.std.proofs.Common.{◌≡◌, ℕ, ◌+◌, Bool, true, false, List, ◌∷◌, length, Option, Some, None, refl, sym, ap, ◌∙◌}
+use Rattle.std.proofs.Common.{◌≡◌, ℕ, ◌+◌, Bool, true, false, List, [], ◌∷◌, length, Option, Some, None, refl, sym, ap, ◌∙◌}
 use Rattle.std.specs.Prelude.{slice_get}
 use Rattle.away_trees.specs.declared.queries.Expr.{Expr}
 use Rattle.away_trees.specs.declared.queries.Select.{Select}
@@ -14,12 +14,13 @@ use Rattle.away_types.specs.declared.slots.Slot.{Slot}
 use Rattle.plsql_meaning.specs.Outcomes.{Label, case_not_found}
 use Rattle.plsql_meaning.specs.Statements.{class_of}
 use Rattle.block_forms.specs.declared.places.Numbers.{Numbers}
+use Rattle.block_forms.specs.declared.places.Position.{Position}
 use Rattle.block_forms.specs.Around.{Around, exit_to, again_to}
 use Rattle.block_forms.specs.Laid.{place, a_node, with_expr, one_if}
 use Rattle.block_forms.specs.Patterns.{source_term, branches, jumps, returns, fails}
 use Rattle.goto_lower.specs.declared.draft.Draft.{Draft}
-use Rattle.goto_lower.specs.Building.{built_of, first_from, row_many, arms_many, leave_block, branched, into_built, loop_built, head_at}
-use Rattle.goto_lower.specs.Drafts.{pushed, begun, emitted, emitted_row, set_by, started, tested, inside, headed, count_begun}
+use Rattle.goto_lower.specs.Building.{Built, BuiltArm, built_of, first_from, row_many, arms_many, leave_block, branched, into_built, loop_built, head_at, arms_first}
+use Rattle.goto_lower.specs.Drafts.{pushed, begun, emitted, emitted_row, emitted_arms, set_by, started, tested, inside, headed, count_begun}
 use Rattle.goto_lower.proofs.BuildingEquations as eqs
 use Rattle.goto_lower.proofs.BuildingEquations.{rows, arms_of}
 use Rattle.goto_lower.proofs.Emitting.{if_without, cases_without, block_is, loop_is, count_is}

@@ -1,16 +1,19 @@
 -- The blocks that are built for a block and its declarations stand as its pattern asks.
-use Rattle.std.proofs.Common.{◌≡◌, ℕ, ◌+◌, List, [], ◌∷◌, ◌++◌, length, Option, Some, None, map, refl, sym, ap, ◌∙◌, subst, arith, length-append}
+use Rattle.std.proofs.Common.{◌≡◌, ℕ, zero, suc, ◌+◌, Bool, true, false, List, [], ◌∷◌, ◌++◌, length, Option, Some, None, map, refl, sym, ap, ◌∙◌, subst, arith, length-append}
 use Rattle.std.specs.Prelude.{slice_get}
+use Rattle.std.proofs.lemmas.List.{length-map}
 use Rattle.away_values.specs.declared.types.Ty.{Ty}
 use Rattle.away_trees.specs.declared.queries.Expr.{Expr}
 use Rattle.away_trees.specs.declared.statements.Decl.{Decl}
 use Rattle.away_trees.specs.declared.statements.Stmt.TheOpen as st
+use Rattle.away_types.specs.declared.slots.Slot.{Slot}
 use Rattle.block_forms.specs.Slots.{slot_of}
+use Rattle.block_forms.specs.Around.{Around}
 use Rattle.block_forms.specs.declared.forms.Block.{Block}
 use Rattle.block_forms.specs.Patterns.{node, set_parts, slot_parts}
 use Rattle.plsql_meaning.specs.Outcomes.{Label}
 use Rattle.block_forms.specs.declared.places.Position.{Position}
-use Rattle.block_forms.specs.Laid.{Laid, Setting, after, decl_size, decls_size, default_term, decl_parts, decls_parts, first_block, row_parts, laying, a_node}
+use Rattle.block_forms.specs.Laid.{Laid, Setting, after, place, nothing, decl_size, decls_size, default_term, decl_parts, decls_parts, first_block, row_parts, laying, a_node}
 use Rattle.goto_lower.specs.Building.{Built, row_many, row_first, row_blocks, row_firsts, row_vars, set_blocks, set_many, decls_many, decls_first, decls_firsts, decls_blocks, default_of, built_step}
 use Rattle.goto_lower.proofs.BuiltRows.{Good, GoodRow, row_size_same, row_many_is, row_nodes_are, row_vars_are, row_first_is, row_stands, node_is}
 use Rattle.goto_lower.proofs.BuiltSteps.{set_stands}

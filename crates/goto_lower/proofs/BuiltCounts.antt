@@ -1,17 +1,20 @@
 -- The blocks that are built for a FOR stand as its pattern asks, where its test is the first of its kind in the form.
 use Rattle.std.proofs.Common.{◌≡◌, ℕ, ◌+◌, ◌*◌, Bool, true, false, List, [], ◌∷◌, ◌++◌, length, Option, Some, None, refl, sym, ap, ◌∙◌, subst, arith, length-append}
 use Rattle.std.specs.Prelude.{slice_get}
+use Rattle.away_values.specs.declared.types.Ty.{Ty}
 use Rattle.away_values.specs.declared.types.Ty.TheVariants as ty
 use Rattle.away_trees.specs.declared.queries.Expr.{Expr}
 use Rattle.away_trees.specs.declared.statements.LoopKind.TheVariants as kind
 use Rattle.away_trees.specs.declared.statements.Stmt.TheOpen as st
+use Rattle.block_forms.specs.Around.{Around}
 use Rattle.block_forms.specs.declared.forms.Term.{Term}
 use Rattle.block_forms.specs.declared.forms.Block.{Block}
-use Rattle.block_forms.specs.Patterns.{source_term, is_null, not_positive, one, copy, in_range, leaves_range, moved, sets, branches, fails, own, shared, node, yes_of, no_of, end_in, jump_in, yes_in, no_in, bound_parts, step_parts, turn_parts, for_parts, after_bound, head_after, for_head, for_test}
+use Rattle.block_forms.specs.Patterns.{source_term, is_null, not_positive, one, copy, in_range, leaves_range, moved, sets, branches, fails, own, shared, node, jump_of, yes_of, no_of, end_in, jump_in, yes_in, no_in, set_parts, bound_parts, step_parts, turn_parts, for_parts, after_bound, head_after, for_head, for_test}
 use Rattle.plsql_meaning.specs.Outcomes.{Label, null_not_allowed, invalid_parameter}
 use Rattle.block_forms.specs.declared.places.Position.{Position}
 use Rattle.block_forms.specs.Slots.{slot}
 use Rattle.block_forms.specs.Laid.{Laid, Setting, after, place, first_block, row_parts, laying, one_if}
+use Rattle.block_forms.specs.Laid as l
 use Rattle.goto_lower.specs.Building.{Built, row_many, row_first, row_blocks, row_firsts, row_vars, set_blocks, step_blocks, step_many, turn_blocks, for_blocks, head_at, cur_at, built_step}
 use Rattle.goto_lower.proofs.BuiltRows.{Good, GoodRow, row_size_same, row_many_is, row_nodes_are, row_vars_are, row_first_is, row_stands, node_is}
 use Rattle.goto_lower.proofs.BuiltSteps.{set_stands}

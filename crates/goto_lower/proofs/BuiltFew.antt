@@ -1,12 +1,12 @@
 -- A statement has at most fifteen blocks for each of its nodes.
-use Rattle.std.proofs.Common.{ℕ, ◌+◌, ◌*◌, ◌≤◌, Bool, true, false, List, [], ◌∷◌, length, Option, Some, None, arith}
+use Rattle.std.proofs.Common.{◌≡◌, ℕ, ◌+◌, ◌*◌, ◌≤◌, Bool, true, false, List, [], ◌∷◌, length, Option, Some, None, arith}
 use Rattle.std.specs.Prelude.{slice_get}
 use Rattle.away_trees.specs.declared.queries.Expr.{Expr}
 use Rattle.away_trees.specs.declared.statements.Decl.{Decl}
 use Rattle.away_trees.specs.declared.statements.LoopKind.TheVariants as kind
 use Rattle.away_trees.specs.declared.statements.Stmt.{Stmt}
 use Rattle.away_trees.specs.declared.statements.Stmt.TheBlock as b
-use Rattle.away_trees.specs.StatementAlgebra.{stmt_of, stmts_of, branches_of}
+use Rattle.away_trees.specs.StatementAlgebra.{stmt_of, stmts_of, branches_of, else_of}
 use Rattle.away_types.specs.declared.slots.Slot.{Slot}
 use Rattle.select_into.specs.Entries.{Target}
 use Rattle.block_forms.specs.declared.places.Numbers.{Numbers}

@@ -1,5 +1,5 @@
 -- In the form that is built for a function each FOR finds its own test.
-use Rattle.std.proofs.Common.{◌≡◌, ℕ, ◌+◌, ◌*◌, Bool, true, false, List, [], ◌∷◌, ◌++◌, length, None, refl, sym, ap, ◌∙◌, subst, arith}
+use Rattle.std.proofs.Common.{◌≡◌, ℕ, zero, suc, ◌+◌, ◌*◌, ◌≤◌, Bool, true, false, List, [], ◌∷◌, ◌++◌, length, Option, Some, None, refl, sym, ap, ◌∙◌, subst, arith}
 use Rattle.std.specs.Prelude.{slice_get}
 use Rattle.away_values.specs.declared.types.Ty.{Ty}
 use Rattle.away_trees.specs.declared.statements.Function.{Function}
@@ -12,14 +12,14 @@ use Rattle.block_forms.specs.Laid.{Setting, laid}
 use Rattle.block_forms.specs.Lowered.{AllStand, EachOnce, all_parts, setting, numbers_of, body_place}
 use Rattle.block_forms.specs.Patterns.{branches, leaves_range}
 use Rattle.block_forms.specs.OwnSlots.{OwnSlots}
-use Rattle.goto_lower.specs.Building.{building, built_of}
+use Rattle.goto_lower.specs.Building.{Built, building, built_of}
 use Rattle.goto_lower.specs.Whole.{Params, param_first, param_blocks, finish, body_of, body_start, body_first, built}
 use Rattle.goto_lower.proofs.BuiltCounts.{Found}
 use Rattle.goto_lower.proofs.BuiltKeys.{keyed, curs, curs_rise, null_key}
 use Rattle.goto_lower.proofs.BuiltTrees.{good}
 use Rattle.goto_lower.proofs.BuiltWhole.{built_stands, nodes_are}
 use Rattle.goto_lower.proofs.Covering.{each_once}
-use Rattle.goto_lower.proofs.ForTests.{Rising, keys, keys_append, test_found}
+use Rattle.goto_lower.proofs.ForTests.{Rising, key, keys, keys_append, test_found}
 
 -- a form without blocks: no test stands in it
 abbrev pub blank : Function → List Slot → Setting

@@ -1,5 +1,5 @@
 -- The blocks that are built for a statement test the counters of its FORs, each once, in the order of the text.
-use Rattle.std.proofs.Common.{◌≡◌, ℕ, zero, suc, ◌+◌, ◌*◌, ◌≤◌, ◌<◌, Bool, true, false, List, [], ◌∷◌, ◌++◌, length, Option, Some, None, refl, sym, ap, ◌∙◌, arith}
+use Rattle.std.proofs.Common.{◌≡◌, ℕ, zero, suc, ◌+◌, ◌*◌, ◌≤◌, ◌<◌, Bool, true, false, List, [], ◌∷◌, ◌++◌, length, Option, Some, None, refl, sym, ap, ◌∙◌, subst, arith}
 use Rattle.std.specs.Prelude.{slice_get}
 use Rattle.away_values.specs.declared.types.Ty.{Ty}
 use Rattle.away_values.specs.declared.types.Ty.TheVariants as ty
@@ -23,7 +23,7 @@ use Rattle.block_forms.specs.declared.fixed_list.Fixed.{Fixed}
 use Rattle.block_forms.specs.declared.fixed_list.Fixed.TheVariants as fix
 use Rattle.block_forms.specs.FixedList.{position}
 use Rattle.block_forms.specs.Around.{Around, exit_to, again_to}
-use Rattle.block_forms.specs.Laid.{after, one_if, decl_size, with_expr, a_node, decls_size}
+use Rattle.block_forms.specs.Laid.{after, place, one_if, decl_size, with_expr, a_node, decls_size}
 use Rattle.block_forms.specs.Patterns.{entry_term, source_term, select_term, is_null, copy, in_range, not_positive, branches, jumps, fails, onward}
 use Rattle.block_forms.specs.declared.forms.End.TheVariants.{Branch}
 use Rattle.goto_lower.specs.Building as spec

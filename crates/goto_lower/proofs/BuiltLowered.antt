@@ -1,32 +1,42 @@
 -- The form that is built for a function is its goto form, and has few blocks.
-use Rattle.std.proofs.Common.{◌≡◌, ◌+◌, ◌*◌, ◌≤◌, ◌<◌, Bool, true, false, List, [], ◌∷◌, length, sym, ap, subst, arith, length-append}
+use Rattle.std.proofs.Common.{◌≡◌, ℕ, zero, suc, ◌+◌, ◌*◌, ◌≤◌, ◌<◌, Bool, true, false, List, [], ◌∷◌, ◌++◌, length, map, replicate, Option, Some, None, refl, sym, ap, ◌∙◌, subst, arith, length-append}
+use Rattle.std.specs.Prelude.{All}
+use Rattle.std.proofs.lemmas.List.{length-map}
+use Rattle.away_values.specs.declared.types.Ty.{Ty}
+use Rattle.away_values.specs.declared.types.Ty.TheVariants as ty
 use Rattle.away_trees.specs.declared.queries.Expr.{Expr}
 use Rattle.away_trees.specs.declared.statements.Function.{Function}
-use Rattle.away_trees.specs.Count.{weight, nodes, nodes_of}
+use Rattle.away_trees.specs.Count.{weight, nodes, nodes_of, counting}
 use Rattle.away_trees.specs.StatementAlgebra.{stmt_of}
 use Rattle.away_types.specs.declared.slots.Slot.{Slot}
 use Rattle.sql_meaning.specs.Reads.{slots_of}
 use Rattle.plsql_meaning.specs.Outcomes.{no_return}
 use Rattle.select_into.specs.Entries.{into_entries}
 use Rattle.select_into.specs.Wrapped.{select_slots}
+use Rattle.block_forms.specs.declared.forms.Block.{Block}
 use Rattle.block_forms.specs.declared.forms.Goto.{Goto}
+use Rattle.block_forms.specs.declared.places.Numbers.{Numbers}
 use Rattle.block_forms.specs.declared.places.Position.{Position}
 use Rattle.block_forms.specs.Expressions.{sources, sourcing}
 use Rattle.block_forms.specs.Intos.{Into, intos, selecting}
-use Rattle.block_forms.specs.Laid.{laid}
-use Rattle.block_forms.specs.Lowered.{Lowered, numbers_of, body_place}
-use Rattle.block_forms.specs.Slots.{shown_types}
+use Rattle.block_forms.specs.Laid.{Setting, laid, laying}
+use Rattle.block_forms.specs.Lowered.{Lowered, NoWayTo, BlockBelow, numbers_of, body_place, setting}
+use Rattle.block_forms.specs.Patterns.{is_null, null_of, jumps, fails}
+use Rattle.block_forms.specs.Places.{Each}
+use Rattle.block_forms.specs.Slots.{own_slots, variables, declaring, slot, shown_types}
 use Rattle.block_forms.specs.Targets.{targets, targeting}
 use Rattle.block_forms.specs.OwnSlots.{OwnSlots, ReadsBelow, IsInto}
-use Rattle.block_forms.proofs.SlotCounts.{own_slots_counted}
-use Rattle.goto_lower.specs.Building.{building, built_of, first_from}
+use Rattle.goto_lower.proofs.TempCounts.{own_slots_counted}
+use Rattle.goto_lower.specs.Building.{Built, building, built_of, first_from}
 use Rattle.goto_lower.specs.Whole.{Params, param_many, param_first, param_blocks, finish, body_of, body_start, body_first, built}
 use Rattle.goto_lower.proofs.BuiltFew.{few}
-use Rattle.goto_lower.proofs.BuiltFound.{blank, size_built, as_many, stands, once_each}
-use Rattle.goto_lower.proofs.BuiltSafe.{Safe, safe_fail, safe_jump, params_safe, params_first, from_first}
-use Rattle.goto_lower.proofs.Everywhere.{Every, each_of, every_join}
-use Rattle.goto_lower.proofs.BuiltSizes.{counted}
+use Rattle.goto_lower.proofs.BuiltFound.{blank, nothing_found, size_built, as_many, stands, once_each}
+use Rattle.goto_lower.proofs.BuiltSafe.{Safe, Secure, safe_fail, safe_jump, params_safe, params_first, from_first}
+use Rattle.goto_lower.proofs.Everywhere.{Every, every_of, each_of, every_join}
+use Rattle.goto_lower.proofs.BuiltSizes.{Counted, counted}
 use Rattle.goto_lower.proofs.SafeTrees.{secure}
+use Rattle.goto_lower.proofs.BuiltTrees.{good}
+use Rattle.goto_lower.proofs.BuiltVars.{vars_same}
 use Rattle.goto_lower.proofs.BuiltWhole.{params_length}
 use Rattle.goto_lower.proofs.NodesCounted.{nodes_counted}
 use Rattle.goto_lower.proofs.ReadsOwn.{every_from, slots_below, select_below}

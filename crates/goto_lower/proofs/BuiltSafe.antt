@@ -1,5 +1,5 @@
 -- The blocks that are built for a statement lead to no entry, and read and set the function's slots alone.
-use Rattle.std.proofs.Common.{◌≡◌, ℕ, zero, suc, ◌+◌, ◌*◌, ◌≤◌, ◌<◌, Bool, true, false, ◌||◌, List, [], ◌∷◌, ◌++◌, length, Option, Some, None, refl, sym, subst, arith}
+use Rattle.std.proofs.Common.{◌≡◌, ℕ, zero, suc, ◌+◌, ◌*◌, ◌≤◌, ◌<◌, Bool, true, false, ◌||◌, List, [], ◌∷◌, ◌++◌, length, Option, Some, None, refl, sym, ap, ◌∙◌, subst, arith}
 use Rattle.std.specs.Prelude.{slice_get, nat_eq, if◌then◌else◌}
 use Rattle.std.proofs.lemmas.Bool.{ne_eqb}
 use Rattle.away_values.specs.declared.types.Ty.{Ty}
@@ -20,9 +20,10 @@ use Rattle.block_forms.specs.declared.places.Numbers.{Numbers}
 use Rattle.block_forms.specs.Around.{Around, exit_to, again_to, exits_at, again_at}
 use Rattle.block_forms.specs.Expressions.{if_there, defaults}
 use Rattle.block_forms.specs.Intos.{Into}
-use Rattle.block_forms.specs.Laid.{after, decl_size, with_expr, a_node, decls_size}
-use Rattle.block_forms.specs.Lowered.{TermBelow, BlockBelow, end_leads}
-use Rattle.block_forms.specs.Patterns.{source_term, select_term, null_of, is_null, not_positive, one, copy, in_range, leaves_range, moved, sets, branches, jumps, returns, fails, onward}
+use Rattle.block_forms.specs.Laid.{after, place, one_if, decl_size, with_expr, a_node, decls_size}
+use Rattle.block_forms.specs.Lowered.{TermBelow, BlockBelow, end_leads, NoWayTo}
+use Rattle.block_forms.specs.Patterns.{term, source_term, select_term, null_of, is_null, not_positive, one, copy, in_range, leaves_range, moved, sets, branches, jumps, returns, fails, onward}
+use Rattle.block_forms.specs.Places.{Each}
 use Rattle.block_forms.specs.Targets.{one_target, named_targets}
 use Rattle.goto_lower.specs.Building as spec
 use Rattle.goto_lower.specs.Building.{Built, BuiltArm, first_from, row_size, row_many, row_first, row_blocks, set_many, set_blocks, slot_blocks, decls_many, decls_first, decls_blocks, decl_blocks, default_of, arm_size, arms_size, arms_many, arms_first, arms_blocks, branched, looped, leave_block, step_many, step_blocks, head_at, turn_blocks, for_blocks, bound_blocks, cur_at, count_size, into_built}

@@ -1,6 +1,7 @@
 -- A statement has as many blocks as are counted, and begins at its first one, or where it has none at what follows.
-use Rattle.std.proofs.Common.{◌≡◌, ℕ, zero, suc, ◌+◌, Bool, true, false, List, [], ◌∷◌, length, Option, Some, None, refl, ap, ◌∙◌, arith, length-append}
+use Rattle.std.proofs.Common.{◌≡◌, ℕ, zero, suc, ◌+◌, Bool, true, false, List, [], ◌∷◌, ◌++◌, length, Option, Some, None, refl, sym, ap, ◌∙◌, subst, arith, length-append}
 use Rattle.std.specs.Prelude.{slice_get}
+use Rattle.away_values.specs.declared.types.Ty.{Ty}
 use Rattle.away_values.specs.declared.values.Class.{Class}
 use Rattle.away_trees.specs.declared.queries.Expr.{Expr}
 use Rattle.away_trees.specs.declared.statements.Decl.{Decl}
@@ -11,6 +12,7 @@ use Rattle.away_trees.specs.StatementAlgebra.{stmt_of, stmts_of, branches_of}
 use Rattle.away_types.specs.declared.slots.Slot.{Slot}
 use Rattle.plsql_meaning.specs.Outcomes.{Label, case_not_found}
 use Rattle.block_forms.specs.declared.forms.Block.{Block}
+use Rattle.block_forms.specs.declared.forms.Term.{Term}
 use Rattle.block_forms.specs.declared.places.Position.{Position}
 use Rattle.block_forms.specs.declared.places.Numbers.{Numbers}
 use Rattle.block_forms.specs.Around.{Around}

@@ -1,5 +1,5 @@
 -- The blocks that are built for a statement stand as its pattern asks, where those of its parts do.
-use Rattle.std.proofs.Common.{◌≡◌, ℕ, ◌+◌, ◌<◌, Bool, true, false, List, [], ◌∷◌, length, Option, Some, None, refl, sym, ap, ◌∙◌, subst, arith}
+use Rattle.std.proofs.Common.{◌≡◌, ℕ, zero, suc, ◌+◌, ◌<◌, Bool, true, false, List, [], ◌∷◌, ◌++◌, length, Option, Some, None, refl, sym, ap, ◌∙◌, subst, arith, length-append}
 use Rattle.std.specs.Prelude.{slice_get, nat_eq, if◌then◌else◌}
 use Rattle.std.proofs.lemmas.Bool.{ne_eqb}
 use Rattle.away_values.specs.declared.types.Ty.{Ty}
@@ -12,14 +12,16 @@ use Rattle.away_types.specs.declared.slots.Slot.{Slot}
 use Rattle.block_forms.specs.Around.{Around, exit_to, again_to}
 use Rattle.block_forms.specs.declared.forms.Term.{Term}
 use Rattle.block_forms.specs.declared.forms.Block.{Block}
-use Rattle.block_forms.specs.Patterns.{Part, own, source_term, is_null, sets, branches, jumps, fails, node, jump_of, yes_of, end_in, jump_in, yes_in, set_parts, slot_parts, leave_parts, exit_parts, never}
+use Rattle.block_forms.specs.Patterns.{Part, own, source_term, is_null, sets, branches, jumps, fails, node, jump_of, yes_of, no_of, end_in, jump_in, yes_in, no_in, set_parts, slot_parts, leave_parts, exit_parts, never}
 use Rattle.plsql_meaning.specs.Outcomes.{Label, null_not_allowed}
 use Rattle.block_forms.specs.declared.places.Position.{Position}
-use Rattle.block_forms.specs.Laid.{Laid, Setting, after, first_block, row_parts, laying, a_node, with_expr}
+use Rattle.block_forms.specs.Laid.{Laid, Setting, after, place, nothing, first_block, row_parts, laying, a_node, with_expr}
+use Rattle.block_forms.specs.Laid as l
 use Rattle.goto_lower.specs.Building.{Built, row_many, row_first, row_blocks, row_firsts, row_vars, set_blocks, set_many, slot_blocks, slot_many, leave_block, built_step}
+use Rattle.goto_lower.specs.Building as b
 use Rattle.goto_lower.proofs.BuiltRows.{Good, GoodRow, row_size_same, row_many_is, row_nodes_are, row_vars_are, row_first_is, row_stands, node_is}
 use Rattle.goto_lower.proofs.SetSizes.{slot_length}
-use Rattle.goto_lower.proofs.Segments.{Seg, seg_head, seg_tail}
+use Rattle.goto_lower.proofs.Segments.{Seg, seg_left, seg_right, seg_head, seg_tail, seg_first}
 use Rattle.goto_lower.proofs.Covering.{Fine, fine_own}
 
 module _ (s : Setting) where

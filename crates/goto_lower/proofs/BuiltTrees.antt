@@ -1,9 +1,11 @@
 -- The blocks that are built for a statement stand as all of its patterns ask.
-use Rattle.std.proofs.Common.{Some, None, refl, ap}
+use Rattle.std.proofs.Common.{◌≡◌, List, [], ◌∷◌, Option, Some, None, refl, ap}
+use Rattle.away_trees.specs.declared.statements.Arm.{Arm}
+use Rattle.away_trees.specs.declared.statements.Decl.{Decl}
 use Rattle.away_trees.specs.declared.statements.LoopKind.TheVariants as kind
 use Rattle.away_trees.specs.declared.statements.Stmt.{Stmt}
 use Rattle.away_trees.specs.declared.statements.Stmt.TheBlock as b
-use Rattle.away_trees.specs.StatementAlgebra.{stmt_of, stmts_of, branches_of}
+use Rattle.away_trees.specs.StatementAlgebra.{stmt_of, stmts_of, branches_of, else_of}
 use Rattle.plsql_meaning.specs.Outcomes.{case_not_found}
 use Rattle.block_forms.specs.Laid.{Setting, laying, after, with_expr}
 use Rattle.goto_lower.specs.Building.{building}
@@ -12,7 +14,7 @@ use Rattle.goto_lower.proofs.BuiltSteps.{good_assign, good_plain, good_while, go
 use Rattle.goto_lower.proofs.BuiltBlocks.{good_block}
 use Rattle.goto_lower.proofs.BuiltCounts.{Found, good_count}
 use Rattle.goto_lower.proofs.BuiltInto.{good_into}
-use Rattle.goto_lower.proofs.BuiltBranches.{GoodArms, good_branch, good_else}
+use Rattle.goto_lower.proofs.BuiltBranches.{GoodArm, GoodArms, good_branch, good_else}
 
 module _ (s : Setting) (found : Found s) where
   mutual

@@ -1,21 +1,25 @@
 -- The form that is built for a whole function: entry, end, parameters, body. All of its patterns stand.
-use Rattle.std.proofs.Common.{◌≡◌, ℕ, ◌+◌, ◌*◌, Bool, true, false, List, [], ◌∷◌, ◌++◌, length, map, replicate, Some, refl, sym, ap, ◌∙◌, subst, arith, length-append, append_assoc}
+use Rattle.std.proofs.Common.{◌≡◌, ℕ, zero, suc, ◌+◌, ◌*◌, ◌≤◌, Bool, true, false, List, [], ◌∷◌, ◌++◌, length, map, replicate, Option, Some, None, refl, sym, ap, ◌∙◌, subst, arith, length-append, append_assoc}
 use Rattle.std.specs.Prelude.{slice_get}
 use Rattle.std.proofs.lemmas.List.{length-map}
 use Rattle.away_values.specs.declared.types.Ty.{Ty}
 use Rattle.away_values.specs.declared.types.Ty.TheVariants as ty
 use Rattle.away_trees.specs.declared.statements.Function.{Function}
+use Rattle.away_trees.specs.StatementAlgebra.{stmt_of}
 use Rattle.away_types.specs.declared.slots.Slot.{Slot}
+use Rattle.block_forms.specs.declared.forms.Block.{Block}
+use Rattle.block_forms.specs.declared.forms.Goto.{Goto}
 use Rattle.block_forms.specs.Patterns.{shared, is_null, null_of, branches, jumps, returns, fails, node, yes_of, end_in, yes_in}
 use Rattle.plsql_meaning.specs.Outcomes.{no_return}
-use Rattle.block_forms.specs.Laid.{Setting, laid}
+use Rattle.block_forms.specs.declared.places.Numbers.{Numbers}
+use Rattle.block_forms.specs.Laid.{Setting, laid, laying}
 use Rattle.block_forms.specs.Intos.{into_targets}
 use Rattle.block_forms.specs.Slots.{slot, variables, param_slots, shown_types, hidden_slot}
 use Rattle.block_forms.specs.OwnSlots.{OwnSlots}
 use Rattle.block_forms.specs.Lowered.{all_parts, setting, numbers_of, body_place, param_parts, params_parts}
-use Rattle.goto_lower.specs.Building.{built_of}
+use Rattle.goto_lower.specs.Building.{Built, building, built_of}
 use Rattle.goto_lower.specs.Whole.{Params, param_many, param_first, param_firsts, param_blocks, finish, body_of, body_start, body_first, built}
-use Rattle.goto_lower.proofs.BuiltRows.{node_is}
+use Rattle.goto_lower.proofs.BuiltRows.{Good, node_is}
 use Rattle.goto_lower.proofs.BuiltCounts.{Found}
 use Rattle.goto_lower.proofs.BuiltVars.{vars_same}
 use Rattle.goto_lower.proofs.BuiltTrees.{good}

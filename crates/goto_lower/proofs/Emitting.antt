@@ -1,5 +1,5 @@
 -- What is pushed for a statement is what is pushed for its parts, one after the other.
-use Rattle.std.proofs.Common.{◌≡◌, ℕ, ◌+◌, Bool, false, List, [], ◌∷◌, ◌++◌, length, Option, Some, None, refl, sym, ap, ◌∙◌, arith, length-append, append_assoc, append-nil}
+use Rattle.std.proofs.Common.{◌≡◌, ℕ, zero, suc, ◌+◌, Bool, true, false, List, [], ◌∷◌, ◌++◌, length, Option, Some, None, refl, sym, ap, ◌∙◌, subst, arith, length-append, append_assoc, append-nil}
 use Rattle.away_values.specs.declared.values.Class.{Class}
 use Rattle.away_trees.specs.declared.queries.Expr.{Expr}
 use Rattle.away_trees.specs.declared.statements.Decl.{Decl}
@@ -16,7 +16,7 @@ use Rattle.goto_lower.specs.Building.{Built, BuiltArm, first_from, row_size, row
 use Rattle.goto_lower.specs.Drafts.{extended, pushed, begun, emitted, emitted_row, emitted_arms, declared, all_declared, started, tested, count_begun}
 use Rattle.goto_lower.proofs.BuiltSizes.{Counted, AllCounted, ArmsCounted, row_from, row_length, decls_from, arms_length, decls_length, for_length}
 use Rattle.goto_lower.proofs.SetSizes.{set_length}
-use Rattle.goto_lower.proofs.SizeEquations.{after_assoc, after_nothing}
+use Rattle.goto_lower.proofs.SizeEquations.{same_place, after_assoc, after_nothing, nothing_after}
 
 -- first blocks, blocks and a size are added
 abbrev pub add : List ℕ → List Block → Position → Draft → Draft

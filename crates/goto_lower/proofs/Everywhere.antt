@@ -1,10 +1,15 @@
 -- What holds of all elements of a list, by recursion on the list.
-use Rattle.std.proofs.Common.{◌≡◌, zero, suc, List, [], ◌∷◌, ◌++◌, subst, arith}
+use Rattle.std.proofs.Common.{◌≡◌, ℕ, zero, suc, List, [], ◌∷◌, ◌++◌, subst, arith}
+use Rattle.std.specs.Prelude.{All}
 use Rattle.block_forms.specs.Places.{Each}
 
 abbrev pub Every : {X : Type 0} → (X → Type 0) → List X → Type 0
 Every P [] = Unit {0}
 Every P (x ∷ xs) = P x × Every P xs
+
+pub every_of : {X : Type 0} (P : X → Type 0) (xs : List X) → All P xs → Every P xs
+every_of P [] h = tt
+every_of P (x ∷ xs) h = (h 0 x (omega arith), every_of P xs (λ k d lt. h (suc k) d (omega arith)))
 
 pub each_of : {X : Type 0} (P : X → Type 0) (xs : List X) → Every P xs → Each P xs
 each_of P [] h i x e = absurd (cc)

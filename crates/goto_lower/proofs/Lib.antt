@@ -31,4 +31,5 @@ pub mod BuiltSafe
 pub mod SafeTrees
 pub mod NodesCounted
 pub mod ReadsOwn
+pub mod TempCounts
 pub mod BuiltLowered

@@ -1,6 +1,6 @@
 -- An expression or a select that reads slots below a number alone has slots below it.
-use Rattle.std.proofs.Common.{◌≡◌, ℕ, suc, ◌<◌, Bool, true, false, cond, not, ◌&&◌, List, [], ◌∷◌, nat_lt, refl, ap, ◌∙◌, subst, append-nil}
-use Rattle.std.specs.Prelude.{filter, filter_map, ◌==◌}
+use Rattle.std.proofs.Common.{◌≡◌, ℕ, zero, suc, ◌<◌, Bool, true, false, cond, not, ◌&&◌, List, [], ◌∷◌, Option, Some, None, nat_eq, nat_lt, refl, ap, ◌∙◌, subst, arith, append-nil}
+use Rattle.std.specs.Prelude.{filter, filter_map, slice_get, ◌==◌}
 use Rattle.std.specs.List.{list_all}
 use Rattle.std.proofs.lemmas.Bool.{ltb-true}
 use Rattle.away_trees.specs.declared.queries.Expr.{Expr}

@@ -1,5 +1,5 @@
 -- The blocks that are built for a statement lead to no entry, and read and set the function's slots alone, by one recursion over statements.
-use Rattle.std.proofs.Common.{ℕ, ◌≤◌, ◌<◌, false, List, [], Some, None, arith}
+use Rattle.std.proofs.Common.{ℕ, ◌≤◌, ◌<◌, false, List, [], ◌∷◌, ◌++◌, Option, Some, None, arith}
 use Rattle.std.specs.Prelude.{slice_get}
 use Rattle.away_trees.specs.declared.statements.LoopKind.TheVariants as kind
 use Rattle.away_trees.specs.declared.statements.Stmt.{Stmt}
@@ -71,11 +71,8 @@ module _ (n : Numbers) (limit : ℕ) (room : n.counters ≤ limit) (slots : List
     arms_secure : {m : _} → (x : b.Row_of-Arm m) → Every (OwnReads n limit room) (in_turn (branches_of (sourcing entries) x)) → Every (Own n limit room) (row_targets (branches_of targeting x)) → Every (OwnInto n limit room) (row_intos (branches_of selecting x)) → ArmsSecure n limit room (branches_of (building n slots finish) x)
     arms_secure b.end_of-Arm r a o = tt
     arms_secure (b.more_of-Arm test m body rest) r a o = (
-      (
-        r.0,
-        rows_secure body (every_left (OwnReads n limit room) (in_turn (stmts_of (sourcing entries) body)) (in_turn (branches_of (sourcing entries) rest)) r.1) (every_left (Own n limit room) (row_targets (stmts_of targeting body)) (row_targets (branches_of targeting rest)) a)
-            (every_left (OwnInto n limit room) (row_intos (stmts_of selecting body)) (row_intos (branches_of selecting rest)) o),
-      ),
+      (r.0, rows_secure body (every_left (OwnReads n limit room) (in_turn (stmts_of (sourcing entries) body)) (in_turn (branches_of (sourcing entries) rest)) r.1) (every_left (Own n limit room) (row_targets (stmts_of targeting body)) (row_targets (branches_of targeting rest)) a)
+          (every_left (OwnInto n limit room) (row_intos (stmts_of selecting body)) (row_intos (branches_of selecting rest)) o)),
       arms_secure rest (every_right (OwnReads n limit room) (in_turn (stmts_of (sourcing entries) body)) (in_turn (branches_of (sourcing entries) rest)) r.1) (every_right (Own n limit room) (row_targets (stmts_of targeting body)) (row_targets (branches_of targeting rest)) a)
           (every_right (OwnInto n limit room) (row_intos (stmts_of selecting body)) (row_intos (branches_of selecting rest)) o),
     )

@@ -1,5 +1,5 @@
 -- How many blocks set a slot.
-use Rattle.std.proofs.Common.{◌≡◌, ℕ, Bool, true, false, length, Option, Some, None, refl}
+use Rattle.std.proofs.Common.{◌≡◌, ℕ, Bool, true, false, List, length, Option, Some, None, refl}
 use Rattle.away_values.specs.declared.types.Ty.{Ty}
 use Rattle.away_types.specs.declared.slots.Slot.{Slot}
 use Rattle.block_forms.specs.declared.places.Numbers.{Numbers}

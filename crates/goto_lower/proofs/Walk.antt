@@ -1,23 +1,25 @@
 -- What the walk over statements has pushed, from what it pushed for their parts.
-use Rattle.std.proofs.Common.{◌≡◌, ℕ, zero, suc, ◌+◌, ◌<◌, false, List, [], ◌∷◌, ◌++◌, length, get_or, drop, Option, Some, None, refl, sym, ap, ◌∙◌, subst, arith, length-append}
+use Rattle.std.proofs.Common.{◌≡◌, ℕ, zero, suc, ◌+◌, ◌<◌, false, List, [], ◌∷◌, ◌++◌, length, get_or, drop, map, Option, Some, None, refl, sym, ap, ◌∙◌, subst, arith, length-append, append-nil}
 use Rattle.std.proofs.lemmas.List.{length-map}
 use Rattle.away_trees.specs.declared.queries.Expr.{Expr}
 use Rattle.away_trees.specs.declared.statements.Arm.{Arm}
 use Rattle.away_trees.specs.declared.statements.Decl.{Decl}
 use Rattle.away_trees.specs.declared.statements.Stmt.{Stmt}
+use Rattle.away_trees.specs.StatementAlgebra.{stmt_of, branch_of}
 use Rattle.away_types.specs.declared.slots.Slot.{Slot}
 use Rattle.block_forms.specs.declared.places.Numbers.{Numbers}
 use Rattle.block_forms.specs.declared.places.Position.{Position}
 use Rattle.block_forms.specs.declared.forms.Block.{Block}
 use Rattle.block_forms.specs.Around.{Around}
-use Rattle.block_forms.specs.Laid.{with_expr, a_node}
+use Rattle.block_forms.specs.Laid.{with_expr, a_node, nothing}
 use Rattle.block_forms.specs.Patterns.{source_term, branches}
 use Rattle.goto_lower.specs.declared.draft.Draft.{Draft}
-use Rattle.goto_lower.specs.Building.{built_of, built_arm, first_from, row_many, row_first, arms_first, arms_many, set_many, simple, assigned, branched}
+use Rattle.goto_lower.specs.Building.{Built, BuiltArm, building, built_of, built_arm, first_from, row_many, row_first, arms_first, arms_many, set_many, simple, assigned, branched}
 use Rattle.goto_lower.specs.Drafts.{extended, pushed, begun, emitted, emitted_row, emitted_arms, set_by, tested, declared, all_declared}
 use Rattle.goto_lower.proofs.BuildingEquations.{rows, arms_of, arm_test, arm_body}
-use Rattle.goto_lower.proofs.BuiltSizes.{Counted, AllCounted, ArmsCounted, row_from, arms_left, decls_left, counted}
+use Rattle.goto_lower.proofs.BuiltSizes.{Counted, AllCounted, ArmsCounted, row_from, arms_left, decls_left, counted, rows_counted}
 use Rattle.goto_lower.proofs.Emitting.{row_more, row_end, arms_more, arms_end, else_with, decls_more, decls_end}
+use Rattle.goto_lower.proofs.SizeEquations.{after_nothing}
 
 -- a list from a place on, by its element there and the rest
 pub drop_here : {X : Type 0} (xs : List X) (i : ℕ) (x : X) → i < length xs → x ≡ get_or xs i x → drop i xs ≡ x ∷ drop (i + 1) xs

@@ -1,9 +1,10 @@
 -- The form that is pushed for a function is the one that is built for it.
-use Rattle.std.proofs.Common.{◌≡◌, ℕ, suc, ◌+◌, Bool, true, false, List, [], ◌∷◌, ◌++◌, length, refl, sym, ap, ◌∙◌, arith, length-append, append_assoc, append-nil}
+use Rattle.std.proofs.Common.{◌≡◌, ℕ, zero, suc, ◌+◌, Bool, true, false, List, [], ◌∷◌, ◌++◌, length, Option, Some, None, refl, sym, ap, ◌∙◌, arith, length-append, append_assoc, append-nil}
 use Rattle.away_values.specs.declared.types.Ty.{Ty}
 use Rattle.away_trees.specs.declared.statements.Function.{Function}
 use Rattle.away_types.specs.declared.slots.Slot.{Slot}
 use Rattle.plsql_meaning.specs.Outcomes.{no_return}
+use Rattle.block_forms.specs.declared.forms.Block.{Block}
 use Rattle.block_forms.specs.declared.forms.Goto.{Goto}
 use Rattle.block_forms.specs.declared.places.Numbers.{Numbers}
 use Rattle.block_forms.specs.declared.places.Position.{Position}
@@ -15,7 +16,7 @@ use Rattle.goto_lower.specs.Building.{built_of, first_from}
 use Rattle.goto_lower.specs.Drafts.{extended, pushed, begun, emitted, begun_params}
 use Rattle.goto_lower.specs.Whole.{Params, param_many, param_first, param_firsts, param_blocks, finish, body_of, body_start, body_first, built}
 use Rattle.goto_lower.proofs.BuiltSizes.{counted}
-use Rattle.goto_lower.proofs.SizeEquations.{same_place, after_nothing}
+use Rattle.goto_lower.proofs.SizeEquations.{same_place, after_assoc, after_nothing}
 
 abbrev Many : Draft → ℕ
 Many d = length d.blocks

@@ -1,4 +1,4 @@
-use Rattle.std.proofs.Common.{◌≡◌, ◌+◌, false, drop, [], ◌∷◌, ◌∙◌, Some, None, sym, ap, refl, rules, length-drop}
+use Rattle.std.proofs.Common.{◌≡◌, ◌+◌, ◌≤◌, false, drop, [], ◌∷◌, ◌∙◌, Some, None, sym, ap, subst, refl, rules, arith, length-drop}
 use Rattle.away_trees.specs.declared.statements.Stmt.{the_lemmas}
 use Rattle.away_trees.specs.declared.statements.Stmt.TheVariants as stmt
 use Rattle.plsql_meaning.specs.Outcomes.{case_not_found}

@@ -1,4 +1,5 @@
 use Rattle.std.proofs.Common.{◌≡◌, ◌+◌, ◌++◌, ap, ◌∙◌}
+use Rattle.select_into.specs.Entries.{checks}
 use Rattle.block_forms.specs.Patterns.{node, jump_of, onward, check_parts, pick_parts, put_parts, puts_of}
 use Rattle.goto_check.specs.Asking.{numbers_in}
 use Rattle.goto_check.specs.AnswerRuns.{answer_run}

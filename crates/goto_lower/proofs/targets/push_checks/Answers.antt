@@ -1,4 +1,4 @@
-use Rattle.std.proofs.Common.{length, ap, sym, ◌∙◌}
+use Rattle.std.proofs.Common.{◌≡◌, length, ap, sym, ◌∙◌}
 use Rattle.goto_lower.specs.IntoBlocks.{check_blocks}
 use Rattle.goto_lower.specs.Drafts.{extended}
 use Rattle.goto_lower.proofs.DraftRules.{extended_none}

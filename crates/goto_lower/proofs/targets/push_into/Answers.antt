@@ -1,6 +1,7 @@
-use Rattle.std.proofs.Common.{◌≡◌, ◌+◌, true, false, ap, ◌∙◌}
+use Rattle.std.proofs.Common.{◌≡◌, ◌+◌, true, false, length, ap, ◌∙◌}
 use Rattle.select_into.specs.Entries.{checks}
 use Rattle.block_forms.specs.Laid.{place}
+use Rattle.goto_lower.specs.Building.{first_from}
 use Rattle.goto_lower.specs.Drafts.{begun}
 use Rattle.goto_lower.specs.IntoBlocks.{check_many}
 use Rattle.goto_lower.proofs.IntoWalk.{into_pushed, on_ok}

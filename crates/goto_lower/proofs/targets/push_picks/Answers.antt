@@ -1,4 +1,4 @@
-use Rattle.std.proofs.Common.{◌+◌, [], None, drop, get_or, ap, ◌∙◌}
+use Rattle.std.proofs.Common.{◌≡◌, ◌+◌, [], None, drop, get_or, ap, ◌∙◌}
 use Rattle.std.proofs.lemmas.List.{drop_all}
 use Rattle.block_forms.specs.Patterns.{sets}
 use Rattle.goto_lower.specs.Drafts.{begun, pushed}

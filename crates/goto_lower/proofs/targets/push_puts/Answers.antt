@@ -1,4 +1,4 @@
-use Rattle.std.proofs.Common.{◌≡◌, ◌+◌, drop, get_or, length, ap, sym, ◌∙◌, length-drop}
+use Rattle.std.proofs.Common.{◌≡◌, ◌+◌, ◌-◌, drop, get_or, length, ap, sym, ◌∙◌, length-drop}
 use Rattle.std.proofs.lemmas.List.{drop_all}
 use Rattle.goto_lower.specs.Building.{first_from}
 use Rattle.goto_lower.specs.IntoBlocks.{put_many}

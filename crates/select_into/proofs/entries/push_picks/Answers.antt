@@ -1,4 +1,4 @@
-use Rattle.std.proofs.Common.{rules, ◌≡◌, ◌++◌, ◌∷◌, [], map, ap, sym, ◌∙◌, append_assoc}
+use Rattle.std.proofs.Common.{rules, ◌≡◌, ◌++◌, ◌∷◌, [], ◌+◌, map, ap, sym, ◌∙◌, append_assoc}
 use Rattle.sql_meaning.specs.Template.{below}
 use Rattle.select_into.specs.Wrapped.{pick, picked}
 use Rattle.select_into.proofs.Lists.{one_more_pick}

@@ -1,4 +1,4 @@
-use Rattle.std.proofs.Common.{◌≡◌, take, map}
+use Rattle.std.proofs.Common.{◌≡◌, ℕ, List, Option, take, map}
 use Rattle.select_into.specs.Entries.{Target, type_of}
 use Rattle.select_into.proofs.entries.target_types.Given as goal
 
