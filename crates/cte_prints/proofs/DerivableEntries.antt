@@ -22,7 +22,7 @@ use Rattle.cte_names.proofs.Standing.{Allowed, placing}
 use Rattle.cte_names.proofs.OwnLeaves.{own_leaves}
 use Rattle.cte_names.proofs.ReadSlots.{is_in, stands, reads_own}
 use Rattle.cte_prints.specs.Derivable.{Derivable}
-use Rattle.cte_prints.specs.Like.{IsCastable, IsLike, value}
+use Rattle.cte_prints.specs.Like.{IsLike, value}
 use Rattle.cte_prints.proofs.ReadingDepth.{read_so}
 use Rattle.cte_prints.proofs.LikeDerivable.{like_derivable}
 use Rattle.cte_prints.proofs.NodesAlike.{derive_cast_to}
@@ -37,24 +37,24 @@ use Rattle.cte_prints.proofs.WrittenSources.{StandsFor}
 
 -- can be derived as a value of the query
 abbrev pub IsDerivableAt : Scope → Expr → Type 0
-IsDerivableAt s w = Derivable 195 (at l.Or) (qualified_expr w s.levels)
+IsDerivableAt s w = Derivable 196 (at l.Or) (qualified_expr w s.levels)
 
 -- at each place that sees the schema's tables, where its slots are columns of the query's own with names that can be written
 abbrev pub IsWritableName : Schema → Expr → Type 0
 IsWritableName schema e =
-    (t : Ty) (s : Scope) (ref : ℕ → Col) → IsCastable t → SeesTables schema s → SightIsWritable s.levels → Each (λ k. IsOwn s.levels (ref k))
+    (t : Ty) (s : Scope) (ref : ℕ → Col) → SeesTables schema s → SightIsWritable s.levels → Each (λ k. IsOwn s.levels (ref k))
     (slots_of e) → IsDerivableAt s (placed_at t ref e)
 
 module _ (s : Scope) where
   -- NULL with a type
-  pub null_derivable : (t : Ty) → IsCastable t → IsDerivableAt s (expr.Cast expr.Null t)
-  null_derivable t h =
-      subst (Derivable 195 (at l.Or)) (sym (d.cast_is expr.Null t s.levels ∙ ap (λ v. expr.Cast v t) (d.null_is s.levels)))
-      (at_or l.Primary (derive_cast_to {d = 194} t h (at_or l.Primary (derive.derive_literal m.Null refl))))
+  pub null_derivable : (t : Ty) → IsDerivableAt s (expr.Cast expr.Null t)
+  null_derivable t =
+      subst (Derivable 196 (at l.Or)) (sym (d.cast_is expr.Null t s.levels ∙ ap (λ v. expr.Cast v t) (d.null_is s.levels)))
+      (at_or l.Primary (derive_cast_to {d = 195} t (at_or l.Primary (derive.derive_literal m.Null refl))))
 
-  pub whole : (t : Ty) (ref : ℕ → Col) (e : Expr) → IsCastable t → IsDerivableAt s (placed ref e) → IsDerivableAt s (placed_at t ref e)
-  whole t ref b.Null h k = null_derivable t h
-  whole t ref e h k = k
+  pub whole : (t : Ty) (ref : ℕ → Col) (e : Expr) → IsDerivableAt s (placed ref e) → IsDerivableAt s (placed_at t ref e)
+  whole t ref b.Null k = null_derivable t
+  whole t ref e k = k
 
 -- ---- source expressions
 

@@ -26,8 +26,8 @@ use Rattle.away_types.specs.declared.slots.Slot.{Slot}
 use Rattle.away_values.specs.declared.operators.ChainOp.{ChainOp}
 use Rattle.away_values.specs.declared.types.Ty.{Ty}
 use Rattle.sql_meaning.specs.Template.{below}
-use Rattle.select_into.specs.Entries.{Target, target_types, check_entries, into_entries}
-use Rattle.select_into.specs.Wrapped.{pick, picked}
+use Rattle.select_into.specs.Entries.{Target, cast_at, target_types, check_entries, into_entries, pick_entry, unmarked}
+use Rattle.select_into.specs.Wrapped.{pick_as, picked}
 use Rattle.block_forms.specs.Expressions.{expressions, sources, source_expressions, whole_select}
 use Rattle.block_forms.specs.Intos.{Into, selecting}
 use Rattle.block_forms.specs.Slots.{shown_types}
@@ -138,14 +138,18 @@ checks_linked : (strict : Bool) (q : Select) → Every IsLinked (check_entries s
 checks_linked true q = (tt, (tt, tt))
 checks_linked false q = tt
 
-picks_linked : (q : Select) (places : List ℕ) → Every IsLinked (map (λ place. pick q place) places)
-picks_linked q [] = tt
-picks_linked q (k ∷ ks) = (tt, picks_linked q ks)
+pick_linked : (c : Option Ty) (q : Select) (place : ℕ) → IsLinked (pick_as c q place)
+pick_linked None q place = tt
+pick_linked (Some t) q place = tt
+
+picks_linked : (types : List Ty) (q : Select) (places : List ℕ) → Every IsLinked (map (pick_entry types q) places)
+picks_linked types q [] = tt
+picks_linked types q (k ∷ ks) = (pick_linked (cast_at types (out-Select q).list k) (picked types q) k, picks_linked types q ks)
 
 entries_linked : (types : List Ty) (strict : Bool) (targets : List Target) (q : Select) → Every IsLinked (into_entries types strict targets q)
 entries_linked types strict targets q =
     let own : List Ty = target_types types targets in
-    every_append IsLinked (check_entries strict q) _ (checks_linked strict q) (picks_linked (picked own q) (below (length own)))
+    every_append IsLinked (check_entries strict (unmarked q)) _ (checks_linked strict (unmarked q)) (picks_linked own q (below (length own)))
 
 any_into : (is : List Into) → Every (λ (i : Into). Unit {0}) is
 any_into [] = tt

@@ -87,13 +87,12 @@ trees_derivable schema written f slots g z a r count params checked lowered name
       columns = every_of r.columns writable.columns;
     } in
     let deeper : (e : ℕ) → 196 ≤ e → TableIsDerivable (suc e) schema m.table =
-    λ e le i t s ref castable some seen sight own. deepened 195 (suc e) (omega (arith, le)) (derivable i t s ref castable some seen sight own) in
+    λ e le i t s ref seen sight own. deepened 196 (suc e) (omega (arith, le)) (derivable i t s ref seen sight own) in
     let trees : Each (λ b. HasTree m.table (params_of (slice_get a.blocks b)) (body_of a r b)) r.labels =
     labels_have_trees slots g z a r (expressions f) called columned (terms_fit f slots g lowered count params z named a called) merged in
     let bodies =
-    labels_fit (column_types schema) (expressions f) (types_of slots z) f.result a r writable.labels tight.depths
-    (fails_fit f slots g lowered count params z named a called)
-    (terms_typed schema f slots (facts schema written f slots checked) writable.types writable.items g lowered count params z named a called) in
+    labels_fit a r writable.labels tight.depths
+    (fails_fit f slots g lowered count params z named a called) in
     let some : 0 < length r.labels = omega (arith, slice_get_within r.labels merged.entry.place g.entry merged.entry.there) in
     let rows : Derivable 215 from_item (qualified_part (label_rows m) [] (row_of (length r.columns) ∷ [])).item =
     rows_derive schema m clears fits.columns typed 196 16 deeper tables sees writable.labels slots z.names columned.as_many columned.each trees bodies fits some in

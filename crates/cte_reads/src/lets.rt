@@ -21,7 +21,7 @@ use crate::parts::{close_lateral, end_of_body, null_of, open_lateral};
 use crate::reading::{Wanted, close, empty, enter, event, leave, name, open};
 use crate::scope::{Ref, Scope, find_all, lookup};
 use away_trees::Col;
-use away_values::{NoMemory, Ty};
+use away_values::{NoMemory, Ty, literal_type};
 use block_forms::Term;
 use sqlite_items::Items;
 use std::alloc::Global;
@@ -116,7 +116,7 @@ fn placed_node(
 {
     match kind {
         Kind::Slot(slot) => open_ref(events, at, slot_ref(slots, refs, slot), depth),
-        Kind::Int(_) => close(events, open_literal(events, at, Ty::Bigint, kind)),
+        Kind::Int(n) => close(events, open_literal(events, at, literal_type(n), kind)),
         Kind::Bool(_) => close(events, open_literal(events, at, Ty::Boolean, kind)),
         Kind::Str => open_literal(events, at, Ty::Text, kind),
         _ => open(events, at, kind),

@@ -26,8 +26,6 @@ use Rattle.sql_meaning.proofs.Uses.{and_first, and_second, both_true}
 use Rattle.select_into.specs.Wrapped.{value_name, value_names, as_source, over_source, scalar_over, count_compared, pick, picked, null_as, items_as}
 use Rattle.type_soundness.specs.Sorts.{Every}
 use Rattle.cte_types.specs.Linked.{IsLinked}
-use Rattle.cte_types.specs.Typed.{HasKind}
-use Rattle.cte_types.proofs.Fine.{type_has}
 use Rattle.cte_types.proofs.NullAlone.{kind_exact}
 use Rattle.cte_types.proofs.Positions.{ItemLinked}
 
@@ -43,24 +41,24 @@ FitsIn t k = fits t k ≡ true
 
 -- ---- a list whose literal NULLs have types
 
-null_kind : (t : Ty) (e : Expr) (p : Places) → HasKind t → IsLinked e → fits t (K e p) ≡ true → K (null_as t e) p ≡ Of t
+null_kind : (t : Ty) (e : Expr) (p : Places) → IsLinked e → fits t (K e p) ≡ true → K (null_as t e) p ≡ Of t
 unfolding typing.cast_kind
-null_kind t b.Null p h l f = ap (λ (k : typing.Term). k p) (eq.of_cast typing.typing expr.Null t) ∙ type_has t h
-null_kind t e p h l f = kind_exact e p t l refl f
+null_kind t b.Null p l f = ap (λ (k : typing.Term). k p) (eq.of_cast typing.typing expr.Null t)
+null_kind t e p l f = kind_exact e p t l refl f
 
 abbrev items_in : List Item → List typing.Term
 items_in is = map (λ i. item_of typing.typing i) is
 
-items_kinds : (ts : List Ty) (is : List Item) (ks : List Kind) (p : Places) → kinds p (items_in is) ≡ ks → Zipped FitsIn ts ks → Every HasKind ts → Every ItemLinked is
+items_kinds : (ts : List Ty) (is : List Item) (ks : List Kind) (p : Places) → kinds p (items_in is) ≡ ks → Zipped FitsIn ts ks → Every ItemLinked is
     → kinds p (items_in (items_as ts is)) ≡ map (λ t. Of t) ts
-items_kinds ts is ks p e f h l = by ts is (subst (Zipped FitsIn ts) (sym e) f) h l
+items_kinds ts is ks p e f l = by ts is (subst (Zipped FitsIn ts) (sym e) f) l
   where
-    by : (ts : List Ty) (is : List Item) → Zipped FitsIn ts (kinds p (items_in is)) → Every HasKind ts → Every ItemLinked is
+    by : (ts : List Ty) (is : List Item) → Zipped FitsIn ts (kinds p (items_in is)) → Every ItemLinked is
         → kinds p (items_in (items_as ts is)) ≡ map (λ t. Of t) ts
-    by [] [] f h l = refl
-    by (t ∷ ts) (i ∷ is) f h l = λ j. null_kind t (out-Item i).expr p h.0 l.0 f.0 j ∷ by ts is f.1 h.1 l.1 j
-    by [] (i ∷ is) f h l = absurd f
-    by (t ∷ ts) [] f h l = absurd f
+    by [] [] f l = refl
+    by (t ∷ ts) (i ∷ is) f l = λ j. null_kind t (out-Item i).expr p l.0 f.0 j ∷ by ts is f.1 l.1 j
+    by [] (i ∷ is) f l = absurd f
+    by (t ∷ ts) [] f l = absurd f
 
 -- ---- a select
 
@@ -121,9 +119,9 @@ kinds_many s p ks e =
     let same = (other_list _ [] _ _ _ ks found.second refl).0 in
     sym (length-map (items_in list) (λ (t : typing.Term). t (inside found.x p)) ∙ length-map list (λ i. item_of typing.typing i)) ∙ ap (λ ks. length ks) same
 
-pub picked_kinds : (s : Select) (p : Places) (ts : List Ty) (ks : List Kind) → T s p ≡ Some ks → Zipped FitsIn ts ks → Every HasKind ts → Every ItemLinked (out-Select s).list
+pub picked_kinds : (s : Select) (p : Places) (ts : List Ty) (ks : List Kind) → T s p ≡ Some ks → Zipped FitsIn ts ks → Every ItemLinked (out-Select s).list
     → T (picked ts s) p ≡ Some (map (λ t. Of t) ts)
-picked_kinds s p ts ks e f h l =
+picked_kinds s p ts ks e f l =
     let o = out-Select s in
     let found = frame_of s p ks e in
     let q = inside found.x p in
@@ -192,13 +190,13 @@ compared_kind op s n p ks e many =
 
 -- ---- picks
 
-column_kind : (ks : List Kind) (p : Places) (j : ℕ) (t : Ty) → HasKind t → slice_get (types_of ks) j ≡ Some t → K (col 0 0 j) (over ks p) ≡ Of t
+column_kind : (ks : List Kind) (p : Places) (j : ℕ) (t : Ty) → slice_get (types_of ks) j ≡ Some t → K (col 0 0 j) (over ks p) ≡ Of t
 unfolding typing.column typing.kind_at
-column_kind ks p j t h e = ap typing.kind_at e ∙ type_has t h
+column_kind ks p j t e = ap typing.kind_at e
 
-pub pick_kind : (s : Select) (p : Places) (ks : List Kind) (j : ℕ) (t : Ty) → from_of typing.typing (as_source s) p [] ≡ Some (types_of ks) → HasKind t
+pub pick_kind : (s : Select) (p : Places) (ks : List Kind) (j : ℕ) (t : Ty) → from_of typing.typing (as_source s) p [] ≡ Some (types_of ks)
     → slice_get (types_of ks) j ≡ Some t → K (pick s j) p ≡ Of t
 unfolding select_kinds maybe_fits is_right fits same
-pick_kind s p ks j t h k e =
+pick_kind s p ks j t h e =
     scalar_kind_is (col 0 0 j) (Some (expr.Int (pos 1))) s p t
-    (over_kinds (col 0 0 j) (Some (expr.Int (pos 1))) s p ks h ∙ ap (λ k. select_kinds (k ∷ []) None [] (Some (Of ty.Bigint))) (column_kind ks p j t k e))
+    (over_kinds (col 0 0 j) (Some (expr.Int (pos 1))) s p ks h ∙ ap (λ k. select_kinds (k ∷ []) None [] (Some (Of ty.Bigint))) (column_kind ks p j t e))

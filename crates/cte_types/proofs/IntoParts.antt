@@ -31,7 +31,6 @@ use Rattle.block_forms.specs.Patterns.{Part, node, select_term, copy, onward, ch
 use Rattle.type_soundness.specs.Sorts.{Every}
 use Rattle.type_soundness.proofs.CleanNotes.{Clean, clean_parts, test_fails}
 use Rattle.type_soundness.proofs.Deeper.{select_deeper}
-use Rattle.cte_types.specs.Typed.{HasKind, NoIntegers}
 use Rattle.cte_types.proofs.EntryTypes.{T, FitsIn, length_from, kinds_many, picked_kinds, source_shape, compared_kind, pick_kind}
 use Rattle.cte_types.proofs.EntryUses.{Allowed, compared_calm, pick_calm, picked_allowed}
 use Rattle.cte_types.proofs.FixedTypes.{FixedHave}
@@ -67,7 +66,7 @@ types_back [] = refl
 types_back (t ∷ ts) = ap (λ us. t ∷ us) (types_back ts)
 
 module _ (tables : List (List Ty)) (table : List Expr) (result : Ty) (s : Setting) (shown : List Ty) (fors : ℕ)
-    (fixed : FixedHave tables table s.slots result s.numbers.fixed) (plain : NoIntegers s.slots result)
+    (fixed : FixedHave tables table s.slots result s.numbers.fixed)
     (hidden : (f : ℕ) → f < fors → ForAt s f) where
   abbrev Have : List Part → Type 0
   Have = AllHave tables table s.slots result
@@ -131,14 +130,6 @@ module _ (tables : List (List Ty)) (table : List Expr) (result : Ty) (s : Settin
   all_fit [] (k ∷ ks) n h at = cc
   all_fit (t ∷ ts) [] n h at = cc
 
-  target_kind : (o : Option ℕ) → VariableAt table s shown fors o (type_of shown o) → HasKind (type_of shown o)
-  target_kind None v = tt
-  target_kind (Some x) v = subst HasKind v (slot_kind s.slots plain.slots_are x)
-
-  have_kinds : (ts : List Target) (n : ℕ) → Targets n ts → Every HasKind (target_types shown ts)
-  have_kinds [] n at = tt
-  have_kinds (t ∷ ts) n at = (target_kind t.1 at.0.1, have_kinds ts (suc n) at.1)
-
   -- ---- the parts
 
   module _ (ts : List Target) (q : Select) (known : Found ts q) where
@@ -172,15 +163,15 @@ module _ (tables : List (List Ty)) (table : List Expr) (result : Ty) (s : Settin
       ks = map (λ t. Of t) types
 
       kinds_are : T Q (record a.places { frames = [] ∷ [] }) ≡ Some ks
-      kinds_are = picked_kinds q _ types known.kinds deeper (all_fit ts known.kinds n known.taken stand) (have_kinds ts n stand) linked
+      kinds_are = picked_kinds q _ types known.kinds deeper (all_fit ts known.kinds n known.taken stand) linked
 
       shape : from_of typing (as_source Q) a.places [] ≡ Some (types_of ks)
       shape = source_shape Q a.places ks kinds_are (kinds_many Q _ ks kinds_are)
 
-      pick_has : (k j : ℕ) (t : Ty) → slice_get types j ≡ Some t → HasKind t → Entry table k (pick Q j) → HasIt t (select_term k q)
-      pick_has k j t e plain h =
+      pick_has : (k j : ℕ) (t : Ty) → slice_get types j ≡ Some t → Entry table k (pick Q j) → HasIt t (select_term k q)
+      pick_has k j t e h =
           select_has tables table s.slots result k t q (pick Q j) h (pick_slots types q j).same
-          (ap (fits t) (pick_kind Q a.places ks j t shape plain (ap (λ us. slice_get us j) (types_back types) ∙ e)) ∙ fits_itself t)
+          (ap (fits t) (pick_kind Q a.places ks j t shape (ap (λ us. slice_get us j) (types_back types) ∙ e)) ∙ fits_itself t)
           (pick_calm Q j (picked_allowed types q known.allowed))
 
       -- the picks of the targets from one on
@@ -191,7 +182,7 @@ module _ (tables : List (List Ty)) (table : List Expr) (result : Ty) (s : Settin
           let here : slice_get types j ≡ Some (of_target u) = let z : j ≡ 0 + j = omega arith in ap (slice_get types) z ∙ sym (there 0) in
           let next : (l : ℕ) → slice_get (target_types shown us) l ≡ slice_get types (l + suc j) = λ l. let z : suc l + j ≡ l + suc j = omega arith in there (suc l) ∙ ap (slice_get types) z in
           let set = ap (type_at s.slots) e ∙ at.0.0 in (
-            (subst (λ t. HasIt t (select_term k q)) (sym set) (pick_has k j (of_target u) here (target_kind u.1 at.0.1) entries.0), tt),
+            (subst (λ t. HasIt t (select_term k q)) (sym set) (pick_has k j (of_target u) here entries.0), tt),
             picks_have us (i + 1) (k + 1) (h + 1) (suc m) (suc j) puts (omega (arith, e)) at.1 next
                 (row_same (Entry table) (suc k) (k + 1) (map (λ place. pick Q place) (count_from (suc j) (length (target_types shown us)))) (omega arith) entries.1),
           )
@@ -200,8 +191,8 @@ module _ (tables : List (List Ty)) (table : List Expr) (result : Ty) (s : Settin
       → VariableAt table s shown fors o (type_of shown o) → Have (put_part s.goto s.numbers s.slots o c h next)
   put_has None c h m next e t v = ((tt, tt), tt)
   put_has (Some x) c h m next e t v =
-      slot_has tables table result s fors fixed plain hidden (slice_get s.slots x) c x next (copy s.numbers.fixed h) refl
-      (fixed.copies (type_at s.slots x) h (slot_kind s.slots plain.slots_are x) (ap (type_at s.slots) e ∙ (t ∙ sym v)))
+      slot_has tables table result s fors fixed hidden (slice_get s.slots x) c x next (copy s.numbers.fixed h) refl
+      (fixed.copies (type_at s.slots x) h (ap (type_at s.slots) e ∙ (t ∙ sym v)))
 
   puts_have : (us : List Target) (c h m next : ℕ) → h ≡ s.numbers.targets + m → Targets m us → Have (put_parts s.goto s.numbers s.slots us c h next)
   puts_have [] c h m next e at = tt

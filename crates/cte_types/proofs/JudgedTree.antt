@@ -27,7 +27,7 @@ use Rattle.away_typing.specs.declared.kind.Kind.{Kind}
 use Rattle.away_typing.specs.declared.params.Params.{Params}
 use Rattle.away_typing.specs.declared.wholes.Recursion.{Recursion}
 use Rattle.away_typing.specs.Aggregates.{using_, Term, is_some_of}
-use Rattle.away_typing.specs.Kinds.{same, fits, of_type}
+use Rattle.away_typing.specs.Kinds.{same, fits}
 use Rattle.away_typing.specs.Parameters.{finding, no_params}
 use Rattle.away_typing.specs.ParameterLists.{params_of, with_query}
 use Rattle.away_typing.specs.Trees.{uses_of_query, uses_of_select, kinds_of_select}
@@ -43,14 +43,13 @@ use Rattle.cte_template.specs.Tree as t
 use Rattle.cte_template.specs.Walks.{all_columns}
 use Rattle.cte_parts.specs.Names.{table_name, row_names}
 use Rattle.cte_parts.specs.Trees.{working}
-use Rattle.cte_types.specs.Typed.{HasKind}
 use Rattle.cte_types.proofs.BodyTypes.{FillsCells}
 use Rattle.type_soundness.specs.Sorts.{Every}
 use Rattle.cte_types.proofs.Fine.{Calm, calm_is, either_calm, all_calm, apart_calm, type_fits, type_back}
 use Rattle.cte_types.proofs.Rows.{Good, kinds_of}
 use Rattle.cte_types.proofs.StartTypes.{AreOfNames, start_kinds, start_calm, start_adds}
 use Rattle.cte_types.proofs.TreeTypes.{IsLabel, step_good, last_good}
-use Rattle.cte_types.proofs.WalkTypes.{IsSound, row_types, rows_have, row_names_size}
+use Rattle.cte_types.proofs.WalkTypes.{IsSound, row_types, row_names_size}
 use Rattle.cte_template.specs.Walks.{keys_of}
 use Rattle.call_forms.specs.Template.{entry_place}
 use Rattle.call_forms.specs.Forms.{params_of as params_of_block}
@@ -79,21 +78,21 @@ padded_is [] (t ∷ ts) h = absurd (omega (arith, h))
 padded_is (n ∷ names) [] h = absurd (omega (arith, h))
 padded_is (n ∷ names) (t ∷ ts) h = ap (λ ts. t ∷ ts) (padded_is names ts (omega (arith, h)))
 
-all_fitting : (ts : List Ty) → Every HasKind ts → all_fit ts (kinds_of ts) ≡ true
-all_fitting [] h = refl
-all_fitting (t ∷ ts) h = both_true (fits t (of_type t)) (all_fit ts (kinds_of ts)) (type_fits t h.0) (all_fitting ts h.1)
+all_fitting : (ts : List Ty) → all_fit ts (kinds_of ts) ≡ true
+all_fitting [] = refl
+all_fitting (t ∷ ts) = both_true (fits t (Of t)) (all_fit ts (kinds_of ts)) (type_fits t) (all_fitting ts)
 
 -- one select alone
 one_union : (p : Places) (s : Select) (ks : Option (List Kind)) → kinds_of_select s p ≡ ks → union_in p (s ∷ []) ≡ ks
 unfolding further or_none
 one_union p s ks h = h
 
-shape_back : (ts : List Ty) → Every HasKind ts → shape_of (Some (kinds_of ts)) ≡ Some ts
-shape_back ts h = ap (λ ts. Some ts) (back ts h)
+shape_back : (ts : List Ty) → shape_of (Some (kinds_of ts)) ≡ Some ts
+shape_back ts = ap (λ ts. Some ts) (back ts)
   where
-    back : (ts : List Ty) → Every HasKind ts → types_of (kinds_of ts) ≡ ts
-    back [] h = refl
-    back (t ∷ ts) h = λ i. type_back t h.0 i ∷ back ts h.1 i
+    back : (ts : List Ty) → types_of (kinds_of ts) ≡ ts
+    back [] = refl
+    back (t ∷ ts) = λ i. type_back t i ∷ back ts i
 
 module _ (schema : Schema) (m : Making) (sound : IsSound m) (small : length (column_types schema) < 2 ^ 64)
     (labels : (j b : ℕ) → slice_get m.tail.labels j ≡ Some b → IsLabel m (column_types schema) sound j b)
@@ -105,9 +104,6 @@ module _ (schema : Schema) (m : Making) (sound : IsSound m) (small : length (col
 
   abbrev Rows : List Ty
   Rows = row_types m.tail.columns m.result
-
-  abbrev have : Every HasKind Rows
-  have = rows_have m tables sound
 
   abbrev names : List Name
   names = row_names (t.width m)
@@ -161,7 +157,7 @@ module _ (schema : Schema) (m : Making) (sound : IsSound m) (small : length (col
   shape_is =
       ap shape_of (one_union (over_tables (with_table schema (padded names []))) first (Some (kinds_of Rows))
       (start_kinds m tables sound entry fills (over_tables (with_table schema (padded names [])))))
-      ∙ shape_back Rows have
+      ∙ shape_back Rows
 
   tables_are : tables_by fields (Some Rows) ≡ with_table schema Rows
   unfolding recursive_types is_never types_or_none
@@ -201,7 +197,7 @@ module _ (schema : Schema) (m : Making) (sound : IsSound m) (small : length (col
   recursive_is : is_recursion_by fields (Some Rows) (Some (kinds_of Rows)) ≡ true
   unfolding is_never is_once types_or_none fits_shape
   recursive_is =
-      both_true _ _ own_from (both_true _ _ plain (both_true _ _ (eq-eqb (length names) (length Rows) names_are) (all_fitting Rows have)))
+      both_true _ _ own_from (both_true _ _ plain (both_true _ _ (eq-eqb (length names) (length Rows) names_are) (all_fitting Rows)))
 
   note_clean : (note_by fields (Some Rows) (Some (kinds_of Rows))).least ≡ None
   note_clean =
@@ -263,7 +259,7 @@ module _ (schema : Schema) (m : Making) (sound : IsSound m) (small : length (col
       ap (λ (x : Wholes). shape_of (union_in (over_tables (found x).tables) x.selects)) (out-roll-Query whole)
       ∙ (ap (λ ts. shape_of (union_in (over_tables ts) (final ∷ []))) recursion_tables
       ∙ (ap shape_of (one_union (over_tables (with_table schema Rows)) final (Some (kinds_of (m.result ∷ ty.Text ∷ []))) final_good.kinds)
-      ∙ shape_back (m.result ∷ ty.Text ∷ []) (sound.result, (tt, tt))))
+      ∙ shape_back (m.result ∷ ty.Text ∷ [])))
 
   answer_clean : (shape : Shape) → shape ≡ Some (m.result ∷ ty.Text ∷ []) → (answer_note shape).least ≡ None
   unfolding is_answer same

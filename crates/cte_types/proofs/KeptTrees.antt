@@ -4,6 +4,7 @@ use Rattle.std.specs.Prelude.{option_and_then, slice_get}
 use Rattle.std.specs.List.{list_all, flat_map}
 use Rattle.std.specs.Str.Parse.{digits_value}
 use Rattle.away_values.specs.declared.types.Ty.TheVariants as ty
+use Rattle.away_values.specs.Operators.{literal_type}
 use Rattle.away_values.specs.declared.operators.ChainOp.{ChainOp}
 use Rattle.away_trees.specs.declared.queries.Col.{Col}
 use Rattle.away_trees.specs.declared.queries.Expr.{Expr}
@@ -21,7 +22,7 @@ use Rattle.away_trees.proofs.Equations as eq
 use Rattle.away_names.specs.Functions.{function}
 use Rattle.away_typing.specs.declared.kind.Kind.{Kind}
 use Rattle.away_typing.specs.declared.kind.Kind.TheVariants.{Of}
-use Rattle.away_typing.specs.Kinds.{fits, meet, common, only_if, same, of_type}
+use Rattle.away_typing.specs.Kinds.{fits, meet, common, only_if, same}
 use Rattle.away_typing.specs.Typing as typing
 use Rattle.away_typing.specs.Typing.{Places, Frame, Shape, inside, before, column, kind_at, table_shape, listed, pair, kind, kinds, chained, tested, chosen, other_kind, kind_or_null, framed, select_kinds, listing, cast_kind, castable}
 use Rattle.sql_meaning.specs.Placed.{Deep, replacing, column_of, further, with_cast, placed, select_in_place}
@@ -29,7 +30,7 @@ use Rattle.sql_meaning.specs.Reads.{Read, Reads, SourceReads, reading, reads, of
 use Rattle.sql_meaning.proofs.Lists.{Zipped, ZippedOption}
 use Rattle.sql_meaning.proofs.Related.{Alike, AlikeOption, AlikeLink, AlikeArm, Relation, IsKept, expr_related}
 use Rattle.sql_meaning.proofs.Uses.{and_first, and_second, both_true, left, right, zipped, zipped_option, under, under_option}
-use Rattle.cte_types.proofs.KeptKinds.{Keeps, KeepsSome, kept_itself, asked_kept, right_kept, only_if_kept, fits_kept, meet_kept, common_kept, pair_kept, is_kept, cast_kept, settled_kept, called_kept, scalar_kept, exists_kept, some_under}
+use Rattle.cte_types.proofs.KeptKinds.{Keeps, KeepsSome, kept_itself, asked_kept, minus_kept, small_minus_kept, right_kept, only_if_kept, fits_kept, meet_kept, common_kept, pair_kept, is_kept, cast_kept, settled_kept, called_kept, scalar_kept, exists_kept, some_under}
 use Rattle.cte_types.proofs.SlotsRead.{reads_slots}
 use Rattle.cte_types.proofs.KeptSelects.{PartKept, ListingKept, framed_kept, select_kinds_kept, union_kept}
 
@@ -325,16 +326,20 @@ module _ (ref : ℕ → Col) (wanted : ℕ → Bool) where
 
   -- ---- literals under their casts
 
-  bigint_kept : Keeps (Of ty.Bigint) (cast_kind ty.Bigint (Of ty.Bigint))
-  unfolding cast_kind only_if castable same of_type
-  bigint_kept = refl
+  -- a literal under the cast to its own type
+  literal_kept : (t : Ty) → Keeps (Of t) (cast_kind t (Of t))
+  unfolding cast_kind only_if castable same
+  literal_kept ty.Bigint = refl
+  literal_kept ty.Integer = refl
+  literal_kept ty.Boolean = refl
+  literal_kept ty.Text = refl
 
   text_kept : Keeps (Of ty.Text) (cast_kind ty.Text (Of ty.Text))
-  unfolding cast_kind only_if castable same of_type
+  unfolding cast_kind only_if castable same
   text_kept = refl
 
   boolean_kept : Keeps (Of ty.Boolean) (cast_kind ty.Boolean (Of ty.Boolean))
-  unfolding cast_kind only_if castable same of_type
+  unfolding cast_kind only_if castable same
   boolean_kept = refl
 
   -- ---- all steps
@@ -344,7 +349,7 @@ module _ (ref : ℕ → Col) (wanted : ℕ → Bool) where
   steps = record {
     no_expr = λ d p q h t. tt;
     no_query = λ d p q h t. tt;
-    int = λ n d p q h t. node (Of ty.Bigint) q _ _ (eq.of_cast typing.typing (expr.Int n) ty.Bigint) (bigint_kept);
+    int = λ n d p q h t. node (Of (literal_type n)) q _ _ (eq.of_cast typing.typing (expr.Int n) (literal_type n)) (literal_kept (literal_type n));
     str = λ s d p q h t. node (Of ty.Text) q _ _ (eq.of_cast typing.typing (expr.Str s) ty.Text) (text_kept);
     bool = λ v d p q h t. node (Of ty.Boolean) q _ _ (eq.of_cast typing.typing (expr.Bool v) ty.Boolean) (boolean_kept);
     null = λ d p q h t. refl;
@@ -353,8 +358,8 @@ module _ (ref : ℕ → Col) (wanted : ℕ → Bool) where
     slot = λ i d p q h t. h.slots i (and_first (wanted i) true t);
     column = λ c d p q h t. h.columns c;
     param = λ i ty d p q h t. kept_itself _;
-    neg = λ x u z k d p q h t. node _ q _ _ (eq.of_neg typing.typing (z d)) (asked_kept ty.Bigint (Of ty.Bigint) (x p) (E (z d) q) (k d p q h t));
-    neg_small = λ x u z k d p q h t. tt;
+    neg = λ x u z k d p q h t. node _ q _ _ (eq.of_neg typing.typing (z d)) (minus_kept (x p) (E (z d) q) (k d p q h t));
+    neg_small = λ x u z k d p q h t. node _ q _ _ (eq.of_negsmall typing.typing (z d)) (small_minus_kept (x p) (E (z d) q) (k d p q h t));
     not = λ x u z k d p q h t. node _ q _ _ (eq.of_not typing.typing (z d)) (asked_kept ty.Boolean (Of ty.Boolean) (x p) (E (z d) q) (k d p q h t));
     is = λ x u z test v k d p q h t. node _ q _ _ (eq.of_is typing.typing (z d) test v) (is_kept test (x p) (E (z d) q) (k d p q h t));
     chain = chain;

@@ -12,7 +12,7 @@ use Rattle.away_names.specs.declared.function.Known.TheVariants as known
 use Rattle.away_names.specs.Functions.{function}
 use Rattle.away_typing.specs.declared.kind.Kind.{Kind}
 use Rattle.away_typing.specs.declared.kind.Kind.TheVariants.{Null, Of, Sum, Wrong}
-use Rattle.away_typing.specs.Kinds.{same, only_if, fits, of_type, settled}
+use Rattle.away_typing.specs.Kinds.{same, only_if, fits, sum_kind, settled}
 use Rattle.away_typing.specs.Typing as typing
 use Rattle.away_typing.specs.Typing.{Places, Shape, kind_at, column, pair, chained, cast_kind, castable, call_kind, called, scalar_kind, exists_kind}
 use Rattle.cte_types.specs.Linked.{AreLinks, IsLinked}
@@ -34,8 +34,7 @@ unfolding only_if
 only_not true k h n = h n
 only_not false k h n = n
 
-type_not : (t : Ty) → IsNull (of_type t) → ⊥
-unfolding of_type
+type_not : (t : Ty) → IsNull (Of t) → ⊥
 type_not ty.Bigint n = n
 type_not ty.Boolean n = n
 type_not ty.Text n = n
@@ -52,7 +51,7 @@ pair_not chain.Or j k n = only_not _ (Of ty.Boolean) (λ n. n) n
 pair_not chain.And j k n = only_not _ (Of ty.Boolean) (λ n. n) n
 pair_not chain.Concat j k n = only_not _ (Of ty.Text) (λ n. n) n
 pair_not (chain.Int op) j k n = only_not _ (Of ty.Bigint) (λ n. n) n
-pair_not (chain.Small op) j k n = n
+pair_not (chain.Small op) j k n = only_not _ (Of ty.Integer) (λ n. n) n
 
 chained_not : (p : Places) (ls : List (ChainOp × typing.Term)) (k : Kind) → (IsNull k → ⊥) → IsNull (chained p ls k) → ⊥
 chained_not p [] k h n = h n
@@ -66,7 +65,7 @@ cast_not ty.Boolean Sum n = n
 cast_not ty.Text Sum n = n
 cast_not ty.Integer Sum n = n
 cast_not t Wrong n = n
-cast_not t (Of u) n = only_not (castable u t) (of_type t) (type_not t) n
+cast_not t (Of u) n = only_not (castable u t) (Of t) (type_not t) n
 
 settled_not : (k : Kind) → IsNull (settled k) → ⊥
 unfolding settled
@@ -89,19 +88,29 @@ substr_not (j ∷ k ∷ []) n = n
 substr_not (j ∷ k ∷ l ∷ []) n = only_not _ (Of ty.Text) (λ n. n) n
 substr_not (j ∷ k ∷ l ∷ m ∷ ks) n = n
 
+sum_not : (k : Kind) → IsNull (sum_kind k) → ⊥
+unfolding sum_kind
+sum_not Null n = n
+sum_not (Of ty.Bigint) n = n
+sum_not (Of ty.Integer) n = n
+sum_not (Of ty.Boolean) n = n
+sum_not (Of ty.Text) n = n
+sum_not Sum n = n
+sum_not Wrong n = n
+
 call_not : (f : Known) (ks : List Kind) → IsNull (call_kind f ks) → ⊥
 unfolding call_kind
 call_not known.Coalesce ks n = settled_not _ n
 call_not known.Greatest ks n = settled_not _ n
 call_not known.Least ks n = settled_not _ n
-call_not known.Length ks n = one_not (call_kind known.Length) (λ n. n) (λ j n. only_not _ (Of ty.Bigint) (λ n. n) n) (λ j k ks n. n) ks n
+call_not known.Length ks n = one_not (call_kind known.Length) (λ n. n) (λ j n. only_not _ (Of ty.Integer) (λ n. n) n) (λ j k ks n. n) ks n
 call_not known.Substr ks n = substr_not ks n
 call_not known.Count ks n = one_not (call_kind known.Count) (λ n. n) (λ j n. only_not _ (Of ty.Bigint) (λ n. n) n) (λ j k ks n. n) ks n
 call_not known.BoolAnd ks n = one_not (call_kind known.BoolAnd) (λ n. n) (λ j n. only_not _ (Of ty.Boolean) (λ n. n) n) (λ j k ks n. n) ks n
 call_not known.BoolOr ks n = one_not (call_kind known.BoolOr) (λ n. n) (λ j n. only_not _ (Of ty.Boolean) (λ n. n) n) (λ j k ks n. n) ks n
 call_not known.Min ks n = one_not (call_kind known.Min) (λ n. n) (λ j n. only_not _ (settled j) (settled_not j) n) (λ j k ks n. n) ks n
 call_not known.Max ks n = one_not (call_kind known.Max) (λ n. n) (λ j n. only_not _ (settled j) (settled_not j) n) (λ j k ks n. n) ks n
-call_not known.Sum ks n = one_not (call_kind known.Sum) (λ n. n) (λ j n. only_not _ Sum (λ n. n) n) (λ j k ks n. n) ks n
+call_not known.Sum ks n = one_not (call_kind known.Sum) (λ n. n) sum_not (λ j k ks n. n) ks n
 
 called_not : (o : Option Known) (ks : List Kind) → IsNull (called o ks) → ⊥
 unfolding called
@@ -136,7 +145,7 @@ not_null (b.Slot i) p l e n = place_not _ n
 not_null (b.Column c) p l e n = place_not _ n
 not_null (b.Param i t) p l e n = type_not t n
 not_null (b.Neg' s x) p l e n = only_not _ (Of ty.Bigint) (λ n. n) n
-not_null (b.NegSmall' s x) p l e n = n
+not_null (b.NegSmall' s x) p l e n = only_not _ (Of ty.Integer) (λ n. n) n
 not_null (b.Not' s x) p l e n = only_not _ (Of ty.Boolean) (λ n. n) n
 not_null (b.Is' s x test v) p l e n = only_not _ (Of ty.Boolean) (λ n. n) n
 not_null (b.Chain' s x t links) p l e n = links_not p _ links l n

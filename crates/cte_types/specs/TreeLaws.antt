@@ -17,7 +17,6 @@ use Rattle.block_forms.specs.Expressions.{expressions}
 use Rattle.block_forms.specs.Places.{Each}
 use Rattle.sql_meaning.specs.Placed.{placed_at}
 use Rattle.sql_meaning.specs.Reads.{slots_of}
-use Rattle.cte_types.specs.Typed.{HasKind}
 use Rattle.cte_types.specs.Linked.{IsLinked}
 
 -- Each slot that an expression reads has the type of the column that stands for it among the
@@ -29,7 +28,8 @@ pub record HaveTypesOfSlots (frames : List Frame) (ref : ℕ → Col) (slots : L
 -- further tables.
 abbrev pub PlacingKeepsKinds : Type 0
 PlacingKeepsKinds =
-    (e : Expr) (t : Ty) (ref : ℕ → Col) (slots : List Ty) (frames : List Frame) (tables more : List (List Ty)) → HasKind t → IsLinked e
+    (e : Expr) (t : Ty) (ref : ℕ → Col) (slots : List Ty) (frames : List Frame)
+    (tables more : List (List Ty)) → IsLinked e
     → HaveTypesOfSlots frames ref slots e
     → fits t (kind_of e (record { slots = slots; frames = []; tables = tables })) ≡ true
     → kind_of (placed_at t ref e) (record { slots = []; frames = frames; tables = tables ++ more }) ≡ Of t

@@ -5,34 +5,19 @@ use Rattle.away_values.specs.declared.types.Ty.{Ty}
 use Rattle.away_values.specs.declared.types.Ty.TheVariants as ty
 use Rattle.away_trees.specs.declared.queries.Expr.{Expr}
 use Rattle.away_trees.specs.declared.queries.Expr.TheVariants as expr
-use Rattle.away_types.specs.declared.slots.Slot.{Slot}
 use Rattle.away_typing.specs.Aggregates.{outside}
 use Rattle.away_typing.specs.Kinds.{fits}
 use Rattle.away_typing.specs.Trees.{kind_of, uses_of}
 use Rattle.sql_meaning.specs.Reads.{slots_of}
 use Rattle.block_forms.specs.declared.forms.Term.{Term}
 use Rattle.block_forms.specs.Forms.{Assignment}
-use Rattle.block_forms.specs.Places.{Each, EachPair}
+use Rattle.block_forms.specs.Places.{EachPair}
 use Rattle.call_forms.specs.declared.forms.Call.{Call}
 use Rattle.call_forms.specs.declared.forms.CallEnd.{CallEnd}
 use Rattle.call_forms.specs.declared.forms.CallEnd.TheVariants.{Go, Pick, Return, Fail}
 use Rattle.call_forms.specs.declared.forms.AnfBlock.{AnfBlock}
 use Rattle.call_forms.specs.declared.forms.Anf.{Anf}
 use Rattle.call_forms.specs.Forms.{params_of}
-
--- ---- types
-
--- a type that expressions have
-abbrev pub HasKind : Ty → Type 0
-HasKind ty.Bigint = Unit {0}
-HasKind ty.Boolean = Unit {0}
-HasKind ty.Text = Unit {0}
-HasKind ty.Integer = ⊥
-
--- neither a slot nor the result has 32 bits
-pub record NoIntegers (slots : List Slot) (result : Ty) : Type 0 where
-  pub slots_are : Each (λ (s : Slot). HasKind s.ty) slots
-  pub result_is : HasKind result
 
 -- ---- terms
 

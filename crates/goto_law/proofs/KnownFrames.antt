@@ -4,10 +4,11 @@ use Rattle.std.specs.List.{list_all}
 use Rattle.away_values.specs.declared.types.Ty.{Ty}
 use Rattle.away_values.specs.declared.values.Value.{Value}
 use Rattle.away_values.specs.declared.values.Value.TheVariants as val
-use Rattle.away_values.specs.Results.{mapped}
+use Rattle.away_values.specs.Results.{and_then, mapped}
 use Rattle.away_trees.specs.declared.queries.Expr.{Expr}
 use Rattle.away_trees.specs.declared.queries.Select.{Select}
 use Rattle.away_trees.specs.declared.statements.Function.{Function}
+use Rattle.away_types.specs.TypedSlots.{typed_slots}
 use Rattle.away_types.specs.declared.slots.Slot.{Slot}
 use Rattle.sql_meaning.specs.Context.{Rows}
 use Rattle.sql_meaning.specs.Meaning.{value}
@@ -16,8 +17,11 @@ use Rattle.sql_meaning.specs.Reads.{Reads, allows, slots_of}
 use Rattle.plsql_meaning.specs.Functions.{over}
 use Rattle.plsql_meaning.specs.Outcomes.{Env}
 use Rattle.plsql_meaning.specs.Sight.{query_of}
+use Rattle.plsql_meaning.specs.Conversions.{converted_value}
 use Rattle.select_into.specs.Laws.{IsSource, first_row}
-use Rattle.select_into.specs.Wrapped.{no_row, more_rows, pick, picked, select_slots}
+use Rattle.away_trees.specs.declared.queries.Expr.TheViews.{out-Select}
+use Rattle.select_into.specs.Entries.{cast_at, pick_entry, unmarked}
+use Rattle.select_into.specs.Wrapped.{no_row, more_rows, picked, select_slots}
 use Rattle.block_forms.specs.declared.fixed_list.Fixed.{Fixed}
 use Rattle.block_forms.specs.declared.fixed_list.Fixed.TheVariants as fix
 use Rattle.block_forms.specs.declared.forms.Goto.{Goto}
@@ -61,7 +65,7 @@ module _ (s : Sides) where
 
 -- ---- NOT NULL
 
-strict_is : (slots : List Slot) (i : ℕ) → get_or (map (λ (s : Slot). s.not_null) slots) i false ≡ strict_at (slice_get slots i)
+strict_is : (slots : List Slot) (i : ℕ) → get_or (map (λ (x : Ty × Bool). x.1) (typed_slots slots)) i false ≡ strict_at (slice_get slots i)
 strict_is [] zero = refl
 strict_is [] (suc i) = refl
 strict_is (s ∷ slots) zero = refl
@@ -74,7 +78,7 @@ module _ (f : Function) (slots : List Slot) (g : Goto) (tables : List Rows) wher
   sides = record {
     frame = frame_of f (length slots) g tables;
     form = setting f slots g;
-    set = over tables (map (λ (s : Slot). s.not_null) slots);
+    set = over tables (typed_slots slots);
     table = expressions f;
     types = shown_types f;
     hidden = 3 * (laid f.body).size.fors + (laid f.body).size.targets;
@@ -118,15 +122,18 @@ module _ (f : Function) (slots : List Slot) (g : Goto) (tables : List Rows) wher
     known = record {
       sources = source;
       row_tests = λ k q e x env hid wide.
-          asked k q (no_row q) (laws.slots [] q).0.same e env hid wide
-          ∙ (laws.ask (λ i. nat_lt i (width sides)) x.tables q (own q x) tables env).none;
+          asked k q (no_row (unmarked q)) (laws.slots [] q).0.same e env hid wide
+          ∙ (laws.ask (λ i. nat_lt i (width sides)) x.tables (unmarked q) (own_picked [] q x) tables env).none
+          ∙ ap (mapped _) ((laws.typed [] q).0 (body tables env));
       more_tests = λ k q e x env hid wide.
-          asked k q (more_rows q) (laws.slots [] q).1.same e env hid wide
-          ∙ (laws.ask (λ i. nat_lt i (width sides)) x.tables q (own q x) tables env).more;
+          asked k q (more_rows (unmarked q)) (laws.slots [] q).1.same e env hid wide
+          ∙ (laws.ask (λ i. nat_lt i (width sides)) x.tables (unmarked q) (own_picked [] q x) tables env).more
+          ∙ ap (mapped _) ((laws.typed [] q).0 (body tables env));
       picks = λ types place k q e x env hid wide.
-          asked k q (pick (picked types q) place) ((laws.slots types q).2 place).same e env hid wide
-          ∙ (laws.ask (λ i. nat_lt i (width sides)) x.tables (picked types q) (own_picked types q x) tables env).picks place
-          ∙ ap (mapped (λ rows. at (first_row rows) place)) ((laws.typed types q).0 (body tables env));
+          let cast = cast_at types (out-Select q).list place in
+          asked k q (pick_entry types q place) ((laws.slots types q).2 cast place).same e env hid wide
+          ∙ (laws.ask (λ i. nat_lt i (width sides)) x.tables (picked types q) (own_picked types q x) tables env).picks cast place
+          ∙ ap (λ o. and_then o (λ rows. converted_value cast (at (first_row rows) place))) ((laws.typed types q).0 (body tables env));
       nulls = λ t env. entry (fix.Null t) [] env ∙ fixed.null_of tables t;
       null_tests = λ t slot env. entry (fix.IsNull t) (slot ∷ []) env ∙ fixed.null_test tables t (at env slot);
       positive_tests = λ slot env. entry fix.NotPositive (slot ∷ []) env ∙ fixed.positive_test tables (at env slot);

@@ -7,6 +7,7 @@ use Rattle.away_values.specs.declared.types.Ty.TheVariants as ty
 use Rattle.away_values.specs.declared.values.Value.{Value}
 use Rattle.away_values.specs.declared.values.Value.TheVariants as val
 use Rattle.away_values.specs.declared.operators.ChainOp.{ChainOp}
+use Rattle.away_values.specs.Operators.{literal_type}
 use Rattle.away_values.specs.Results.{and_then}
 use Rattle.away_trees.specs.declared.queries.Expr.{Expr}
 use Rattle.away_trees.specs.declared.queries.Query.{Query}
@@ -27,10 +28,9 @@ use Rattle.type_soundness.specs.Sorts.{IsOf, Every}
 use Rattle.type_soundness.specs.Surroundings.{AreRows, IsFrame, IsOfGroup, Fit}
 use Rattle.type_soundness.specs.TypedValues.{Holds}
 use Rattle.type_soundness.proofs.Calls.{At, AllAt, OverRows, call_holds}
-use Rattle.type_soundness.proofs.KindRules.{of_type_holds}
 use Rattle.type_soundness.proofs.Lists.{every_left, every_right, zipped}
 use Rattle.type_soundness.proofs.Nodes as nodes
-use Rattle.type_soundness.proofs.Operators.{typed_ok}
+use Rattle.type_soundness.proofs.Operators.{typed_ok, literal_typed}
 use Rattle.type_soundness.proofs.Places.{at_holds, rows_at, column_holds, fit_inside, fit_at_row, before_seen}
 use Rattle.type_soundness.proofs.Results.{then_of, ok_is}
 use Rattle.type_soundness.proofs.Selects.{IsListed, PartAt, some_of, some_is, product_at, every_kept, every_cut, listed_at}
@@ -137,10 +137,10 @@ both_parts false b h = cc
 
 kinds_of : (list : List Kind) (filter : Option Kind) (order : List Kind) (limit : Option Kind) (ks : List Kind) → typing.select_kinds list filter order limit ≡ Some ks → Chosen list ks
 unfolding typing.select_kinds
-kinds_of list filter order limit ks e = by (typing.maybe_fits ty.Boolean filter && (list_all is_right list && (list_all is_right order && typing.maybe_fits ty.Bigint limit))) refl e
+kinds_of list filter order limit ks e = by (typing.maybe_fits ty.Boolean filter && (list_all is_right list && (list_all is_right order && typing.maybe_number limit))) refl e
   where
-    by : (b : Bool) → (typing.maybe_fits ty.Boolean filter && (list_all is_right list && (list_all is_right order && typing.maybe_fits ty.Bigint limit))) ≡ b → (if b then Some list else None) ≡ Some ks → Chosen list ks
-    by true h e = record { all_right = (both_parts (list_all is_right list) (list_all is_right order && typing.maybe_fits ty.Bigint limit) (both_parts (typing.maybe_fits ty.Boolean filter) _ h).1).0; same = some_is list ks e }
+    by : (b : Bool) → (typing.maybe_fits ty.Boolean filter && (list_all is_right list && (list_all is_right order && typing.maybe_number limit))) ≡ b → (if b then Some list else None) ≡ Some ks → Chosen list ks
+    by true h e = record { all_right = (both_parts (list_all is_right list) (list_all is_right order && typing.maybe_number limit) (both_parts (typing.maybe_fits ty.Boolean filter) _ h).1).0; same = some_is list ks e }
     by false h e = cc
 
 select_at : (l₁ : List typing.Term) (l₂ : List Params) (l₃ : List ExprMeaning) (f₁ : List typing.Part) (f₂ : List Params) (f₃ : List FromMeaning) (w₁ : Option typing.Term) (w₃ : Option ExprMeaning) (o₁ : List typing.Term) (o₃ : List KeyMeaning) (m₁ : Option typing.Term) (m₃ : Option ExprMeaning) →
@@ -162,7 +162,7 @@ steps : IsKept typing.typing standing meaning relation
 steps = record {
   no_expr = λ p cx f s v e. tt;
   no_query = λ p cx f s ts t rows e. cc;
-  int = λ n p cx f s v e. typed_ok ty.Bigint (val.Int n) v e tt;
+  int = λ n p cx f s v e. typed_ok (literal_type n) (val.Int n) v e (literal_typed n);
   str = λ t p cx f s v e. typed_ok ty.Text (val.Text t) v e tt;
   bool = λ b p cx f s v e. typed_ok ty.Boolean (val.Bool b) v e tt;
   null = λ p cx f s v e. ok_is val.Null v e;
@@ -170,9 +170,9 @@ steps = record {
   qualified = λ t u p cx f s v e. tt;
   slot = λ i p cx f s v e. subst (Holds (typing.kind_at (slice_get p.slots i))) (sym (ok_is _ v e)) (at_holds p.slots cx.env i f.variables);
   column = λ c p cx f s v e. subst (Holds (typing.column p.frames c)) (sym (ok_is _ v e)) (column_holds p.frames cx.frames c f.frames);
-  param = λ i t p cx f s v e. of_type_holds t v (typed_ok t (argument cx.args i) v e s.0);
+  param = λ i t p cx f s v e. typed_ok t (argument cx.args i) v e s.0;
   neg = λ x u z k p cx f s. nodes.neg_at p cx x z (k p cx f s);
-  neg_small = λ x u z k p cx f s v e. tt;
+  neg_small = λ x u z k p cx f s. nodes.neg_small_at p cx x z (k p cx f s);
   not = λ x u z k p cx f s. nodes.not_at p cx x z (k p cx f s);
   is = λ x u z test negative k p cx f s. nodes.is_at p cx x z test negative (k p cx f s);
   chain = λ x u z xs us zs k r p cx f s. nodes.chain_at p cx x z xs zs (k p cx f (left cx.args u (of_links us) s)) (links p cx f xs us zs r (right cx.args u (of_links us) s));

@@ -9,7 +9,7 @@ returns-in-Slot c =
 
 pub returns-in-Int : goal.returns-in-Int
 returns-in-Int c =
-    as_reads (number_stands (slot_column_in c.args.depth c.args.slots.now c.args.refs.now) c.args.kind c.in-Int.field-0 c.in-Int.is) (then_reads c.open_literal.ensures c.close.ensures)
+    as_reads (number_stands (slot_column_in c.args.depth c.args.slots.now c.args.refs.now) c.args.kind c.in-Int.n c.in-Int.is) (then_reads c.open_literal.ensures c.close.ensures)
 
 pub returns-in-Bool : goal.returns-in-Bool
 returns-in-Bool c =

@@ -1,0 +1,11 @@
+pub mod Joint
+pub mod Plain
+pub mod Unmarked
+pub mod Typed
+pub mod Rebuilt
+pub mod Rights
+pub mod Marked
+pub mod SmallRange
+pub mod Conversions
+pub mod ErasedMarks
+pub mod WholeMarked
