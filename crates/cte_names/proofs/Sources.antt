@@ -191,16 +191,14 @@ module _ (schema : Schema) where
 
   into_resolved : (q : Select) (scope : Scope) → Plain schema scope → Clean (named_select q scope).note → All (query_of (named_select q scope).it.it ∷ [])
   unfolding named_expr named_select joined breaks clean lesser
-  into_resolved q scope p c = (
-    record {
-      written = query_of q;
-      scope = scope;
-      plain = p;
-      clean = ap (λ t. (t.judge scope).note.least) (scalar_is q) ∙ c;
-      resolved = ap (λ t. (t.judge scope).it) (scalar_is q);
-    },
-    tt,
-  )
+  into_resolved q scope p c =
+      (record {
+        written = query_of q;
+        scope = scope;
+        plain = p;
+        clean = ap (λ t. (t.judge scope).note.least) (scalar_is q) ∙ c;
+        resolved = ap (λ t. (t.judge scope).it) (scalar_is q);
+      }, tt)
 
   -- ---- all statements
 

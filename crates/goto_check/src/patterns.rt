@@ -1,6 +1,6 @@
 //! The patterns of an assignment, of EXIT and of CONTINUE.
 
-ghost use Rattle.std.specs.Prelude.{◌≡◌, ◌+◌, ◌≤◌, ◌^◌, slice_get};
+ghost use Rattle.std.specs.Prelude.{◌≡◌, ◌+◌, ◌≤◌, ◌^◌};
 ghost use Rattle.block_forms.specs.FixedList.{many};
 ghost use Rattle.block_forms.specs.Patterns.{entry_term, null_of, is_null, source_term, set_parts, slot_parts, leave_parts, exit_parts};
 ghost use Rattle.goto_check.specs.Asking.{numbers_in};
@@ -78,12 +78,6 @@ fn ask_set(
     } else {
         ask_own(a, b, &Shape::Sets(slot, want, next))
     }
-}
-
-pub(crate) fn slot_at(slots: &[Slot], slot: usize) -> Option<Slot>
-    ensures { result ≡ slice_get slots.now slot }
-{
-    slots.get(slot).copied()
 }
 
 /// A slot is set, and is tested where it is NOT NULL.

@@ -1,6 +1,6 @@
 //! What the patterns of statements ask.
 
-ghost use Rattle.std.specs.Prelude.{◌≡◌, ◌+◌, ◌≤◌, ◌<◌, ◌^◌, [], ◌∷◌, Some, None};
+ghost use Rattle.std.specs.Prelude.{◌≡◌, ◌+◌, ◌≤◌, ◌<◌, ◌^◌, [], ◌∷◌, Some, None, slice_get};
 ghost use Rattle.block_forms.specs.FixedList.{many};
 ghost use Rattle.block_forms.specs.Laid as l;
 ghost use Rattle.block_forms.specs.Patterns as form;
@@ -17,7 +17,7 @@ use crate::asking::{Answer, Asking, Question, ask_own, ask_same, ask_shared};
 use crate::classes::class_of;
 use crate::enclosing::{Enclosing, again_to, exit_to};
 use crate::loops::{ask_kind, turns_to};
-use crate::patterns::{ask_exit, ask_leave, ask_slot, null_of, slot_at, source_term};
+use crate::patterns::{ask_exit, ask_leave, ask_slot, null_of, source_term};
 use crate::read::{no_of, node};
 use crate::runs::{Run, join};
 use crate::shapes::{Shape, Wanted};
@@ -25,6 +25,7 @@ use crate::sizes::{decl_size, decls_size, kind_size, size_of};
 use crate::spots::{Spot, after, spot_of};
 use crate::targets::ask_into;
 use away_trees::{Arm, Decl, Expr, LoopKind, Raised, Stmt};
+use away_types::Slot;
 use away_values::{Class, Name, Ty, sqlstate};
 use block_forms::Goto;
 
@@ -33,6 +34,12 @@ pub(crate) fn first_block(a: &Asking<'_>, many: usize, i: usize, next: usize) ->
     ensures { result ≡ l.first_block (setting_in a.now) many i next }
 {
     if many == 0 { next } else { node(a.goto, i) }
+}
+
+fn slot_at(slots: &[Slot], slot: usize) -> Option<Slot>
+    ensures { result ≡ slice_get slots.now slot }
+{
+    slots.get(slot).copied()
 }
 
 fn default_term<'a>(a: &Asking<'_>, default: &'a Option<Expr>, ty: Ty, expr: usize) -> Wanted<'a>

@@ -1,17 +1,17 @@
 //! The patterns of SELECT INTO.
 
-ghost use Rattle.std.specs.Prelude.{◌≡◌, ◌+◌, ◌≤◌, ◌<◌, ◌^◌, length};
-ghost use Rattle.select_into.specs.Entries.{checks};
+ghost use Rattle.std.specs.Prelude.{◌≡◌, ◌+◌, ◌≤◌, ◌<◌, ◌^◌, ℕ, length, slice_get};
+ghost use Rattle.select_into.specs.Entries.{Target, checks};
 ghost use Rattle.block_forms.specs.FixedList.{many};
 ghost use Rattle.block_forms.specs.Laid.{after, into_size};
-ghost use Rattle.block_forms.specs.Patterns.{select_term, onward, check_parts, pick_parts, put_part, put_parts, after_set, after_slot, after_put, into_parts};
+ghost use Rattle.block_forms.specs.Patterns.{select_term, onward, check_parts, pick_parts, put_part, put_parts, after_set, after_slot, after_put, puts_of, into_parts};
 ghost use Rattle.goto_check.specs.Asking.{numbers_in};
 ghost use Rattle.goto_check.specs.AnswerRuns.{answer_run};
 ghost use Rattle.goto_check.specs.Room.{here, Room};
 ghost use Rattle.goto_check.specs.Wanted.{wanted};
 
 use crate::asking::{Asking, ask_own, ask_same, ask_shared};
-use crate::patterns::{ask_slot, entry_term, slot_at};
+use crate::patterns::{ask_slot, entry_term};
 use crate::read::{jump_of, no_of, node, yes_of};
 use crate::runs::{Run, join};
 use crate::shapes::{Reads, Shape, Wanted};
@@ -119,13 +119,19 @@ fn after_slot(a: &Asking<'_>, s: Option<Slot>, b: usize) -> usize
     }
 }
 
+fn slot_at(slots: &[Slot], slot: u32) -> Option<Slot>
+    ensures { result ≡ slice_get slots.now slot }
+{
+    slots.get(slot as usize).copied()
+}
+
 /// Where the blocks lead that set a target.
 fn after_put(a: &Asking<'_>, target: Option<u32>, b: usize) -> usize
     ensures { result ≡ after_put a.now.goto.now (numbers_in a.now) a.now.slots.now target b }
 {
     match target {
         None => after_set(a, false, b),
-        Some(slot) => after_slot(a, slot_at(a.slots, slot as usize), b),
+        Some(slot) => after_slot(a, slot_at(a.slots, slot), b),
     }
 }
 
@@ -139,8 +145,7 @@ fn ask_put(a: &Asking<'_>, target: Option<u32>, b: usize, hidden: usize, next: u
         None => ask_own(a, b, &Shape::Jump(false, next)),
         Some(slot) => {
             let copy = entry_term(a.fixed, Fixed::Copy, Reads::One(hidden));
-            let slot = slot as usize;
-            ask_slot(a, slot_at(a.slots, slot), b, slot, &copy, next)
+            ask_slot(a, slot_at(a.slots, slot), b, slot as usize, &copy, next)
         }
     }
 }

@@ -256,9 +256,6 @@ wanted_node row = Some row.1
 abbrev return_y : Stmt
 return_y = stmt.Return (named (codes "y"))
 
-abbrev return_z : Stmt
-return_z = stmt.Return (named (codes "z"))
-
 abbrev pub nodes : List (Stmt × ℕ)
 nodes =
     -- BEGIN RETURN y; RETURN y; END: of one rule the first statement
@@ -276,6 +273,6 @@ nodes =
     -- a statement inside loops
     ∷ (block [] (loop None (loop None (return_y ∷ []) None ∷ []) None ∷ []), 3)
     -- a target is a node, and what it breaks is told by its statement
-    ∷ (block variables (into x_and_y (select (n 1 ∷ n 2 ∷ []) []) ∷ return_z ∷ []), 8)
+    ∷ (block variables (into x_and_y (select (n 1 ∷ n 2 ∷ []) []) ∷ return_y ∷ []), 8)
     ∷ (block variables (return_1 ∷ into (codes "z" ∷ []) (select (n 1 ∷ []) []) ∷ []), 6)
     ∷ []

@@ -1,4 +1,4 @@
-use Rattle.std.proofs.Common.{◌≡◌, ap, sym, ◌∙◌, false, Option}
+use Rattle.std.proofs.Common.{◌≡◌, ap, sym, ◌∙◌, false, List, Option}
 use Rattle.away_values.specs.declared.types.Ty.TheVariants.{Bigint}
 use Rattle.away_trees.specs.declared.queries.Expr.{Expr}
 use Rattle.away_trees.specs.declared.statements.LoopKind.TheVariants as kind
