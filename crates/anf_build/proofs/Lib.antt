@@ -1,7 +1,0 @@
-mod Lists
-mod Names
-mod Slots
-mod Blocks
-mod UsefulForm
-mod CalledForm
-mod Shortness

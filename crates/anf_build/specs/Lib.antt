@@ -1,4 +1,0 @@
-pub mod Passing
-pub mod Premises
-pub mod Short
-pub mod NormalForm

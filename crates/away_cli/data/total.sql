@@ -1,7 +1,0 @@
-CREATE FUNCTION public.total(a bigint, b bigint) RETURNS bigint
-    LANGUAGE plpgsql
-    AS $$
-BEGIN
-  RETURN a + b * 2;
-END;
-$$;

@@ -1,4 +1,0 @@
-pub mod Steps
-pub mod Turns
-pub mod CaseOfSeven
-pub mod SmallCases

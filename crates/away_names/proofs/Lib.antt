@@ -1,4 +1,0 @@
-mod Digits
-pub mod Doubles
-pub mod NamingRules
-pub mod WholeScopes

@@ -1,4 +1,0 @@
-pub mod Equations
-pub mod AlgebraEquations
-pub mod StatementEquations
-pub mod CountLemmas

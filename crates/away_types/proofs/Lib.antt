@@ -1,3 +1,0 @@
-pub mod ResolvingRules
-pub mod AskingRules
-pub mod ClearReports

@@ -1,8 +1,0 @@
-use Rattle.std.proofs.Common.{rules}
-use Rattle.away_types.proofs.function_check.check_function.Goals as goal
-
-pub invariant_of-result : goal.invariant_of-result
-invariant_of-result c =
-    record {
-      checked = ∣ record { schema = c.args.s.now.schema; written = c.args.f; limits = c.requires; checked_is = search rules } ∣₁;
-    }

@@ -1,3 +1,0 @@
-pub mod TypingRules
-pub mod UsesRules
-pub mod ParameterRules

@@ -1,8 +1,0 @@
-mod Orders
-mod TextParts
-mod DivisionLaws
-mod SpellingLaws
-mod SubstrLaws
-pub mod Typing
-mod Faults
-mod OperatorExamples

@@ -1,2 +1,0 @@
-mod SameMaps
-mod SameSelects

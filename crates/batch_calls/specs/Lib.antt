@@ -1,3 +1,0 @@
-pub mod CallTables
-pub mod Written
-pub mod Batches

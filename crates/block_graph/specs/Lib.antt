@@ -1,5 +1,0 @@
-pub mod Ranges
-pub mod Predecessors
-pub mod Liveness
-pub mod Spreading
-pub mod Tables

@@ -1,3 +1,0 @@
-pub mod Phis
-pub mod Counting
-pub mod Seeking

@@ -1,4 +1,0 @@
-pub mod Elements
-pub mod TightExample
-pub mod WorkedForms
-mod IdleExample

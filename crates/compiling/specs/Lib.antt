@@ -1,3 +1,0 @@
-pub mod Translated
-pub mod WrittenQuery
-pub mod Compiled

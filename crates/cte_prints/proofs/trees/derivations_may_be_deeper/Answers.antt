@@ -1,5 +1,0 @@
-use Rattle.cte_prints.proofs.ReadingDepth.{deepen}
-use Rattle.cte_prints.proofs.trees.derivations_may_be_deeper.Goals as goal
-
-pub returns : goal.returns
-returns c d more n ts t rest h r = deepen d more h r

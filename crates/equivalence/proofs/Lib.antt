@@ -1,2 +1,0 @@
-pub mod Theorem
-pub mod SignOf

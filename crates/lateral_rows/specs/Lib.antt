@@ -1,2 +1,0 @@
-pub mod RowParts
-pub mod Aggregates

@@ -1,5 +1,0 @@
-use Rattle.plsql_parse.proofs.Lifted.{lifted_gives}
-use Rattle.plsql_parse.proofs.clauses.count_of.Goals as goal
-
-pub returns-clause-found : goal.returns-clause-found
-returns-clause-found c = lifted_gives c.limit_of.ensures.found

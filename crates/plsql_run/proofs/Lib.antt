@@ -1,7 +1,0 @@
-pub mod Unwound
-pub mod Arms
-pub mod Passing
-pub mod Targets
-pub mod Standing
-pub mod Layouts
-pub mod Raising

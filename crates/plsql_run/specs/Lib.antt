@@ -1,4 +1,0 @@
-pub mod Settings
-pub mod Layouts
-pub mod Places
-pub mod Continues

@@ -1,9 +1,0 @@
-pub mod QualifyingRules
-pub mod FirstNames
-pub mod Gives
-pub mod BackExpressions
-pub mod BackQueries
-pub mod BackSelects
-pub mod ClearBack
-pub mod FilesBack
-pub mod ReadColumns

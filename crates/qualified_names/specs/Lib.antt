@@ -1,5 +1,0 @@
-pub mod Sight
-pub mod Qualifying
-pub mod Trees
-pub mod Examples
-pub mod Unambiguous

@@ -1,2 +1,0 @@
-pub mod BrokenRules
-pub mod RowRules

@@ -1,4 +1,0 @@
-pub mod Pieces
-pub mod Functions
-pub mod Queries
-pub mod RowRules

@@ -1,4 +1,0 @@
-pub mod Callers
-pub mod Walk
-pub mod Columns
-pub mod TailForm

@@ -1,5 +1,0 @@
-pub mod Events
-pub mod Telling
-pub mod Placing
-pub mod SlotsRead
-pub mod Occurrences

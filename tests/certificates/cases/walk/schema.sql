@@ -1,1 +1,0 @@
-CREATE TABLE route (src bigint, dst bigint, cost bigint);

@@ -1,4 +1,0 @@
-CREATE TABLE public.pair (
-    k bigint NOT NULL,
-    v text
-);
