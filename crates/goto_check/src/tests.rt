@@ -6,7 +6,7 @@ mod worked;
 use crate::check::is_lowered;
 use crate::runs::{Run, is_up_to, join};
 use crate::tests::into::{
-    ONLY_ROW, ONLY_ROW_CLASSES, PAIR, only_row, only_row_form, only_row_slots, pair, pair_form,
+    ONLY_ROW, ONLY_ROW_CLASSES, TWICE, only_row, only_row_form, only_row_slots, twice, twice_form,
 };
 use crate::tests::worked::{
     COLLATZ, COLLATZ_HEADS, NO_RETURN, RENUMBERED, SIGN_OF, SIGN_OF_HEADS, collatz, collatz_form,
@@ -55,9 +55,9 @@ fn is_form_of_only_row(
     )
 }
 
-fn is_form_of_pair(rt: &(impl Abort + AllocGlobal), v: &[u32; 31]) -> bool {
-    let f = pair(rt);
-    is_lowered(f.get(), &slots::<4>(), pair_form(rt, v).get())
+fn is_form_of_twice(rt: &(impl Abort + AllocGlobal), v: &[u32; 27]) -> bool {
+    let f = twice(rt);
+    is_lowered(f.get(), &slots::<3>(), twice_form(rt, v).get())
 }
 
 #[test]
@@ -135,7 +135,7 @@ fn too_few_slots(rt: HostRuntime) {
 #[test]
 fn the_forms_of_selects(rt: HostRuntime) {
     assert!(rt; is_form_of_only_row(&rt, &ONLY_ROW, &ONLY_ROW_CLASSES));
-    assert!(rt; is_form_of_pair(&rt, &PAIR));
+    assert!(rt; is_form_of_twice(&rt, &TWICE));
 }
 
 #[test]
@@ -158,9 +158,9 @@ fn another_class_of_a_strict_select(rt: HostRuntime) {
 
 #[test]
 fn another_number_of_a_select(rt: HostRuntime) {
-    for i in 0..31 {
-        let mut v = PAIR;
+    for i in 0..27 {
+        let mut v = TWICE;
         v[i] = v[i].wrapping_add(1);
-        assert!(rt; !is_form_of_pair(&rt, &v));
+        assert!(rt; !is_form_of_twice(&rt, &v));
     }
 }

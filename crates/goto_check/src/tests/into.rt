@@ -20,8 +20,8 @@ pub(crate) const ONLY_ROW_CLASSES: [[u8; 5]; 5] = [
 ];
 
 /// The same of a function without STRICT, whose finish alone fails.
-pub(crate) const PAIR: [u32; 31] = [
-    0, 1, 2, 2, 2, 3, 3, 4, 7, 2, 1, 0, 3, 2, 1, 1, 4, 3, 2, 1, 5, 0, 18, 2, 6, 1, 18, 3, 7, 3, 0,
+pub(crate) const TWICE: [u32; 27] = [
+    0, 1, 2, 2, 2, 2, 3, 6, 2, 1, 0, 0, 3, 2, 1, 0, 4, 0, 17, 1, 5, 0, 17, 2, 6, 2, 0,
 ];
 
 /// A parameter, a variable with NOT NULL, and the hidden slot of a target.
@@ -59,35 +59,29 @@ fn into(strict: bool, targets: Items<(Name, Option<u32>)>, query: Select) -> Stm
     }
 }
 
-fn zero(rt: &(impl Abort + AllocGlobal), text: &str, not_null: bool) -> Decl {
-    Decl {
-        name: named(rt, text),
-        ty: Ty::Bigint,
-        constant: false,
-        not_null,
-        default: Some(Expr::Int(0)),
-    }
-}
-
 /// DECLARE r bigint NOT NULL := 0; BEGIN SELECT a INTO STRICT r; RETURN r; END
 pub(crate) fn only_row(rt: &(impl Abort + AllocGlobal)) -> Boxed<Function> {
+    let r = Decl {
+        name: named(rt, "r"),
+        ty: Ty::Bigint,
+        constant: false,
+        not_null: true,
+        default: Some(Expr::Int(0)),
+    };
     let query = selected(rt, one(rt, item(0)));
     let sets = into(true, one(rt, (named(rt, "r"), Some(1))), query);
     let body = with(rt, one(rt, sets), Stmt::Return(Expr::Slot(1)));
-    function(rt, one(rt, zero(rt, "r", true)), body)
+    function(rt, one(rt, r), body)
 }
 
-/// DECLARE b bigint := 0; BEGIN SELECT b, b INTO a, b; RETURN a; END
-pub(crate) fn pair(rt: &(impl Abort + AllocGlobal)) -> Boxed<Function> {
-    let query = selected(rt, with(rt, one(rt, item(1)), item(1)));
+/// BEGIN SELECT a, a INTO a, a; RETURN a; END
+pub(crate) fn twice(rt: &(impl Abort + AllocGlobal)) -> Boxed<Function> {
+    let query = selected(rt, with(rt, one(rt, item(0)), item(0)));
     let a = one(rt, (named(rt, "a"), Some(0)));
-    let both = with(rt, a, (named(rt, "b"), Some(1)));
-    let body = with(
-        rt,
-        one(rt, into(false, both, query)),
-        Stmt::Return(Expr::Slot(0)),
-    );
-    function(rt, one(rt, zero(rt, "b", false)), body)
+    let both = with(rt, a, (named(rt, "a"), Some(0)));
+    let sets = into(false, both, query);
+    let body = with(rt, one(rt, sets), Stmt::Return(Expr::Slot(0)));
+    function(rt, Items::new(rt.alloc()), body)
 }
 
 fn set(
@@ -150,17 +144,15 @@ pub(crate) fn only_row_form(
     form(rt, v[0], v[1], &nodes, blocks)
 }
 
-pub(crate) fn pair_form(rt: &(impl Abort + AllocGlobal), v: &[u32; 31]) -> Boxed<Goto> {
-    let nodes = [v[2], v[3], v[4], v[5], v[6], v[7], v[8]];
-    let blocks = one(rt, ends(false, End::Jump(v[9])));
+pub(crate) fn twice_form(rt: &(impl Abort + AllocGlobal), v: &[u32; 27]) -> Boxed<Goto> {
+    let nodes = [v[2], v[3], v[4], v[5], v[6], v[7]];
+    let blocks = one(rt, ends(false, End::Jump(v[8])));
     let blocks = fail(rt, blocks, ONLY_ROW_CLASSES[0]);
-    let first = term(rt, v[11], &[]);
-    let blocks = with(rt, blocks, sets(false, v[10], first, v[12]));
+    let blocks = set(rt, blocks, v[9], v[10], v[11], v[12]);
     let blocks = set(rt, blocks, v[13], v[14], v[15], v[16]);
     let blocks = set(rt, blocks, v[17], v[18], v[19], v[20]);
     let blocks = set(rt, blocks, v[21], v[22], v[23], v[24]);
-    let blocks = set(rt, blocks, v[25], v[26], v[27], v[28]);
-    let result = term(rt, v[29], &[v[30]]);
+    let result = term(rt, v[25], &[v[26]]);
     let blocks = with(rt, blocks, ends(false, End::Return(result)));
     form(rt, v[0], v[1], &nodes, blocks)
 }
