@@ -1,0 +1,2 @@
+pub mod MovingRules
+pub mod Answering

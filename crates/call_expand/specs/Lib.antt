@@ -1,0 +1,14 @@
+pub mod Moving
+pub mod Expanding
+pub mod Untailing
+pub mod Placing
+pub mod Judging
+pub mod Judges
+pub mod Refusing
+pub mod CallPlaces
+pub mod Leaves
+pub mod Plans
+pub mod Growing
+pub mod Sizes
+pub mod Laws
+pub mod Worked
