@@ -8,6 +8,7 @@ import shlex
 from dataclasses import dataclass
 
 from generated import SCHEMA, generated_case
+from integers import integer_case
 
 HERE = pathlib.Path(__file__).resolve().parent
 TOP = HERE.parent.parent
@@ -53,6 +54,14 @@ def demo_cases(count):
     for number in range(count):
         table, function, arguments = generated_case(number)
         cases.append(Case(f"demo-{number}", SCHEMA, function, {"route": table}, [arguments], number))
+    return cases
+
+
+def integer_cases(count):
+    cases = []
+    for number in range(count):
+        schema, table, function, lists = integer_case(number)
+        cases.append(Case(f"integer-{number}", schema, function, {"route": table}, lists))
     return cases
 
 

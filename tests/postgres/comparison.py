@@ -8,7 +8,7 @@ import time
 from cases import write_case
 from connection import Fault, literal
 from known import KNOWN
-from loading import calls_substr, load
+from loading import load
 
 TURNS = "1000000"
 SHORT_SECONDS = 0.5
@@ -26,7 +26,7 @@ class Comparison:
 
     def compare(self, case):
         """Prints the case's table."""
-        print(f"\n{case.name}" + (", with a substr of bigint numbers (substr.sql)" if calls_substr(case) else ""))
+        print(f"\n{case.name}")
         with tempfile.TemporaryDirectory(prefix="away-case-") as folder:
             files = write_case(case, pathlib.Path(folder))
             compiled = self.away.call("compile", files.schema, files.function)

@@ -1,9 +1,8 @@
 """Loads a case into an empty schema of a server."""
 
-import re
 from dataclasses import dataclass
 
-from cases import HERE, rows_of
+from cases import rows_of
 from connection import literal
 
 
@@ -24,18 +23,11 @@ def load(connection, case):
     for table, text in case.tables.items():
         _fill(connection, table, rows_of(text))
     run("ANALYZE")
-    if calls_substr(case):
-        run((HERE / "substr.sql").read_text())
     run(case.function)
     function, result, types = run(
         "SELECT proname, prorettype::regtype, array_to_string(proargtypes::regtype[], ',') FROM pg_proc"
-        " WHERE pronamespace = 'public'::regnamespace AND proname <> 'substr'")[0]
+        " WHERE pronamespace = 'public'::regnamespace")[0]
     return Loaded(function, types.split(",") if types else [], result)
-
-
-def calls_substr(case):
-    """Whether the case needs a substr of bigint numbers, which PostgreSQL has not."""
-    return re.search(r"\bsubstr\b", case.function, re.IGNORECASE) is not None
 
 
 def _fill(connection, table, rows):

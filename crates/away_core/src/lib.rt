@@ -16,8 +16,8 @@ pub use away_trees::{
 pub use away_values::{
     Answer, ChainOp, Class, CmpOp, IntOp, IsTest, Name, NoMemory, OpError, Table, Tables, TextOp,
     Ty, Value, Word, arithmetic_is_exact, compare, comparison_is_a_total_order,
-    comparison_is_by_value, division_leaves_the_remainder, int_op, name, parts_of_a_text_join,
-    results_have_their_types, small, text_op, the_text_of_a_bigint_reads_back,
-    what_is_held_is_a_value, word,
+    comparison_is_by_value, division_leaves_the_remainder, int_op, literal_type, name,
+    parts_of_a_text_join, results_have_their_types, small, text_op,
+    the_text_of_a_bigint_reads_back, what_is_held_is_a_value, word,
 };
 pub use copied::Copied;

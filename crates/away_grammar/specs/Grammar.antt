@@ -132,7 +132,9 @@ unfoldable pub type_named : List ℕ → Option Ty
 type_named n =
     if bytes_eq n (codes "bigint") || bytes_eq n (codes "int8") then Some types.Bigint
     else (if bytes_eq n (codes "boolean") || bytes_eq n (codes "bool") then Some types.Boolean
-    else (if bytes_eq n (codes "text") then Some types.Text else None))
+    else (if bytes_eq n (codes "text") then Some types.Text
+    else (if (bytes_eq n (codes "integer") || bytes_eq n (codes "int")) || bytes_eq n (codes "int4")
+    then Some types.Integer else None)))
 
 -- the level of the operands of a level, where it isn't the last one
 abbrev pub operands : Level → Level

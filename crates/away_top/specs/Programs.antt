@@ -7,7 +7,7 @@ use Rattle.sql_meaning.specs.Context.{Rows}
 use Rattle.sql_meaning.specs.Working.{rows as rows_at, sql}
 use Rattle.sql_eval.specs.RowsAnswers.{rows_answered}
 use Rattle.plsql_meaning.specs.Equivalent.{answers}
-use Rattle.plsql_run.specs.Settings.{not_nulls}
+use Rattle.away_types.specs.TypedSlots.{typed_slots}
 use Rattle.away_top.specs.declared.over_tables.program.Program.{Program as Checked}
 use Rattle.away_top.specs.declared.over_tables.program.Program.TheVariants as checked
 use Rattle.away_top.specs.declared.over_tables.program.Reply.{Reply}
@@ -83,4 +83,5 @@ arguments_of (function f) = values_for f.function.params
 abbrev pub reply_of : Program → List Rows → List Value → ℕ → Reply
 reply_of (query q) tables args k = reply.Answer (sql q.query tables args k)
 reply_of (rows q) tables args k = reply.Rows (rows_answered (rows_at q.query tables args k))
-reply_of (function f) tables args k = reply.Answer (answers f.function (not_nulls f.slots) tables args k)
+reply_of (function f) tables args k =
+    reply.Answer (answers f.function (typed_slots f.slots) tables args k)

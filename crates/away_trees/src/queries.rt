@@ -31,7 +31,7 @@ pub enum Expr {
     /// A parameter of a query, from 1, with its type.
     Param(u32, Ty),
     Neg(Boxed<Expr>),
-    /// A minus whose result has 32 bits; no reader makes it yet.
+    /// A minus whose result has 32 bits, which no reader makes and the types do.
     NegSmall(Boxed<Expr>),
     Not(Boxed<Expr>),
     Is(Boxed<Expr>, IsTest, bool),

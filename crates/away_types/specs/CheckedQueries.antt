@@ -5,17 +5,23 @@ use Rattle.away_values.specs.declared.types.Ty.{Ty}
 use Rattle.away_trees.specs.declared.queries.Query.{Query}
 use Rattle.away_trees.specs.declared.schemas.Schema.{Schema}
 use Rattle.away_names.specs.declared.note.Note.{Note}
+use Rattle.away_names.specs.declared.note.File.{File}
 use Rattle.away_names.specs.Files.{file}
 use Rattle.away_typing.specs.declared.wholes.QueryVerdict.{QueryVerdict}
 use Rattle.away_typing.specs.Wholes.{judged}
+use Rattle.elaboration.specs.Whole.{marked_whole}
 use Rattle.away_types.specs.Refusals.{IsUnbroken}
 
+-- with what its names stand for, and its operations marked
 abbrev pub resolved_query : Schema → Query → Query
-resolved_query s q = (file s q).query
+resolved_query s q = marked_whole s (file s q).first.refers (file s q).query
+
+abbrev pub resolved_file : Schema → Query → File
+resolved_file s q = record (file s q) { query = resolved_query s q }
 
 -- its parameters, the type of its first column, and the least rule that it breaks
 abbrev pub judged_query : Schema → Query → QueryVerdict
-judged_query s q = judged s (file s q)
+judged_query s q = judged s (resolved_file s q)
 
 abbrev pub query_note : Schema → Query → Note
 query_note s q = (judged_query s q).note

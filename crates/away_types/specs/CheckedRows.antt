@@ -5,16 +5,15 @@ use Rattle.away_values.specs.declared.types.Ty.{Ty}
 use Rattle.away_trees.specs.declared.queries.Query.{Query}
 use Rattle.away_trees.specs.declared.schemas.Schema.{Schema}
 use Rattle.away_names.specs.declared.note.Note.{Note}
-use Rattle.away_names.specs.Files.{file}
 use Rattle.away_typing.specs.declared.row_queries.RowsVerdict.{RowsVerdict}
 use Rattle.away_typing.specs.RowQueries.{judged_rows}
-use Rattle.away_types.specs.CheckedQueries.{resolved_query}
+use Rattle.away_types.specs.CheckedQueries.{resolved_file, resolved_query}
 use Rattle.away_types.specs.Refusals.{IsUnbroken}
 
 -- its parameters, the types of its columns, and the least rule but the one on answers that it
 -- breaks
 abbrev pub rows_judged : Schema → Query → RowsVerdict
-rows_judged s q = judged_rows s (file s q)
+rows_judged s q = judged_rows s (resolved_file s q)
 
 abbrev pub rows_note : Schema → Query → Note
 rows_note s q = (rows_judged s q).note

@@ -1,7 +1,9 @@
--- A function with what its names stand for, its slots, and the least rule that it breaks. A rule
--- above the least may be judged wrongly, which shows nowhere.
+-- A function with what its names stand for, its numbers converted to the types of their places, its
+-- slots, and the least rule that it breaks. A rule above the least may be judged wrongly, which
+-- shows nowhere.
 use Rattle.std.specs.Prelude.{true, false, List, [], ◌++◌, map, fold, length}
 use Rattle.away_values.specs.declared.types.Ty.{Ty}
+use Rattle.away_values.specs.declared.types.Ty.TheVariants.{Bigint}
 use Rattle.away_trees.specs.declared.schemas.Schema.{Schema}
 use Rattle.away_trees.specs.declared.statements.Function.{Function}
 use Rattle.away_trees.specs.declared.statements.Stmt.{Stmt}
@@ -12,6 +14,7 @@ use Rattle.away_names.specs.Lookups.{Name}
 use Rattle.away_names.specs.Schemas.{kept}
 use Rattle.away_names.specs.Tables.{outermost}
 use Rattle.away_typing.specs.Wholes.{column_types}
+use Rattle.elaboration.specs.Converting.{Around, converted}
 use Rattle.away_types.specs.declared.finding.Report.{Report}
 use Rattle.away_types.specs.declared.slots.Slot.{Slot}
 use Rattle.away_types.specs.declared.slots.Slots.{Slots}
@@ -47,9 +50,6 @@ in_order slots = slots.shown ++ (slots.hidden ++ slots.picked)
 abbrev pub slots_of : Schema → Function → List Slot
 slots_of s f = in_order (body_of s f).slots
 
-abbrev pub resolved_function : Schema → Function → Function
-resolved_function s f = record f { body = (body_of s f).it }
-
 -- ---- types
 
 abbrev pub slot_types : List Slot → List Ty
@@ -59,6 +59,23 @@ slot_types = map (λ (x : Slot). x.ty)
 abbrev pub asked_in : Schema → List Slot → Ty → Asked
 asked_in s slots result = record { places = record { slots = slot_types slots; frames = []; tables = column_types s }; result = result }
 
+-- ---- numbers
+
+-- what the expressions see, the type of the result, and that of the counters of FOR
+abbrev pub around_in : Schema → List Slot → Ty → Around
+around_in s slots result =
+    record { places = (asked_in s slots result).places; result = result; counter = Bigint }
+
+-- the operations marked, and each number converted to the type of its place
+abbrev pub converted_over : Schema → List Slot → Ty → Stmt → Stmt
+converted_over s slots result body = converted (around_in s slots result) body
+
+abbrev pub converted_body : Schema → Function → Stmt
+converted_body s f = converted_over s (slots_of s f) f.result (body_of s f).it
+
+abbrev pub resolved_function : Schema → Function → Function
+resolved_function s f = record f { body = converted_body s f }
+
 -- ---- rules
 
 abbrev pub params_note : List (Name × Ty) → Note
@@ -67,12 +84,12 @@ params_note params = joined (breaks rule.Duplicates (takes_twice params)) (all_n
 abbrev pub head_note : Function → Note
 head_note f = joined (kept f.name) (params_note f.params)
 
--- of a resolved body over its slots
+-- of a converted body over its slots
 abbrev pub body_note : Schema → List Slot → Ty → Stmt → Report
 body_note s slots result body = asked_stmt (asked_in s slots result) body
 
 abbrev pub types_note : Schema → Function → Report
-types_note s f = body_note s (slots_of s f) f.result (body_of s f).it
+types_note s f = body_note s (slots_of s f) f.result (converted_body s f)
 
 -- the head is told by the number of the first node, and the nodes of the body come behind the
 -- parameters

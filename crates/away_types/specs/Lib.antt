@@ -10,3 +10,4 @@ pub mod CheckedFunctions
 pub mod CheckedSchemas
 pub mod CheckedQueries
 pub mod CheckedRows
+pub mod TypedSlots

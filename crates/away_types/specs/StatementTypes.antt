@@ -1,5 +1,5 @@
--- The types that a function's statements ask of their expressions, and that no aggregate stands in
--- these.
+-- The types that a function's statements ask of their expressions, once numbers are converted, and
+-- that no aggregate stands in these.
 use Rattle.std.specs.Prelude.{
   ℕ,
   Bool,
@@ -40,6 +40,7 @@ use Rattle.away_typing.specs.Kinds.{fits}
 use Rattle.away_typing.specs.Aggregates.{outside}
 use Rattle.away_typing.specs.Typing.{Places}
 use Rattle.away_typing.specs.Trees.{kind_of, uses_of, uses_of_select, kinds_of_select}
+use Rattle.elaboration.specs.Converting.{assignable}
 use Rattle.away_types.specs.declared.finding.Report.{Report}
 use Rattle.away_types.specs.Findings.{own, own_with, nothing, followed, branched}
 
@@ -68,9 +69,10 @@ slot_of a (Some i) = slice_get a.places.slots i
 
 unfoldable pub takes : Option Ty → Kind → Bool
 takes None k = false
-takes (Some ty) k = fits ty k
+takes (Some ty) k = assignable ty k
 
--- the variable of each target takes the item at its place
+-- the variable of each target takes the item at its place, where a number may stand for the other
+-- type of numbers
 abbrev pub all_taken : Asked → List (Name × Option ℕ) → List Kind → Bool
 all_taken a [] [] = true
 all_taken a (t ∷ ts) (k ∷ ks) = takes (slot_of a t.1) k && all_taken a ts ks

@@ -6,7 +6,7 @@ use away_trees::Query;
 use away_values::Ty;
 use sqlite_items::Items;
 
-/// A query whose names are resolved, with its parameters in ascending order and the types of its columns.
+/// A query whose names are resolved and whose operations are marked, with its parameters in ascending order and the types of its columns.
 #[derive(Drop)]
 pub struct CheckedRows {
     pub query: Query,

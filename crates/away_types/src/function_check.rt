@@ -26,6 +26,8 @@ use away_trees::{Function, Schema, Stmt};
 use away_typing::recursion::column_types;
 use away_typing::types::Places;
 use away_values::{NoMemory, Ty};
+use elaboration::converting::Around;
+use elaboration::statements::converted;
 use indexmap::IndexMap;
 use sqlite_items::{Boxed, Items};
 use std::alloc::Global;
@@ -128,6 +130,31 @@ fn types_note(
     asked_stmt(alloc, &a, body)
 }
 
+/// The body with its operations marked, and each number converted to the type of its place.
+fn converted_over(
+    alloc: Global,
+    s: &Schema,
+    slots: &[Slot],
+    answer: Ty,
+    body: &Stmt,
+) -> Result<Boxed<Stmt>, NoMemory>
+    ensures { IfOk result (λ x. x ≡ spec.converted_over s.now slots.now answer body.now) }
+{
+    let columns = column_types(alloc, s)?;
+    let types = slot_types(alloc, slots)?;
+    let a = Around {
+        places: Places {
+            slots: types.as_slice(),
+            frames: &[],
+            tables: columns.as_slice(),
+        },
+        result: answer,
+        counter: Ty::Bigint,
+    };
+    let x = converted(alloc, body, &a)?;
+    Ok(Boxed::new(alloc, x)?)
+}
+
 fn head_note(f: &Function) -> Note
     ensures { result ≡ spec.head_note f.now }
 {
@@ -136,14 +163,15 @@ fn head_note(f: &Function) -> Note
 
 fn verdict_of(alloc: Global, s: &Schema, f: &Function) -> Result<Verdict, NoMemory>
     ensures { IfOk result (λ x. x ≡ record {
-      body = (spec.body_of s.now f.now).it;
+      body = spec.converted_body s.now f.now;
       slots = spec.slots_of s.now f.now;
       note = spec.function_note s.now f.now;
     }) }
 {
     let Resolved { it, note, slots } = body_of(alloc, s, f)?;
-    let body = Boxed::new(alloc, it)?;
+    let resolved = Boxed::new(alloc, it)?;
     let slots = in_order(slots)?;
+    let body = converted_over(alloc, s, slots.as_slice(), f.result, resolved.get())?;
     let types = types_note(alloc, s, slots.as_slice(), f.result, body.get())?;
     let head = own(narrow(f.params.len())?, head_note(f));
     Ok(Verdict {
@@ -153,8 +181,8 @@ fn verdict_of(alloc: Global, s: &Schema, f: &Function) -> Result<Verdict, NoMemo
     })
 }
 
-/// The function with what its names stand for, where it breaks no rule; else the first finding of the least rule that it breaks.
-/// The manual: 43.2, Structure of PL/pgSQL, 43.3, Declarations, and 43.6, Control Structures.
+/// The function with what its names stand for and its numbers converted, where it breaks no rule; else the first finding of the least rule that it
+/// breaks. The manual: 43.2, Structure of PL/pgSQL, 43.3, Declarations, and 43.6, Control Structures.
 pub fn check_function(
     alloc: Global,
     s: &CheckedSchema,

@@ -34,7 +34,7 @@ pub use checked_schema::CheckedSchema;
 pub use finding::Finding;
 pub use function_check::check_function;
 pub use laws::{a_function_has_one_checked_tree, a_query_has_one_checked_tree};
-pub use query_check::check_query;
+pub use query_check::{check_query, resolved_file};
 pub use rows_check::check_rows;
 pub use schema_check::check_schema;
 pub use slots::Slot;

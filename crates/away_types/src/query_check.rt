@@ -9,9 +9,11 @@ use crate::checked::RuleRefusal;
 use crate::checked_query::CheckedQuery;
 use crate::checked_schema::CheckedSchema;
 use away_names::files::named_file;
+use away_names::note::File;
 use away_trees::{Query, Schema};
 use away_typing::wholes::{QueryVerdict, judged_file};
 use away_values::NoMemory;
+use elaboration::whole::marked_whole;
 use sqlite_items::Boxed;
 use std::alloc::Global;
 
@@ -22,13 +24,27 @@ struct Verdict {
     judged: QueryVerdict,
 }
 
+/// The file with the operations of its query marked.
+pub fn resolved_file(alloc: Global, s: &Schema, q: &Query) -> Result<File, NoMemory>
+    ensures { IfOk result (λ f. f ≡ spec.resolved_file s.now q.now) }
+{
+    let file = named_file(alloc, s, q)?;
+    let query = marked_whole(alloc, s, file.first.refers, &file.query)?;
+    Ok(File {
+        query,
+        first: file.first,
+        second: file.second,
+        note: file.note,
+    })
+}
+
 fn judged_tree(alloc: Global, s: &Schema, q: &Query) -> Result<Verdict, NoMemory>
     ensures { IfOk result (λ v. v ≡ record {
       query = spec.resolved_query s.now q.now;
       judged = spec.judged_query s.now q.now;
     }) }
 {
-    let file = named_file(alloc, s, q)?;
+    let file = resolved_file(alloc, s, q)?;
     let judged = judged_file(alloc, s, &file)?;
     Ok(Verdict {
         query: Boxed::new(alloc, file.query)?,
@@ -60,7 +76,7 @@ fn checked(alloc: Global, s: &CheckedSchema, q: &Query) -> Result<CheckedQuery, 
     }
 }
 
-/// The query with what its names stand for, where it breaks no rule. A query has at most one checked tree under a schema.
+/// The query with what its names stand for and its operations marked, where it breaks no rule. A query has at most one checked tree under a schema.
 pub fn check_query(alloc: Global, s: &CheckedSchema, q: Query) -> Result<CheckedQuery, RuleRefusal>
     ensures ok { IfOk result (λ c. IsCheckedQuery s.now.schema q c.query c.params c.result) }
     ensures err { IfErr result (λ e. Refuses (spec.query_note s.now.schema q) e) }

@@ -9,7 +9,7 @@ ghost use Rattle.away_types.specs.Refusals.{Refuses};
 use crate::checked::RuleRefusal;
 use crate::checked_rows::CheckedRows;
 use crate::checked_schema::CheckedSchema;
-use away_names::files::named_file;
+use crate::query_check::resolved_file;
 use away_trees::{Query, Schema};
 use away_typing::row_queries::{RowsVerdict, judged_rows};
 use away_values::NoMemory;
@@ -27,7 +27,7 @@ fn judged_tree(alloc: Global, s: &Schema, q: &Query) -> Result<Verdict, NoMemory
     ensures { IfOk result (λ v. v ≡
         record { query = resolved_query s.now q.now; judged = spec.rows_judged s.now q.now }) }
 {
-    let file = named_file(alloc, s, q)?;
+    let file = resolved_file(alloc, s, q)?;
     let judged = judged_rows(alloc, s, &file)?;
     Ok(Verdict {
         query: Boxed::new(alloc, file.query)?,
@@ -59,7 +59,8 @@ fn checked(alloc: Global, s: &CheckedSchema, q: &Query) -> Result<CheckedRows, R
     }
 }
 
-/// The query with what its names stand for and the types of its columns, where it breaks no rule but perhaps the one on answers.
+/// The query with what its names stand for, its operations marked, and the types of its columns, where it breaks no rule but perhaps the one on
+/// answers.
 pub fn check_rows(alloc: Global, s: &CheckedSchema, q: Query) -> Result<CheckedRows, RuleRefusal>
     ensures ok { IfOk result (λ c. IsCheckedRows s.now.schema q c.query c.params c.columns) }
     ensures err { IfErr result (λ e. Refuses (spec.rows_note s.now.schema q) e) }

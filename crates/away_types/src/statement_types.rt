@@ -12,6 +12,7 @@ use away_typing::kind::{Kind, fits};
 use away_typing::types::{Places, kind, select_shape};
 use away_typing::uses::{outside, select_used, used};
 use away_values::{Name, NoMemory, Ty};
+use elaboration::converting::assignable;
 use sqlite_items::Items;
 use std::alloc::Global;
 
@@ -68,7 +69,7 @@ fn takes(ty: Option<Ty>, k: Kind) -> bool
 {
     match ty {
         None => false,
-        Some(ty) => fits(ty, k),
+        Some(ty) => assignable(ty, k),
     }
 }
 

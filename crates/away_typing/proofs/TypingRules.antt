@@ -1,11 +1,12 @@
 -- The type of a node, by its parts.
 use Rattle.std.proofs.Common.{◌≡◌, refl, ap, sym, ◌∙◌, ℕ, ℤ, Bool, true, false, ◌&&◌, if◌then◌else◌, List, [], ◌∷◌, ◌++◌, map, fold, Option, Some, None, option_map}
-use Rattle.std.specs.Prelude.{option_and_then, slice_get, ◌≤◌, ◌*◌, ◌+◌}
+use Rattle.std.specs.Prelude.{not, is_some, option_and_then, slice_get, ◌≤◌, ◌*◌, ◌+◌}
 use Rattle.std.proofs.Common.{arith}
 use Rattle.std.specs.Char.{digit_value}
 use Rattle.std.specs.Str.Parse.{digits_value_after}
 use Rattle.away_values.specs.declared.types.Ty.{Ty}
-use Rattle.away_values.specs.declared.types.Ty.TheVariants.{Bigint, Boolean, Text}
+use Rattle.away_values.specs.declared.types.Ty.TheVariants.{Bigint, Boolean, Text, Integer}
+use Rattle.away_values.specs.Operators.{literal_type}
 use Rattle.away_trees.specs.declared.queries.Col.{Col}
 use Rattle.away_values.specs.declared.operators.ChainOp.{ChainOp}
 use Rattle.away_values.specs.declared.operators.CmpOp.{CmpOp}
@@ -19,11 +20,11 @@ use Rattle.away_trees.specs.declared.queries.Key.{Key}
 use Rattle.away_trees.specs.declared.queries.Select.{Select}
 use Rattle.away_trees.specs.declared.queries.Query.{Query}
 use Rattle.away_trees.specs.declared.queries.Expr.TheViews.{out-Item, out-FromItem, out-Key, out-Select, out-Query}
-use Rattle.away_trees.specs.Algebra.{expr_of, item_of, key_of, from_of, select_of, query_of}
+use Rattle.away_trees.specs.Algebra.{expr_of, item_of, key_of, from_of, select_of, recursive_of, query_of}
 use Rattle.away_trees.proofs.Equations as e
 use Rattle.away_typing.specs.declared.kind.Kind.{Kind}
 use Rattle.away_typing.specs.declared.kind.Kind.TheVariants.{Null, Of, Wrong}
-use Rattle.away_typing.specs.Kinds.{only_if, fits, meet, of_type, is_right, settled, common}
+use Rattle.away_typing.specs.Kinds.{only_if, fits, meet, is_number, is_integer, is_right, settled, common}
 use Rattle.away_names.specs.Functions.{function}
 use Rattle.away_typing.specs.Typing as t
 use Rattle.away_typing.specs.Typing.{Places, Frame, Shape, typing, inside}
@@ -60,7 +61,7 @@ other_kind p (Some x) = refl
 
 -- ---- expressions
 
-pub int_kind : (n : ℤ) (p : Places) → kind_of (expr.Int n) p ≡ Of Bigint
+pub int_kind : (n : ℤ) (p : Places) → kind_of (expr.Int n) p ≡ Of (literal_type n)
 unfolding kind_of
 int_kind n p = refl
 
@@ -92,15 +93,15 @@ pub column_kind : (c : Col) (p : Places) → kind_of (expr.Column c) p ≡ t.col
 unfolding kind_of
 column_kind c p = refl
 
-pub param_kind : (i : ℕ) (ty : Ty) (p : Places) → kind_of (expr.Param i ty) p ≡ of_type ty
+pub param_kind : (i : ℕ) (ty : Ty) (p : Places) → kind_of (expr.Param i ty) p ≡ Of ty
 unfolding kind_of
 param_kind i ty p = refl
 
-pub neg_kind : (x : Expr) (p : Places) → kind_of (expr.Neg x) p ≡ only_if (fits Bigint (kind_of x p)) (Of Bigint)
+pub neg_kind : (x : Expr) (p : Places) → kind_of (expr.Neg x) p ≡ only_if (is_number (kind_of x p) && not (is_integer (kind_of x p))) (Of Bigint)
 unfolding kind_of
 neg_kind x p = ap (λ k. k p) (e.of_neg typing x)
 
-pub negsmall_kind : (x : Expr) (p : Places) → kind_of (expr.NegSmall x) p ≡ Wrong
+pub negsmall_kind : (x : Expr) (p : Places) → kind_of (expr.NegSmall x) p ≡ only_if (is_integer (kind_of x p)) (Of Integer)
 unfolding kind_of
 negsmall_kind x p = ap (λ k. k p) (e.of_negsmall typing x)
 
@@ -196,9 +197,15 @@ union_is : (p : Places) (xs : List Select) → t.union (map (λ x. select_of typ
 unfolding kinds_of_select
 union_is p xs = ap t.or_none (fold_map _ _ _ xs)
 
-pub query_rule : (q : Query) (p : Places) → shape_of_query q p ≡ t.shape_of (union_in p (out-Query q).selects)
+mapped_some : {A B : Type 0} (f : A → B) (o : Option A) → is_some (option_map f o) ≡ is_some o
+mapped_some f None = refl
+mapped_some f (Some x) = refl
+
+pub query_rule : (q : Query) (p : Places) →
+    shape_of_query q p ≡ (if is_some (out-Query q).recursive then None else t.shape_of (union_in p (out-Query q).selects))
 unfolding shape_of_query
-query_rule q p = ap (λ w. w p) (e.query_is typing q) ∙ ap t.shape_of (union_is p (out-Query q).selects)
+query_rule q p = ap (λ w. w p) (e.query_is typing q)
+    ∙ (λ i. if mapped_some (λ r. recursive_of typing r) (out-Query q).recursive i then None else t.shape_of (union_is p (out-Query q).selects i))
 
 -- ---- places of tables
 

@@ -1,5 +1,6 @@
--- The types of a tree whose names are resolved, by its slots, the columns of the selects around it
--- and the tables.
+-- The types of a tree whose names are resolved and whose operations are marked, by its slots, the
+-- columns of the selects around it and the tables. An operation on integers alone is one of 32 bits,
+-- and any other isn't; so a tree that has types is marked as it is to be.
 use Rattle.std.specs.Prelude.{
   ℕ,
   zero,
@@ -33,6 +34,7 @@ use Rattle.std.specs.List.{list_all, list_any}
 use Rattle.std.specs.Str.Parse.{digits_value}
 use Rattle.away_values.specs.declared.types.Ty.{Ty}
 use Rattle.away_values.specs.declared.types.Ty.TheVariants.{Bigint, Boolean, Text, Integer}
+use Rattle.away_values.specs.Operators.{literal_type}
 use Rattle.away_trees.specs.declared.queries.Col.{Col}
 use Rattle.away_values.specs.declared.operators.ChainOp.{ChainOp}
 use Rattle.away_values.specs.declared.operators.ChainOp.TheVariants as chain
@@ -62,7 +64,10 @@ use Rattle.away_typing.specs.Kinds.{
   common,
   fits,
   is_right,
-  of_type,
+  is_number,
+  is_integer,
+  are_integers,
+  sum_kind,
   settled,
   type_of,
 }
@@ -114,7 +119,7 @@ pub record Terms : Type 0 where
 
 unfoldable pub kind_at : Option Ty → Kind
 kind_at None = Wrong
-kind_at (Some t) = of_type t
+kind_at (Some t) = Of t
 
 unfoldable pub column : List Frame → Col → Kind
 column frames c = kind_at (option_and_then (λ item. slice_get item c.column)
@@ -124,8 +129,9 @@ unfoldable pub pair : ChainOp → Kind → Kind → Kind
 pair chain.Or a b = only_if (fits Boolean a && fits Boolean b) (Of Boolean)
 pair chain.And a b = only_if (fits Boolean a && fits Boolean b) (Of Boolean)
 pair chain.Concat a b = only_if ((fits Text a || fits Text b) && (is_right a && is_right b)) (Of Text)
-pair (chain.Int op) a b = only_if (fits Bigint a && fits Bigint b) (Of Bigint)
-pair (chain.Small op) a b = Wrong
+pair (chain.Int op) a b =
+    only_if (is_number a && (is_number b && not (are_integers a b))) (Of Bigint)
+pair (chain.Small op) a b = only_if (are_integers a b) (Of Integer)
 
 abbrev pub chained : Places → List (ChainOp × Term) → Kind → Kind
 chained p links first = fold (λ k l. pair l.0 k (l.1 p)) first links
@@ -134,16 +140,19 @@ unfoldable pub passed : IsTest → Kind → Bool
 passed test.Null k = is_right k
 passed _ k = fits Boolean k
 
+-- between numbers, to text, and to the same type
 unfoldable pub castable : Ty → Ty → Bool
 castable from Text = true
+castable Integer Bigint = true
+castable Bigint Integer = true
 castable from to = same from to
 
 unfoldable pub cast_kind : Ty → Kind → Kind
-cast_kind to Null = of_type to
+cast_kind to Null = Of to
 cast_kind Bigint Sum = Of Bigint
 cast_kind to Sum = Wrong
 cast_kind to Wrong = Wrong
-cast_kind to (Of from) = only_if (castable from to) (of_type to)
+cast_kind to (Of from) = only_if (castable from to) (Of to)
 
 abbrev pub kinds : Places → List Term → List Kind
 kinds p = map (λ t. t p)
@@ -170,14 +179,14 @@ unfoldable pub call_kind : Known → List Kind → Kind
 call_kind known.Coalesce ks = settled (common ks)
 call_kind known.Greatest ks = settled (common ks)
 call_kind known.Least ks = settled (common ks)
-call_kind known.Length (a ∷ []) = only_if (fits Text a) (Of Bigint)
-call_kind known.Substr (a ∷ b ∷ c ∷ []) = only_if (fits Text a && (fits Bigint b && fits Bigint c)) (Of Text)
+call_kind known.Length (a ∷ []) = only_if (fits Text a) (Of Integer)
+call_kind known.Substr (a ∷ b ∷ c ∷ []) = only_if (fits Text a && (is_number b && is_number c)) (Of Text)
 call_kind known.Count (a ∷ []) = only_if (is_right a) (Of Bigint)
 call_kind known.BoolAnd (a ∷ []) = only_if (fits Boolean a) (Of Boolean)
 call_kind known.BoolOr (a ∷ []) = only_if (fits Boolean a) (Of Boolean)
 call_kind known.Min (a ∷ []) = only_if (is_ordered a) (settled a)
 call_kind known.Max (a ∷ []) = only_if (is_ordered a) (settled a)
-call_kind known.Sum (a ∷ []) = only_if (fits Bigint a) Sum
+call_kind known.Sum (a ∷ []) = sum_kind a
 call_kind _ ks = Wrong
 
 unfoldable pub called : Option Known → List Kind → Kind
@@ -195,7 +204,7 @@ abbrev pub Layer : Type 0
 Layer = Expr-F Term Origin Part Term Term Whole Terms Listing
 
 abbrev pub kind : Layer → Places → Kind
-kind (ex.Int n) p = Of Bigint
+kind (ex.Int n) p = Of (literal_type n)
 kind (ex.Str t) p = Of Text
 kind (ex.Bool b) p = Of Boolean
 kind ex.Null p = Null
@@ -203,9 +212,9 @@ kind (ex.Named name) p = Wrong
 kind (ex.Dotted alias name) p = Wrong
 kind (ex.Slot i) p = kind_at (slice_get p.slots i)
 kind (ex.Column c) p = column p.frames c
-kind (ex.Param i ty) p = of_type ty
-kind (ex.Neg e) p = only_if (fits Bigint (e p)) (Of Bigint)
-kind (ex.NegSmall e) p = Wrong
+kind (ex.Param i ty) p = Of ty
+kind (ex.Neg e) p = only_if (is_number (e p) && not (is_integer (e p))) (Of Bigint)
+kind (ex.NegSmall e) p = only_if (is_integer (e p)) (Of Integer)
 kind (ex.Not e) p = only_if (fits Boolean (e p)) (Of Boolean)
 kind (ex.Is e test negative) p = only_if (passed test (e p)) (Of Boolean)
 kind (ex.Chain e links) p = chained p links (e p)
@@ -251,10 +260,14 @@ unfoldable pub maybe_fits : Ty → Option Kind → Bool
 maybe_fits ty None = true
 maybe_fits ty (Some k) = fits ty k
 
+unfoldable pub maybe_number : Option Kind → Bool
+maybe_number None = true
+maybe_number (Some k) = is_number k
+
 -- by the kinds of its list, its condition, its keys and its LIMIT
 unfoldable pub select_kinds : List Kind → Option Kind → List Kind → Option Kind → Option (List Kind)
 select_kinds list filter order limit =
-    if maybe_fits Boolean filter && (list_all is_right list && (list_all is_right order && maybe_fits Bigint limit)) then Some list else None
+    if maybe_fits Boolean filter && (list_all is_right list && (list_all is_right order && maybe_number limit)) then Some list else None
 
 abbrev pub listing : Select-F Term Origin Part Term Term Whole Terms Listing → Listing
 listing s p =
@@ -293,6 +306,7 @@ types_of = map type_of
 abbrev pub shape_of : Option (List Kind) → Shape
 shape_of = option_map types_of
 
+-- A query inside an expression or a FROM has no recursive part.
 abbrev pub typing : Algebra
 typing = algebra (record {
   no_expr = λ p. Wrong;
@@ -302,7 +316,7 @@ typing = algebra (record {
   from = part;
   item = λ i. i.expr;
   key = λ k. k.expr;
-  query = λ q p. shape_of (union q.selects p);
+  query = λ q p. if is_some q.recursive then None else shape_of (union q.selects p);
   recursive = λ r. record { columns = r.columns; first = union r.first; second = r.second };
   select = listing;
 })

@@ -6,7 +6,9 @@ ghost use Rattle.away_typing.specs.Kinds as kinds;
 ghost use Rattle.away_typing.specs.Typing as spec;
 ghost use Rattle.away_typing.specs.TypingLists.{places};
 
-use crate::kind::{Kind, fits, is_right, meet, of_type, only_if, same, settled};
+use crate::kind::{
+    Kind, are_integers, fits, is_number, is_right, meet, only_if, same, settled, sum_kind,
+};
 use crate::types::Places;
 use away_names::function::Known;
 use away_trees::Col;
@@ -21,7 +23,7 @@ pub fn slot(i: u32, p: &Places<'_>) -> Kind
 {
     match p.slots.get(i as usize) {
         None => Kind::Wrong,
-        Some(t) => of_type(*t),
+        Some(t) => Kind::Of(*t),
     }
 }
 
@@ -44,10 +46,11 @@ pub fn column(c: Col, p: &Places<'_>) -> Kind
     let Some(t) = sqlite_items::at(item.as_slice(), c.column as usize) else {
         return Kind::Wrong;
     };
-    of_type(*t)
+    Kind::Of(*t)
 }
 
-/// The type of two operands. The manual: 9.1, 9.3 and 9.4; one operand of `||` at least is a text.
+/// The type of two operands. The manual: 9.1, 9.3 and 9.4; one operand of `||` at least is a text. An operation on integers alone has
+/// 32 bits, and any other 64.
 #[tactic(auto, unfolding(crate::specs::Typing::pair))]
 pub fn pair(op: ChainOp, a: Kind, b: Kind) -> Kind
     ensures { result ≡ spec.pair op a b }
@@ -62,10 +65,10 @@ pub fn pair(op: ChainOp, a: Kind, b: Kind) -> Kind
             Kind::Of(Ty::Text),
         ),
         ChainOp::Int(_) => only_if(
-            fits(Ty::Bigint, a) && fits(Ty::Bigint, b),
+            is_number(a) && (is_number(b) && !are_integers(a, b)),
             Kind::Of(Ty::Bigint),
         ),
-        ChainOp::Small(_) => Kind::Wrong,
+        ChainOp::Small(_) => only_if(are_integers(a, b), Kind::Of(Ty::Integer)),
     }
 }
 
@@ -86,7 +89,15 @@ fn castable(from: Ty, to: Ty) -> bool
 {
     match to {
         Ty::Text => true,
-        Ty::Bigint | Ty::Boolean | Ty::Integer => same(from, to),
+        Ty::Bigint => match from {
+            Ty::Integer => true,
+            _ => same(from, to),
+        },
+        Ty::Integer => match from {
+            Ty::Bigint => true,
+            _ => same(from, to),
+        },
+        Ty::Boolean => same(from, to),
     }
 }
 
@@ -96,13 +107,13 @@ pub fn cast_kind(to: Ty, k: Kind) -> Kind
     ensures { result ≡ spec.cast_kind to k }
 {
     match k {
-        Kind::Null => of_type(to),
+        Kind::Null => Kind::Of(to),
         Kind::Sum => match to {
             Ty::Bigint => Kind::Of(Ty::Bigint),
             Ty::Boolean | Ty::Text | Ty::Integer => Kind::Wrong,
         },
         Kind::Wrong => Kind::Wrong,
-        Kind::Of(from) => only_if(castable(from, to), of_type(to)),
+        Kind::Of(from) => only_if(castable(from, to), Kind::Of(to)),
     }
 }
 
@@ -143,12 +154,12 @@ fn call_kind(f: Known, list: &[Kind]) -> Kind
     match f {
         Known::Coalesce | Known::Greatest | Known::Least => settled(common(list)),
         Known::Length => match list {
-            [a] => only_if(fits(Ty::Text, *a), Kind::Of(Ty::Bigint)),
+            [a] => only_if(fits(Ty::Text, *a), Kind::Of(Ty::Integer)),
             _ => Kind::Wrong,
         },
         Known::Substr => match list {
             [a, b, c] => only_if(
-                fits(Ty::Text, *a) && (fits(Ty::Bigint, *b) && fits(Ty::Bigint, *c)),
+                fits(Ty::Text, *a) && (is_number(*b) && is_number(*c)),
                 Kind::Of(Ty::Text),
             ),
             _ => Kind::Wrong,
@@ -166,13 +177,13 @@ fn call_kind(f: Known, list: &[Kind]) -> Kind
             _ => Kind::Wrong,
         },
         Known::Sum => match list {
-            [a] => only_if(fits(Ty::Bigint, *a), Kind::Sum),
+            [a] => sum_kind(*a),
             _ => Kind::Wrong,
         },
     }
 }
 
-/// The manual: 9.4, 9.18 and 9.21. That `length` is bigint is our own choice; the manual's is an integer.
+/// The manual: 9.4, 9.18 and 9.21. That `substr` takes bigints too is our own choice.
 #[tactic(auto, unfolding(crate::specs::Typing::called))]
 pub fn kind_of_call(f: Option<Known>, list: &[Kind]) -> Kind
     ensures { result ≡ spec.called f list.now }

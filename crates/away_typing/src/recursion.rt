@@ -39,7 +39,7 @@ pub fn column_types(alloc: Global, s: &Schema) -> Result<Items<Items<Ty>>, NoMem
     Ok(all)
 }
 
-fn with_table(alloc: Global, s: &Schema, types: Items<Ty>) -> Result<Items<Items<Ty>>, NoMemory>
+pub fn with_table(alloc: Global, s: &Schema, types: Items<Ty>) -> Result<Items<Items<Ty>>, NoMemory>
     ensures { IfOk result (λ all. all ≡ spec.with_table s.now types) }
 {
     let mut all = column_types(alloc, s)?;
@@ -47,7 +47,7 @@ fn with_table(alloc: Global, s: &Schema, types: Items<Ty>) -> Result<Items<Items
     Ok(all)
 }
 
-fn padded(alloc: Global, columns: &[Name], types: &[Ty]) -> Result<Items<Ty>, NoMemory>
+pub fn padded(alloc: Global, columns: &[Name], types: &[Ty]) -> Result<Items<Ty>, NoMemory>
     ensures { IfOk result (λ ts. ts ≡ spec.padded columns.now types.now) }
 {
     let mut all = Items::new(alloc);
@@ -109,7 +109,7 @@ fn is_once(times: Times) -> bool
 }
 
 #[tactic(auto, unfolding(crate::specs::Wholes::recursive_types))]
-fn recursive_types(
+pub fn recursive_types(
     alloc: Global,
     first: Times,
     columns: &[Name],

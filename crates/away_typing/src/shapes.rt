@@ -8,7 +8,7 @@ ghost use Rattle.away_typing.specs.Kinds as kinds;
 ghost use Rattle.away_typing.specs.Kinds.{is_right as right};
 ghost use Rattle.away_typing.specs.Typing as spec;
 
-use crate::kind::{Kind, fits, is_right, meet};
+use crate::kind::{Kind, fits, is_number, is_right, meet};
 use away_values::{Name, NoMemory, Ty};
 use sqlite_items::Items;
 use std::alloc::{AllocError, Global};
@@ -182,6 +182,16 @@ fn maybe_fits(ty: Ty, k: Option<Kind>) -> bool
     }
 }
 
+#[tactic(auto, unfolding(crate::specs::Typing::maybe_number))]
+fn maybe_number(k: Option<Kind>) -> bool
+    ensures { result ≡ spec.maybe_number k }
+{
+    match k {
+        None => true,
+        Some(k) => is_number(k),
+    }
+}
+
 /// The kinds of a select's columns, where its parts fit. The manual: 7.2.2, The WHERE Clause, which asks for a boolean.
 #[tactic(auto, unfolding(crate::specs::Typing::select_kinds))]
 pub fn select_kinds(
@@ -193,8 +203,7 @@ pub fn select_kinds(
     ensures { result ≡ spec.select_kinds list filter order.now limit }
 {
     if maybe_fits(Ty::Boolean, filter)
-        && (all_right(list.as_slice())
-            && (all_right(order.as_slice()) && maybe_fits(Ty::Bigint, limit)))
+        && (all_right(list.as_slice()) && (all_right(order.as_slice()) && maybe_number(limit)))
     {
         Some(list)
     } else {

@@ -9,7 +9,7 @@ ghost use Rattle.away_typing.specs.Typing.{inside};
 ghost use Rattle.away_typing.specs.TypingLists as lists;
 ghost use Rattle.away_typing.specs.TypingLists.{places};
 
-use crate::kind::{Kind, fits, is_right, meet, of_type, only_if, settled};
+use crate::kind::{Kind, fits, is_integer, is_number, is_right, meet, only_if, settled};
 use crate::operands::{
     cast_kind, column, common, exists_kind, kind_of_call, kind_or_null, pair, passed, scalar_kind,
     slot,
@@ -19,7 +19,7 @@ use crate::shapes::{
 };
 use away_names::function::function;
 use away_trees::{Expr, FromItem, Item, Key, Query, Select, Source};
-use away_values::{ChainOp, Name, NoMemory, Ty};
+use away_values::{ChainOp, Name, NoMemory, Ty, literal_type};
 use sqlite_items::{Boxed, Items};
 use std::alloc::Global;
 
@@ -39,7 +39,7 @@ pub fn kind(alloc: Global, e: &Expr, p: &Places<'_>) -> Result<Kind, NoMemory>
     ensures { IfOk result (λ k. k ≡ trees.kind_of e.now (places p.now)) }
 {
     match e {
-        Expr::Int(_) => Ok(Kind::Of(Ty::Bigint)),
+        Expr::Int(n) => Ok(Kind::Of(literal_type(*n))),
         Expr::Str(_) => Ok(Kind::Of(Ty::Text)),
         Expr::Bool(_) => Ok(Kind::Of(Ty::Boolean)),
         Expr::Null => Ok(Kind::Null),
@@ -47,13 +47,16 @@ pub fn kind(alloc: Global, e: &Expr, p: &Places<'_>) -> Result<Kind, NoMemory>
         Expr::Dotted(_, _) => Ok(Kind::Wrong),
         Expr::Slot(i) => Ok(slot(*i, p)),
         Expr::Column(c) => Ok(column(*c, p)),
-        Expr::Param(_, ty) => Ok(of_type(*ty)),
+        Expr::Param(_, ty) => Ok(Kind::Of(*ty)),
         Expr::CountRows => Ok(Kind::Of(Ty::Bigint)),
         Expr::Neg(a) => {
             let k = kind(alloc, a.get(), p)?;
-            Ok(only_if(fits(Ty::Bigint, k), Kind::Of(Ty::Bigint)))
+            Ok(only_if(is_number(k) && !is_integer(k), Kind::Of(Ty::Bigint)))
         }
-        Expr::NegSmall(_) => Ok(Kind::Wrong),
+        Expr::NegSmall(a) => {
+            let k = kind(alloc, a.get(), p)?;
+            Ok(only_if(is_integer(k), Kind::Of(Ty::Integer)))
+        }
         Expr::Not(a) => {
             let k = kind(alloc, a.get(), p)?;
             Ok(only_if(fits(Ty::Boolean, k), Kind::Of(Ty::Boolean)))
@@ -190,12 +193,15 @@ fn maybe_kind(alloc: Global, e: &Option<Expr>, p: &Places<'_>) -> Result<Option<
 
 // ---- queries
 
-/// The types of a query's columns; None where it has none.
+/// The types of a query's columns; None where it has none. A query with WITH isn't one that stands inside.
 #[cycle(types)]
 #[tactic(auto, using(crate::proofs::TypingRules::query_rule))]
 pub fn query_shape(alloc: Global, q: &Query, p: &Places<'_>) -> Result<Option<Items<Ty>>, NoMemory>
     ensures { IfOk result (λ s. s ≡ trees.shape_of_query q.now (places p.now)) }
 {
+    if q.recursive.is_some() {
+        return Ok(None);
+    }
     match union(alloc, q.selects.as_slice(), p)? {
         None => Ok(None),
         Some(kinds) => Ok(Some(types_of(alloc, kinds.as_slice())?)),

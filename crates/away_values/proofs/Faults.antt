@@ -12,7 +12,7 @@ use Rattle.away_values.specs.declared.operators.IntOp.TheVariants as int
 use Rattle.away_values.specs.declared.operators.TextOp.{TextOp}
 use Rattle.away_values.specs.declared.operators.TextOp.TheVariants as text
 use Rattle.away_values.specs.Classes.{FaultsByClass}
-use Rattle.away_values.specs.Operators.{bytes_of, cast, concat, fits, fits_small, int_op, int_result, negated, part, ranged, small, text_of_value, substr, text_op, text_within, unless_zero}
+use Rattle.away_values.specs.Operators.{bytes_of, cast, concat, fits, fits_small, int_op, int_result, length_of, negated, part, ranged, small, text_of_value, substr, text_op, text_within, unless_zero}
 use Rattle.away_values.specs.Results.{Or, class}
 
 -- a choice between two that give a value or a class
@@ -67,7 +67,7 @@ of_substr _ _ _ = tt
 
 pub of_texts : (op : TextOp) (args : List Value) → FaultsByClass (text_op op args)
 of_texts text.Concat (a ∷ b ∷ []) = of_concat a b
-of_texts text.Length (t ∷ []) = tt
+of_texts text.Length (t ∷ []) = of_small (length_of t)
 of_texts text.Substr (t ∷ p ∷ n ∷ []) = of_substr t p n
 of_texts text.ToText (v ∷ []) = of_cast ty.Text v
 of_texts _ _ = tt

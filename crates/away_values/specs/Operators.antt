@@ -185,6 +185,12 @@ abbrev pub fits_small : ℤ → Bool
 fits_small (pos n) = nat_lt n (2 ^ 31)
 fits_small (negsuc n) = nat_lt n (2 ^ 31)
 
+-- The type of a literal: integer where 32 bits hold it, and else bigint (Lexical Structure, Numeric
+-- Constants). The one negative literal that is read, the least bigint, is a bigint.
+unfoldable pub literal_type : ℤ → Ty
+literal_type (pos n) = if nat_lt n (2 ^ 31) then ty.Integer else ty.Bigint
+literal_type (negsuc n) = ty.Bigint
+
 -- a bigint as an integer
 abbrev pub small : Value → Or Value
 small (val.Int n) = if fits_small n then Ok (val.Int n) else Err (class (codes "22003"))
@@ -198,7 +204,7 @@ cast ty.Integer v = small v
 cast ty.Text val.Null = Ok val.Null
 cast ty.Text v = Ok (val.Text (text_of_value v))
 
--- `length`, in characters. The result of 64 bits is our own choice.
+-- how many characters a text has
 abbrev pub length_of : Value → Value
 length_of (val.Text t) = val.Int (pos (length t))
 length_of _ = val.Null
@@ -215,11 +221,12 @@ abbrev pub substr : Value → Value → Value → Or Value
 substr (val.Text t) (val.Int p) (val.Int n) = if int_lt n (pos 0) then Err (class (codes "22011")) else Ok (val.Text (part p (p +ℤ n) (pos 1) t))
 substr _ _ _ = Ok val.Null
 
--- the operators on texts, by their operands; another number of operands never stands in a checked
--- tree
+-- The operators on texts, by their operands; another number of operands never stands in a checked
+-- tree. `length` is an integer: a text of more characters than an integer counts, which is no value,
+-- raises 22003.
 abbrev pub text_op : TextOp → List Value → Or Value
 text_op text.Concat (a ∷ b ∷ []) = concat a b
-text_op text.Length (t ∷ []) = Ok (length_of t)
+text_op text.Length (t ∷ []) = small (length_of t)
 text_op text.Substr (t ∷ p ∷ n ∷ []) = substr t p n
 text_op text.ToText (v ∷ []) = cast ty.Text v
 text_op _ _ = Ok val.Null

@@ -1,10 +1,11 @@
 //! Arithmetic on integers.
 
 ghost use Rattle.std.specs.Prelude.{◌≡◌};
-ghost use Rattle.away_values.specs.Operators.{int_op as int_value, int_result as int_answer, small as small_value};
+ghost use Rattle.away_values.specs.Operators.{int_op as int_value, int_result as int_answer, literal_type as type_of_literal, small as small_value};
 
 use crate::operators::IntOp;
 use crate::sqlstate;
+use crate::types::Ty;
 use crate::values::{Class, Value};
 
 /// Applies the operator to two bigints; NULL where an operand is NULL (PostgreSQL manual, 9.3, Mathematical Functions and
@@ -44,6 +45,18 @@ fn int_result(op: IntOp, a: i64, b: i64) -> Result<Value, Class>
     match exact {
         Some(n) => Ok(Value::Int(n)),
         None => Err(sqlstate::NUMERIC_VALUE_OUT_OF_RANGE),
+    }
+}
+
+/// The type of a literal: integer where 32 bits hold it. The manual: 4.1.2.6, Numeric Constants.
+#[tactic(auto, unfolding(crate::specs::Operators::literal_type))]
+pub fn literal_type(n: i64) -> Ty
+    ensures { result ≡ type_of_literal n }
+{
+    if n >= 0 && n < 2147483648 {
+        Ty::Integer
+    } else {
+        Ty::Bigint
     }
 }
 

@@ -14,7 +14,7 @@ mod types;
 mod values;
 mod words;
 
-pub use arithmetic::{int_op, small};
+pub use arithmetic::{int_op, literal_type, small};
 pub use comparison::compare;
 pub use errors::{NoMemory, OpError};
 pub use from_text::{name, word};

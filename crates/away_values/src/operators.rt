@@ -31,7 +31,7 @@ pub enum TextOp {
     ToText,
 }
 
-/// An operator of a flat chain. `Small` is arithmetic whose result has 32 bits; no reader makes it yet.
+/// An operator of a flat chain. `Small` is arithmetic whose result has 32 bits, which no reader makes and the types do.
 /// The manual: 9.1, Logical Operators, 9.3 and 9.4. It leaves the order of evaluation open (4.2.14); from left to right is our own choice.
 #[derive(Clone, Copy, Debug, PartialEq, Eq)]
 pub enum ChainOp {

@@ -2,12 +2,13 @@
 
 ghost use Rattle.std.specs.Int.{int_max};
 ghost use Rattle.std.specs.Prelude.{◌≡◌, ◌+◌, ◌-ℤ◌, ◌≤◌, ◌++◌, IfOk, OnOk, chars, drop, length, pos, string_bytes, string_len, take};
-ghost use Rattle.away_values.specs.Operators.{cast, concat as concat_value, length_of, text_of_value, substr as substr_value, text_op as text_value, text_within as within_value};
+ghost use Rattle.away_values.specs.Operators.{cast, concat as concat_value, length_of, small as small_value, text_of_value, substr as substr_value, text_op as text_value, text_within as within_value};
 ghost use Rattle.away_values.specs.Results.{Answers};
 ghost use Rattle.away_values.specs.Words.{HasNoZero, IsWord};
 ghost use Rattle.away_values.specs.declared.types.Ty.TheVariants as ty;
 ghost use Rattle.away_values.specs.declared.values.Value.TheVariants as val;
 
+use crate::arithmetic::small;
 use crate::errors::{NoMemory, OpError};
 use crate::operators::TextOp;
 use crate::sqlstate;
@@ -27,7 +28,7 @@ pub fn text_op(alloc: Global, op: TextOp, args: &[Value]) -> Result<Value, OpErr
             _ => Ok(Value::Null),
         },
         TextOp::Length => match args {
-            [text] => Ok(text_length(text)),
+            [text] => text_length(text),
             _ => Ok(Value::Null),
         },
         TextOp::Substr => match args {
@@ -113,12 +114,16 @@ fn to_text(alloc: Global, v: &Value) -> Result<Value, OpError>
     }
 }
 
-fn text_length(v: &Value) -> Value
-    ensures { result ≡ length_of v.now }
+/// The manual: 9.4, where it is an integer.
+fn text_length(v: &Value) -> Result<Value, OpError>
+    ensures { Answers (small_value (length_of v.now)) result }
 {
     match v {
-        Value::Text(word) => Value::Int(count_of(word)),
-        _ => Value::Null,
+        Value::Text(word) => match small(&Value::Int(count_of(word))) {
+            Ok(count) => Ok(count),
+            Err(class) => Err(OpError::Class(class)),
+        },
+        _ => Ok(Value::Null),
     }
 }
 

@@ -8,6 +8,7 @@ use Rattle.away_trees.specs.declared.schemas.Schema.{Schema}
 use Rattle.away_trees.specs.declared.statements.Function.{Function}
 use Rattle.away_types.specs.CheckedRows.{rows_note}
 use Rattle.away_types.specs.Refusals.{IsUnbroken}
+use Rattle.away_types.specs.TypedSlots.{typed_slots}
 use Rattle.away_types.specs.declared.slots.Slot.{Slot}
 use Rattle.batch_law.specs.Batches.{start_of}
 use Rattle.batch_calls.specs.CallTables.{IsCallTable}
@@ -30,4 +31,4 @@ pub record IsBatch (s : Schema) (f : Function) (place : ℕ) (written : Query) (
 pub record AnswersAsCalls (s : Schema) (f : Function) (slots : List Slot) (place : ℕ) (q : Query) : Type 0 where
   pub each : (tables : List Rows) → FitsSchema s tables
       → calls.AnswersAsCalls q tables (map start_of (slice_index_or tables place [])) (weight f)
-      (answers f (map (λ (x : Slot). x.not_null) slots) tables)
+      (answers f (typed_slots slots) tables)

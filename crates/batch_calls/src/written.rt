@@ -8,10 +8,9 @@ ghost use Rattle.batch_calls.specs.Written.{ReadsAs, ResolvesTo};
 ghost use Rattle.sql_text.specs.Refusals.{MayBeRead};
 
 use crate::same::same_tree;
-use away_names::files::named_file;
 use away_names::rule::Rule;
 use away_trees::{Query, Schema};
-use away_types::CheckedSchema;
+use away_types::{CheckedSchema, resolved_file};
 use away_typing::row_queries::judged_rows;
 use away_values::NoMemory;
 use qualified_names::qualified_query;
@@ -43,7 +42,7 @@ fn read_back(alloc: Global, text: &str) -> Result<Boxed<Query>, NoMemory>
     }
 }
 
-/// A query with its names resolved, and the least rule but the one on answers that it breaks.
+/// A resolved query, and the least rule but the one on answers that it breaks.
 #[derive(Drop)]
 struct ResolvedQuery {
     query: Boxed<Query>,
@@ -54,7 +53,7 @@ fn resolved(alloc: Global, s: &Schema, query: &Query) -> Result<ResolvedQuery, N
     ensures query { IfOk result (λ r. r.query ≡ resolved_query s.now query.now) }
     ensures broken { IfOk result (λ r. r.broken ≡ (rows_note s.now query.now).least) }
 {
-    let file = named_file(alloc, s, query)?;
+    let file = resolved_file(alloc, s, query)?;
     let judged = judged_rows(alloc, s, &file)?;
     Ok(ResolvedQuery {
         query: Boxed::new(alloc, file.query)?,

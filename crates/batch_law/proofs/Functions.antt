@@ -6,6 +6,7 @@ use Rattle.away_trees.specs.declared.schemas.Schema.{Schema}
 use Rattle.away_trees.specs.declared.statements.Function.{Function}
 use Rattle.away_trees.specs.Count.{weight}
 use Rattle.away_trees.specs.Fits.{FitsSchema}
+use Rattle.away_types.specs.TypedSlots.{typed_slots}
 use Rattle.away_types.specs.declared.slots.Slot.{Slot}
 use Rattle.away_types.specs.CheckedFunctions.{IsChecked}
 use Rattle.sql_meaning.specs.Context.{Rows}
@@ -33,7 +34,7 @@ module _ (s : Schema) (written f : Function) (slots : List Slot) (g : Goto) (z :
     (checked : IsChecked s written f slots) (few : length s.tables < 2 ^ 64) (lowered : Lowered f slots g)
     (named : Named (length slots) (length f.params) g z) (called : Called g z a) (templated : Templated f slots (length s.tables) g z a r o)
     (batched : Batched f slots (length s.tables) g z a r place q) (table : IsCallTable s place f)
-    (same : Equivalent s f (map (λ (x : Slot). x.not_null) slots) o) (tables : List Rows) (fits : FitsSchema s tables) where
+    (same : Equivalent s f (typed_slots slots) o) (tables : List Rows) (fits : FitsSchema s tables) where
   abbrev starts : List Start
   starts = map start_of (slice_index_or tables place [])
 
@@ -46,10 +47,10 @@ module _ (s : Schema) (written f : Function) (slots : List Slot) (g : Goto) (z :
   there : place < length tables
   there = subst (λ n. place < n) (sym as_many) (calls.is_there s.tables place table.table table.is)
 
-  pub function_answers : AnswersAsCalls q tables starts (weight f) (answers f (map (λ (x : Slot). x.not_null) slots) tables)
+  pub function_answers : AnswersAsCalls q tables starts (weight f) (answers f (typed_slots slots) tables)
   function_answers =
-      answers_as_calls (FitsSchema s) (AreTyped (types_of f)) (weight f) (answers f (map (λ (x : Slot). x.not_null) slots)) q o tables starts same fits
-      (calls.calls_typed s place f table tables fits) (λ vs n k. no_shape (over tables (map (λ (x : Slot). x.not_null) slots)) f vs n k)
+      answers_as_calls (FitsSchema s) (AreTyped (types_of f)) (weight f) (answers f (typed_slots slots)) q o tables starts same fits
+      (calls.calls_typed s place f table tables fits) (λ vs n k. no_shape (over tables (typed_slots slots)) f vs n k)
       (λ vs j c e. call_faults s written f slots g z a r o checked templated tables as_many small vs j c e)
       (λ k. batch_answers s written f slots g z a r o q place checked lowered named called templated batched tables [] as_many small there k)
       (λ k. one_of_three s written f slots g z a r o checked templated tables as_many small lowered named called starts k)

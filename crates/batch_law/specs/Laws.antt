@@ -6,6 +6,7 @@ use Rattle.away_trees.specs.declared.schemas.Schema.{Schema}
 use Rattle.away_trees.specs.declared.statements.Function.{Function}
 use Rattle.away_trees.specs.Count.{weight}
 use Rattle.away_trees.specs.Fits.{FitsSchema}
+use Rattle.away_types.specs.TypedSlots.{typed_slots}
 use Rattle.away_types.specs.declared.slots.Slot.{Slot}
 use Rattle.away_types.specs.CheckedFunctions.{IsChecked}
 use Rattle.away_values.specs.declared.types.Ty.{Ty}
@@ -97,7 +98,7 @@ BatchesAnswerAsFunctions =
     → Named (length slots) (length f.params) goto ssa → Called goto ssa anf
     → Templated f slots (length s.tables) goto ssa anf tail one
     → Batched f slots (length s.tables) goto ssa anf tail place q
-    → IsCallTable s place f → Equivalent s f (map (λ (x : Slot). x.not_null) slots) one
+    → IsCallTable s place f → Equivalent s f (typed_slots slots) one
     → (tables : List Rows) → FitsSchema s tables
     → AnswersAsCalls q tables (map start_of (slice_index_or tables place [])) (weight f)
-    (answers f (map (λ (x : Slot). x.not_null) slots) tables)
+    (answers f (typed_slots slots) tables)

@@ -78,7 +78,7 @@ tied_answers = row (int 3) 1 ∷ row (int 5) 1 ∷ row (int 5) 0 ∷ row val.Nul
 
 -- what collatz answers within so many turns
 abbrev pub collatz_within : ℕ → CallAnswer
-collatz_within n args = answers collatz (false ∷ false ∷ []) (four_calls ∷ []) args n
+collatz_within n args = answers collatz ((ty.Bigint, false) ∷ (ty.Bigint, false) ∷ []) (four_calls ∷ []) args n
 
 -- a table of calls of collatz
 abbrev pub call_column : ColumnSchema

@@ -42,6 +42,8 @@ use Rattle.block_forms.specs.WorkedInto.{
   only_key,
   only_key_slots,
   only_key_form,
+  own_slot,
+  narrowed,
   swapped,
   swapped_slots,
   swapped_form,
@@ -50,6 +52,10 @@ use Rattle.select_into.specs.Wrapped.{no_row, pick}
 
 abbrev literal : ℕ → Expr
 literal k = expr.Int (pos k)
+
+-- an integer where a bigint is asked for
+abbrev as_bigint : ℕ → Expr
+as_bigint k = expr.Cast (literal k) ty.Bigint
 
 abbrev arithmetic : IntOp → Expr → Expr → Expr
 arithmetic op x y = expr.Chain x ((chain.Int op, y) ∷ [])
@@ -64,8 +70,12 @@ sign_of = record {
   strict = false;
   params = (codes "a", ty.Bigint) ∷ [];
   result = ty.Bigint;
-  body = stmt.Block None [] (stmt.If (record { test = expr.Compare cmp.Gt (expr.Slot 0) (literal 0); body = stmt.Return (literal 1) ∷ [] } ∷ []) None
-      ∷ stmt.Return (literal 2) ∷ []) None;
+  body = stmt.Block None []
+      (stmt.If (record {
+        test = expr.Compare cmp.Gt (expr.Slot 0) (literal 0);
+        body = stmt.Return (as_bigint 1) ∷ [];
+      } ∷ []) None
+      ∷ stmt.Return (as_bigint 2) ∷ []) None;
 }
 
 abbrev pub sign_of_form : Goto
@@ -94,7 +104,13 @@ collatz = record {
   params = (codes "n", ty.Bigint) ∷ [];
   result = ty.Bigint;
   body = stmt.Block None
-      (record { name = codes "steps"; ty = ty.Bigint; constant = false; not_null = false; default = Some (literal 0) } ∷ [])
+      (record {
+        name = codes "steps";
+        ty = ty.Bigint;
+        constant = false;
+        not_null = false;
+        default = Some (as_bigint 0);
+      } ∷ [])
       (stmt.Loop None (kind.While (expr.Compare cmp.Ne (expr.Slot 0) (literal 1)))
       (stmt.If (record {
         test = expr.Compare cmp.Eq (arithmetic int.Rem (expr.Slot 0) (literal 2)) (literal 0);
@@ -134,8 +150,14 @@ count_up = record {
   params = (codes "a", ty.Bigint) ∷ [];
   result = ty.Bigint;
   body = stmt.Block None
-      (record { name = codes "t"; ty = ty.Bigint; constant = false; not_null = true; default = Some (literal 0) } ∷ [])
-      (stmt.Loop None (kind.Count (codes "i") false (literal 1) (expr.Slot 0) None)
+      (record {
+        name = codes "t";
+        ty = ty.Bigint;
+        constant = false;
+        not_null = true;
+        default = Some (as_bigint 0);
+      } ∷ [])
+      (stmt.Loop None (kind.Count (codes "i") false (as_bigint 1) (expr.Slot 0) None)
       (stmt.Exit None (Some (expr.Compare cmp.Gt (expr.Slot 1) (literal 9)))
       ∷ assign (codes "t") 1 (arithmetic int.Add (expr.Slot 1) (expr.Slot 2)) ∷ [])
       None
@@ -222,14 +244,17 @@ pub record WorkedForms : Type 0 where
   pub slots_are : own_slots only_key ≡ only_key_slots
 
 -- The expressions of collatz are those of its text, in order: 0, n <> 1, n % 2 = 0, n / 2, 3 * n +
--- 1, steps + 1, steps; then seventeen fixed ones. A SELECT INTO has its tests and its picks.
+-- 1, steps + 1, steps; then seventeen fixed ones. A SELECT INTO has its tests and its picks, which
+-- have a cast where the target has the other type of numbers.
 pub record WorkedTable : Type 0 where
-  pub first : slice_get (expressions collatz) 0 ≡ Some (literal 0)
+  pub first : slice_get (expressions collatz) 0 ≡ Some (as_bigint 0)
   pub second : slice_get (expressions collatz) 1 ≡ Some (expr.Compare cmp.Ne (expr.Slot 0) (literal 1))
   pub last : slice_get (expressions collatz) 6 ≡ Some (expr.Slot 1)
   pub many : length (expressions collatz) ≡ 24
   pub strict : slice_get (expressions only_key) 1 ≡ Some (no_row key_of)
   pub picked : slice_get (expressions only_key) 3 ≡ Some (pick key_of 0)
+  pub converted : slice_get (expressions narrowed) 0
+      ≡ Some (expr.Cast (pick own_slot 0) ty.Integer)
 
 -- From 2 collatz takes one step, with two visits of the head: eight visits tell so, and seven
 -- don't.

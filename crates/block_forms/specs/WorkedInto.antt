@@ -3,6 +3,7 @@ use Rattle.std.specs.Prelude.{List, [], ◌∷◌, Some, None, codes, pos, true,
 use Rattle.away_values.specs.declared.operators.CmpOp.TheVariants as cmp
 use Rattle.away_values.specs.declared.types.Ty.TheVariants as ty
 use Rattle.away_trees.specs.declared.queries.Expr.TheVariants as expr
+use Rattle.away_trees.specs.declared.queries.Expr.TheViews.{roll-Item, roll-Select}
 use Rattle.away_trees.specs.declared.queries.Select.{Select}
 use Rattle.away_trees.specs.declared.statements.Stmt.TheVariants as stmt
 use Rattle.away_trees.specs.declared.statements.Function.{Function}
@@ -35,7 +36,7 @@ only_key = record {
         ty = ty.Bigint;
         constant = false;
         not_null = true;
-        default = Some (expr.Int (pos 0));
+        default = Some (expr.Cast (expr.Int (pos 0)) ty.Bigint);
       } ∷ [])
       (stmt.Into true ((codes "r", Some 1) ∷ []) key_of ∷ stmt.Return (expr.Slot 1) ∷ [])
       None;
@@ -100,4 +101,35 @@ swapped_form = record {
       ∷ sets 1 (term 17 (3 ∷ [])) 6
       ∷ returns (term 2 (0 ∷ []))
       ∷ [];
+}
+
+-- SELECT a, where a is the first slot
+abbrev pub own_slot : Select
+own_slot = select (expr.Slot 0 ∷ []) [] None
+
+-- narrowed(a bigint) RETURNS integer: DECLARE x integer; BEGIN SELECT a INTO x; RETURN x; END;
+abbrev pub narrowed : Function
+narrowed = record {
+  name = codes "narrowed";
+  strict = false;
+  params = (codes "a", ty.Bigint) ∷ [];
+  result = ty.Integer;
+  body = stmt.Block None
+      (record {
+        name = codes "x";
+        ty = ty.Integer;
+        constant = false;
+        not_null = false;
+        default = None;
+      } ∷ [])
+      (stmt.Into false ((codes "x", Some 1) ∷ [])
+      (roll-Select (record {
+        list = roll-Item (record { expr = expr.Slot 0; alias = Some (codes "x") }) ∷ [];
+        from = [];
+        filter = None;
+        order = [];
+        limit = None;
+      }))
+      ∷ stmt.Return (expr.Slot 1) ∷ [])
+      None;
 }

@@ -5,6 +5,7 @@ use Rattle.std.proofs.lemmas.Option.{same_Some}
 use Rattle.away_trees.specs.declared.statements.Stmt.TheBlock as b
 use Rattle.away_trees.specs.declared.queries.Expr.TheBlock as e
 use Rattle.away_trees.specs.declared.queries.Expr.TheViews as view
+use Rattle.away_values.specs.Operators.{literal_type}
 use Rattle.block_forms.specs.Expressions.{sources}
 use Rattle.block_forms.specs.declared.forms.SsaBlock.{SsaBlock}
 use Rattle.block_forms.specs.Places.{Each, Distinct}
@@ -254,7 +255,7 @@ passes_nothing : PassesKnown (0 ∷ []) [] []
 passes_nothing = record { known = none_from_zero; as_many = refl }
 
 sign_of_templated : Templated sign_of (bigint ∷ []) 0 sign_of_form sign_of_ssa sign_of_anf sign_of_merged sign_of_query
-unfolding sources b.hidden-the_row-Stmt-0 b.hidden-the_row-Arm-1 e.hidden-the_row-Expr-0 e.hidden-the_row-Expr-Chain-1-2-1 e.hidden-the_row-Expr-2 e.hidden-the_row-Expr-Cases-0-2-3 e.hidden-the_row-Query-4 e.hidden-the_row-Select-5 e.hidden-the_row-Item-6 e.hidden-the_row-FromItem-7 e.hidden-the_row-Key-8 view.roll-Select view.roll-Recursive view.roll-Query denote.Hole.Carrier.hidden denote.Hole.Carrier.roll
+unfolding sources b.hidden-the_row-Stmt-0 b.hidden-the_row-Arm-1 e.hidden-the_row-Expr-0 e.hidden-the_row-Expr-Chain-1-2-1 e.hidden-the_row-Expr-2 e.hidden-the_row-Expr-Cases-0-2-3 e.hidden-the_row-Query-4 e.hidden-the_row-Select-5 e.hidden-the_row-Item-6 e.hidden-the_row-FromItem-7 e.hidden-the_row-Key-8 view.roll-Select view.roll-Recursive view.roll-Query denote.Hole.Carrier.hidden denote.Hole.Carrier.roll literal_type
 sign_of_templated = record {
   entry = only_zero;
   trees = of_zero _ (
@@ -269,5 +270,5 @@ sign_of_templated = record {
 }
 
 pub queries_are : WorkedQueries
-unfolding sources b.hidden-the_row-Stmt-0 b.hidden-the_row-Arm-1 e.hidden-the_row-Expr-0 e.hidden-the_row-Expr-Chain-1-2-1 e.hidden-the_row-Expr-2 e.hidden-the_row-Expr-Cases-0-2-3 e.hidden-the_row-Query-4 e.hidden-the_row-Select-5 e.hidden-the_row-Item-6 e.hidden-the_row-FromItem-7 e.hidden-the_row-Key-8 view.roll-Select view.roll-Recursive view.roll-Query denote.Hole.Carrier.hidden denote.Hole.Carrier.roll
+unfolding sources b.hidden-the_row-Stmt-0 b.hidden-the_row-Arm-1 e.hidden-the_row-Expr-0 e.hidden-the_row-Expr-Chain-1-2-1 e.hidden-the_row-Expr-2 e.hidden-the_row-Expr-Cases-0-2-3 e.hidden-the_row-Query-4 e.hidden-the_row-Select-5 e.hidden-the_row-Item-6 e.hidden-the_row-FromItem-7 e.hidden-the_row-Key-8 view.roll-Select view.roll-Recursive view.roll-Query denote.Hole.Carrier.hidden denote.Hole.Carrier.roll literal_type
 queries_are = record { one_return = refl; ends = refl; goes_on = refl; templated = sign_of_templated }

@@ -1,10 +1,7 @@
--- Forms that a certificate can spell: their classes are five digits or upper-case letters, and
--- their columns have types with a name in certificates.
+-- Forms that a certificate can spell: their classes are five digits or upper-case letters.
 use Rattle.std.specs.Prelude.{◌≡◌, ℕ, Bool, true, ◌&&◌, ◌==◌, List, length}
 use Rattle.std.specs.List.{AllByRecursion, list_all}
 use Rattle.away_values.specs.Classes.{is_class_char}
-use Rattle.away_values.specs.declared.types.Ty.{Ty}
-use Rattle.away_values.specs.declared.types.Ty.TheVariants as ty
 use Rattle.away_values.specs.declared.values.Class.{Class}
 use Rattle.block_forms.specs.declared.forms.End.{End}
 use Rattle.block_forms.specs.declared.forms.End.TheVariants as jump
@@ -30,14 +27,7 @@ CallEndHasCode (Pick t b c) = Unit {0}
 CallEndHasCode (Return t) = Unit {0}
 CallEndHasCode (Fail c) = HasCode c
 
-abbrev pub HasName : Ty → Type 0
-HasName ty.Bigint = Unit {0}
-HasName ty.Boolean = Unit {0}
-HasName ty.Text = Unit {0}
-HasName ty.Integer = ⊥
-
 pub record HasSpelling (forms : Forms) : Type 0 where
   pub goto : AllByRecursion (λ b. EndHasCode b.end) forms.goto.blocks
   pub ssa : AllByRecursion (λ b. EndHasCode b.end) forms.ssa.blocks
   pub anf : AllByRecursion (λ b. CallEndHasCode b.end) forms.anf.blocks
-  pub columns : AllByRecursion HasName forms.tail.columns

@@ -7,6 +7,7 @@ use Rattle.away_values.specs.declared.types.Ty.TheVariants as ty
 use Rattle.away_values.specs.declared.values.Class.{Class}
 use Rattle.away_trees.specs.declared.queries.Expr.{Expr}
 use Rattle.away_trees.specs.declared.queries.Expr.TheVariants as expr
+use Rattle.away_trees.specs.declared.queries.Expr.TheViews.{out-Select}
 use Rattle.away_trees.specs.declared.queries.Select.{Select}
 use Rattle.away_trees.specs.declared.statements.Decl.{Decl}
 use Rattle.away_trees.specs.declared.statements.LoopKind.{LoopKind}
@@ -18,9 +19,9 @@ use Rattle.away_types.specs.declared.slots.Slot.{Slot}
 use Rattle.sql_meaning.specs.Reads.{slots_of}
 use Rattle.sql_meaning.specs.Template.{below, count_from}
 use Rattle.plsql_meaning.specs.Outcomes.{Label, case_not_found, invalid_parameter}
-use Rattle.select_into.specs.Entries.{Target, checks, check_entries, into_entries, pick_entries, target_types, type_of}
+use Rattle.select_into.specs.Entries.{Target, cast_at, checks, check_entries, into_entries, pick_entry, pick_entries, target_types, type_of, unmarked}
 use Rattle.select_into.specs.Laws.{HasSlots}
-use Rattle.select_into.specs.Wrapped.{no_row, more_rows, pick, picked}
+use Rattle.select_into.specs.Wrapped.{no_row, more_rows}
 use Rattle.select_into.proofs.SourceReads.{no_row_slots, more_rows_slots, pick_slots}
 use Rattle.block_forms.specs.declared.forms.Term.{Term}
 use Rattle.block_forms.specs.declared.places.Position.{Position}
@@ -258,20 +259,21 @@ module _ (types : List Ty) (table : List Expr) (s : Setting) (fixed : FixedFits 
   select_fits : (k : ℕ) (q : Select) (e : Expr) → HasSlots q e → get_or table k expr.Null ≡ e → OneForEach table (select_term k q)
   select_fits k q e h at = record { as_many = ap (λ ns. length ns) (sym h.same) ∙ ap (λ x. length (slots_of x)) (sym at) }
 
-  checks_fit : (strict : Bool) (c k first : ℕ) (q : Select) → At k (check_entries strict q) → Fit (check_parts s.goto s.numbers strict c k q first)
+  checks_fit : (strict : Bool) (c k first : ℕ) (q : Select) → At k (check_entries strict (unmarked q)) → Fit (check_parts s.goto s.numbers strict c k q first)
   checks_fit false c k first q h = (tt, tt)
   checks_fit true c k first q h =
-      let second : At (k + 1) (more_rows q ∷ []) = at_same (suc k) (k + 1) (more_rows q ∷ []) (omega arith) h.1 in
-      ((tt, select_fits k q (no_row q) (no_row_slots q) h.0), ((tt, refl), ((tt, select_fits (k + 1) q (more_rows q) (more_rows_slots q) second.0), ((tt, refl), tt))))
+      let plain = unmarked q in
+      let second : At (k + 1) (more_rows plain ∷ []) = at_same (suc k) (k + 1) (more_rows plain ∷ []) (omega arith) h.1 in
+      ((tt, select_fits k q (no_row plain) (no_row_slots q) h.0), ((tt, refl), ((tt, select_fits (k + 1) q (more_rows plain) (more_rows_slots q) second.0), ((tt, refl), tt))))
 
   picks_fit : (kinds : List Ty) (q : Select) (ts : List Target) (places : List ℕ) (i k hidden puts : ℕ) → length places ≡ length ts
-      → At k (map (λ place. pick (picked kinds q) place) places) → Fit (pick_parts s.goto s.numbers ts i k hidden q puts)
+      → At k (map (pick_entry kinds q) places) → Fit (pick_parts s.goto s.numbers ts i k hidden q puts)
   picks_fit kinds q [] places i k hidden puts e h = tt
   picks_fit kinds q (t ∷ ts) [] i k hidden puts e h = absurd (omega (arith, e))
   picks_fit kinds q (t ∷ ts) (place ∷ places) i k hidden puts e h = (
-    (select_fits k q (pick (picked kinds q) place) (pick_slots kinds q place) h.0, tt),
+    (select_fits k q (pick_entry kinds q place) (pick_slots kinds q (cast_at kinds (out-Select q).list place) place) h.0, tt),
     picks_fit kinds q ts places (i + 1) (k + 1) (hidden + 1) puts (omega (arith, e))
-        (at_same (suc k) (k + 1) (map (λ place. pick (picked kinds q) place) places) (omega arith) h.1),
+        (at_same (suc k) (k + 1) (map (pick_entry kinds q) places) (omega arith) h.1),
   )
 
   put_fits : (o : Option ℕ) (c hidden next : ℕ) → Fit (put_part s.goto s.numbers s.slots o c hidden next)
@@ -293,7 +295,7 @@ module _ (types : List Ty) (table : List Expr) (s : Setting) (fixed : FixedFits 
   kinds_count ts = length-map ts (λ (t : Target). type_of types t.1)
 
   picks_count : (ts : List Target) (q : Select) → length (pick_entries (target_types types ts) q) ≡ length ts
-  picks_count ts q = length-map (below (length (target_types types ts))) (λ place. pick (picked (target_types types ts) q) place) ∙ (length_from (length (target_types types ts)) 0 ∙ kinds_count ts)
+  picks_count ts q = length-map (below (length (target_types types ts))) (pick_entry (target_types types ts) q) ∙ (length_from (length (target_types types ts)) 0 ∙ kinds_count ts)
 
   into_fits : (strict : Bool) (ts : List Target) (q : Select) (p : Position) (next : ℕ) → At p.expr (into_entries types strict ts q)
       → Fit (into_parts s.goto s.numbers s.slots strict ts q p next)
@@ -305,14 +307,14 @@ module _ (types : List Ty) (table : List Expr) (s : Setting) (fixed : FixedFits 
       let tests = check_parts s.goto s.numbers strict (node s.goto p.node) p.expr q first in
       let picks = pick_parts s.goto s.numbers ts (p.node + 1) (p.expr + checks strict) hidden q puts in
       let sets = put_parts s.goto s.numbers s.slots ts puts hidden next in
-      fit_both table tests (picks ++ sets) (checks_fit strict (node s.goto p.node) p.expr first q (sits_left table p.expr (check_entries strict q) (pick_entries kinds q) h))
+      fit_both table tests (picks ++ sets) (checks_fit strict (node s.goto p.node) p.expr first q (sits_left table p.expr (check_entries strict (unmarked q)) (pick_entries kinds q) h))
       (fit_both table picks sets
       (picks_fit kinds q ts (below (length kinds)) (p.node + 1) (p.expr + checks strict) hidden puts (length_from (length kinds) 0 ∙ kinds_count ts)
-      (behind p.expr (checks strict) (check_entries strict q) (pick_entries kinds q) (check_count strict q) h))
+      (behind p.expr (checks strict) (check_entries strict (unmarked q)) (pick_entries kinds q) (check_count strict (unmarked q)) h))
       (puts_fit ts puts hidden next))
 
   into_count : (strict : Bool) (ts : List Target) (q : Select) → (into_size strict ts).expr ≡ length (into_entries types strict ts q)
-  into_count strict ts q = omega (arith, check_count strict q, picks_count ts q, length-append (check_entries strict q) (pick_entries (target_types types ts) q))
+  into_count strict ts q = omega (arith, check_count strict (unmarked q), picks_count ts q, length-append (check_entries strict (unmarked q)) (pick_entries (target_types types ts) q))
 
   abbrev entries : StatementAlgebra
   entries = sourcing (into_entries types)

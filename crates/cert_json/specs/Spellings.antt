@@ -96,7 +96,11 @@ class_in d = as_str d >>= λ t. if is_code t then Some (class t) else None
 abbrev pub type_named : List ℕ → Option Ty
 type_named t =
     if bytes_eq t (codes "bigint") then Some ty.Bigint
-    else (if bytes_eq t (codes "boolean") then Some ty.Boolean else (if bytes_eq t (codes "text") then Some ty.Text else None))
+    else (
+    if bytes_eq t (codes "boolean") then Some ty.Boolean
+    else (
+    if bytes_eq t (codes "text") then Some ty.Text
+    else (if bytes_eq t (codes "integer") then Some ty.Integer else None)))
 
 unfoldable pub type_in : Data → Option Ty
 type_in d = as_str d >>= type_named

@@ -4,7 +4,7 @@ ghost use Rattle.std.specs.Prelude.{◌≡◌, map, IfOk, Some};
 ghost use Rattle.std.specs.List.{AllByRecursion};
 ghost use Rattle.serde_json.specs.Data.{Data};
 ghost use Rattle.serde_json.specs.View.{view};
-ghost use Rattle.call_forms.specs.Writable.{HasCode, HasName};
+ghost use Rattle.call_forms.specs.Writable.{HasCode};
 ghost use Rattle.cert_json.specs.Spellings.{class_in, many, number_in, pair_in, type_in};
 ghost use Rattle.cert_json.specs.Written.{class_data, list_data, many_data, number_data, pair_data, type_data, type_name};
 
@@ -84,7 +84,7 @@ fn name_of(ty: Ty) -> &'static str
 impl Encode for Ty {
     ghost json = { type_data };
 
-    ghost has_spelling = { HasName };
+    ghost has_spelling = { λ _. Unit {0} };
 
     fn encode(&self, alloc: Global) -> Result<Value, AllocError> {
         ty(alloc, *self)
@@ -94,7 +94,7 @@ impl Encode for Ty {
 #[tactic(auto, unfolding(crate::specs::Spellings::type_in))]
 fn ty(alloc: Global, ty: Ty) -> Result<Value, AllocError>
     ensures value { IfOk result (λ v. view v ≡ type_data ty) }
-    ensures reads { IfOk result (λ _. HasName ty → type_in (type_data ty) ≡ Some ty) }
+    ensures reads { IfOk result (λ _. type_in (type_data ty) ≡ Some ty) }
 {
     Value::try_from_str(alloc, name_of(ty))
 }
@@ -139,6 +139,13 @@ pub(crate) fn numbers(alloc: Global, list: &Items<u32>) -> Result<Value, AllocEr
     ensures value { IfOk result (λ v. view v ≡ many_data number_data list.now) }
     ensures reads { IfOk result
         (λ _. many number_in (many_data number_data list.now) ≡ Some list.now) }
+{
+    list.encode(alloc)
+}
+
+pub(crate) fn types(alloc: Global, list: &Items<Ty>) -> Result<Value, AllocError>
+    ensures value { IfOk result (λ v. view v ≡ many_data type_data list.now) }
+    ensures reads { IfOk result (λ _. many type_in (many_data type_data list.now) ≡ Some list.now) }
 {
     list.encode(alloc)
 }

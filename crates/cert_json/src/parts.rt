@@ -132,6 +132,8 @@ pub(crate) fn ty(value: &Value) -> Result<Ty, Misfit>
         Ok(Ty::Boolean)
     } else if name == "text" {
         Ok(Ty::Text)
+    } else if name == "integer" {
+        Ok(Ty::Integer)
     } else {
         Err(Misfit::Shape)
     }

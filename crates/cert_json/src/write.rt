@@ -10,7 +10,7 @@ ghost use Rattle.call_forms.specs.Writable.{CallEndHasCode, EndHasCode, HasSpell
 ghost use Rattle.cert_json.specs.Written.{anf_data, cert_data, goto_data, ssa_data};
 
 use crate::cert::Cert;
-use crate::encode::{Encode, lists, number, numbers};
+use crate::encode::{Encode, lists, number, numbers, types};
 use away_values::NoMemory;
 use block_forms::{Goto, Ssa};
 use call_forms::Anf;
@@ -58,7 +58,7 @@ fn cert_value(alloc: Global, cert: &Cert) -> Result<Value, AllocError>
         (λ _. HasSpelling cert.now → cert_in (cert_data cert.now) ≡ Ok cert.now) }
 {
     let anf = anf(alloc, &cert.anf)?;
-    let columns = cert.tail.columns.encode(alloc)?;
+    let columns = types(alloc, &cert.tail.columns)?;
     let goto = goto(alloc, &cert.goto)?;
     let labels = numbers(alloc, &cert.tail.labels)?;
     let places = lists(alloc, &cert.tail.places)?;
@@ -67,7 +67,7 @@ fn cert_value(alloc: Global, cert: &Cert) -> Result<Value, AllocError>
 }
 
 /// The text of a certificate: one line, without spaces. It reads as the certificate again, where each class is five digits or upper-case
-/// letters and no column has 32 bits.
+/// letters.
 #[tactic(auto, using(crate::proofs::Flat::cert_has_no_float, crate::proofs::Flat::cert_is_shallow, crate::proofs::OneLine::compact_text_is_line))]
 pub fn write_cert(alloc: Global, cert: &Cert) -> Result<Vec<u8>, NoMemory>
     ensures text { IfOk result (λ bytes. bytes.items ≡ compact_text (cert_data cert.now)) }

@@ -30,7 +30,7 @@ static SORTED: &str =
 static LOOP: &str =
     "{\"anf\":{\"blocks\":[[[0],null,[\"call\",1,[0]]],[[0],[1,14,[0]],[\"call\",2,[1,0]]],[[2,0],nul\
     l,[\"if\",0,[2,0],3,[2,0],4,[2]]],[[2,0],[3,12,[2]],[\"call\",2,[3,0]]],[[2],null,[\"return\",1,\
-    [2]]],[[],null,[\"fail\",\"ZZZZZ\"]]]},\"columns\":[\"bigint\",\"boolean\",\"text\"],\"goto\":{\
+    [2]]],[[],null,[\"fail\",\"ZZZZZ\"]]]},\"columns\":[\"bigint\",\"boolean\",\"text\",\"integer\"],\"goto\":{\
     \"blocks\":[[false,null,[\"jump\",1]],[false,[0,14,[1]],[\"jump\",2]],[true,null,[\"branch\",0,[\
     0,1],3,4]],[false,[0,12,[0]],[\"jump\",2]],[false,null,[\"return\",1,[0]]],[false,null,[\"fail\"\
     ,\"AB123\"]]],\"end\":5,\"entry\":0,\"nodes\":[1]},\"labels\":[0,2,4294967295],\"places\":[[0],[\
@@ -161,7 +161,7 @@ static EDITS: [(&str, &str, CertField); 44] = [
     ),
     ("\"labels\"", "\"label\"", CertField::Labels),
     ("\"labels\":[3,", "\"labels\":[true,", CertField::Labels),
-    ("\"bigint\"", "\"integer\"", CertField::Columns),
+    ("\"bigint\"", "\"int\"", CertField::Columns),
     ("\"bigint\"", "\"BIGINT\"", CertField::Columns),
     (
         "\"columns\":[\"bigint\"]",

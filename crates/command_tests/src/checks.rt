@@ -11,11 +11,11 @@ pub const FUNCTION: &[u8] =
 
 /// The query of the form in which each block is a label.
 pub const LABELS: &str =
-    "WITH RECURSIVE away_r(away_go, away_fn, away_c0, away_res, away_err) AS (SELECT CAST(TRUE AS boolean), CAST(4 AS bigint), CAST($1 AS bigint), CAST(NULL AS bigint), CAST(NULL AS text) UNION ALL SELECT away_s.away_go, away_s.away_fn, away_s.away_c0, away_s.away_res, away_s.away_err FROM away_r, LATERAL (SELECT CAST(FALSE AS boolean), CAST(0 AS bigint), CAST(NULL AS bigint), away_k2.away_v, CAST(NULL AS text) FROM LATERAL (SELECT CAST(TRUE AS boolean) WHERE away_r.away_fn = CAST(1 AS bigint)) AS away_k1(away_v), LATERAL (SELECT CAST(2 AS bigint)) AS away_k2(away_v) UNION ALL SELECT CAST(FALSE AS boolean), CAST(0 AS bigint), CAST(NULL AS bigint), away_k4.away_v, CAST(NULL AS text) FROM LATERAL (SELECT CAST(TRUE AS boolean) WHERE away_r.away_fn = CAST(2 AS bigint)) AS away_k3(away_v), LATERAL (SELECT CAST(1 AS bigint)) AS away_k4(away_v) UNION ALL SELECT away_k7.away_go, away_k7.away_fn, away_k7.away_c0, away_k7.away_res, away_k7.away_err FROM LATERAL (SELECT CAST(TRUE AS boolean) WHERE away_r.away_fn = CAST(3 AS bigint)) AS away_k5(away_v), LATERAL (SELECT away_r.away_c0 > CAST(0 AS bigint)) AS away_k6(away_v), LATERAL (SELECT CAST(TRUE AS boolean), CAST(2 AS bigint), CAST(NULL AS bigint), CAST(NULL AS bigint), CAST(NULL AS text) FROM LATERAL (SELECT CAST(TRUE AS boolean) WHERE away_k6.away_v) AS away_k8(away_v) UNION ALL SELECT CAST(TRUE AS boolean), CAST(1 AS bigint), CAST(NULL AS bigint), CAST(NULL AS bigint), CAST(NULL AS text) FROM LATERAL (SELECT CAST(TRUE AS boolean) WHERE away_k6.away_v IS NOT TRUE) AS away_k9(away_v)) AS away_k7(away_go, away_fn, away_c0, away_res, away_err) UNION ALL SELECT CAST(TRUE AS boolean), CAST(3 AS bigint), away_r.away_c0, CAST(NULL AS bigint), CAST(NULL AS text) FROM LATERAL (SELECT CAST(TRUE AS boolean) WHERE away_r.away_fn = CAST(4 AS bigint)) AS away_k10(away_v)) AS away_s(away_go, away_fn, away_c0, away_res, away_err) WHERE away_r.away_go) SELECT away_r.away_res, away_r.away_err FROM away_r WHERE NOT away_r.away_go";
+    "WITH RECURSIVE away_r(away_go, away_fn, away_c0, away_res, away_err) AS (SELECT CAST(TRUE AS boolean), CAST(4 AS bigint), CAST($1 AS bigint), CAST(NULL AS bigint), CAST(NULL AS text) UNION ALL SELECT away_s.away_go, away_s.away_fn, away_s.away_c0, away_s.away_res, away_s.away_err FROM away_r, LATERAL (SELECT CAST(FALSE AS boolean), CAST(0 AS bigint), CAST(NULL AS bigint), away_k2.away_v, CAST(NULL AS text) FROM LATERAL (SELECT CAST(TRUE AS boolean) WHERE away_r.away_fn = CAST(1 AS bigint)) AS away_k1(away_v), LATERAL (SELECT CAST(CAST(2 AS integer) AS bigint)) AS away_k2(away_v) UNION ALL SELECT CAST(FALSE AS boolean), CAST(0 AS bigint), CAST(NULL AS bigint), away_k4.away_v, CAST(NULL AS text) FROM LATERAL (SELECT CAST(TRUE AS boolean) WHERE away_r.away_fn = CAST(2 AS bigint)) AS away_k3(away_v), LATERAL (SELECT CAST(CAST(1 AS integer) AS bigint)) AS away_k4(away_v) UNION ALL SELECT away_k7.away_go, away_k7.away_fn, away_k7.away_c0, away_k7.away_res, away_k7.away_err FROM LATERAL (SELECT CAST(TRUE AS boolean) WHERE away_r.away_fn = CAST(3 AS bigint)) AS away_k5(away_v), LATERAL (SELECT away_r.away_c0 > CAST(0 AS integer)) AS away_k6(away_v), LATERAL (SELECT CAST(TRUE AS boolean), CAST(2 AS bigint), CAST(NULL AS bigint), CAST(NULL AS bigint), CAST(NULL AS text) FROM LATERAL (SELECT CAST(TRUE AS boolean) WHERE away_k6.away_v) AS away_k8(away_v) UNION ALL SELECT CAST(TRUE AS boolean), CAST(1 AS bigint), CAST(NULL AS bigint), CAST(NULL AS bigint), CAST(NULL AS text) FROM LATERAL (SELECT CAST(TRUE AS boolean) WHERE away_k6.away_v IS NOT TRUE) AS away_k9(away_v)) AS away_k7(away_go, away_fn, away_c0, away_res, away_err) UNION ALL SELECT CAST(TRUE AS boolean), CAST(3 AS bigint), away_r.away_c0, CAST(NULL AS bigint), CAST(NULL AS text) FROM LATERAL (SELECT CAST(TRUE AS boolean) WHERE away_r.away_fn = CAST(4 AS bigint)) AS away_k10(away_v)) AS away_s(away_go, away_fn, away_c0, away_res, away_err) WHERE away_r.away_go) SELECT away_r.away_res, away_r.away_err FROM away_r WHERE NOT away_r.away_go";
 
 /// The query of the form in which all blocks are merged into the entry.
 pub const MERGED: &str =
-    "WITH RECURSIVE away_r(away_go, away_fn, away_c0, away_res, away_err) AS (SELECT CAST(TRUE AS boolean), CAST(1 AS bigint), CAST($1 AS bigint), CAST(NULL AS bigint), CAST(NULL AS text) UNION ALL SELECT away_s.away_go, away_s.away_fn, away_s.away_c0, away_s.away_res, away_s.away_err FROM away_r, LATERAL (SELECT away_k3.away_go, away_k3.away_fn, away_k3.away_c0, away_k3.away_res, away_k3.away_err FROM LATERAL (SELECT CAST(TRUE AS boolean) WHERE away_r.away_fn = CAST(1 AS bigint)) AS away_k1(away_v), LATERAL (SELECT away_r.away_c0 > CAST(0 AS bigint)) AS away_k2(away_v), LATERAL (SELECT CAST(FALSE AS boolean), CAST(0 AS bigint), CAST(NULL AS bigint), away_k5.away_v, CAST(NULL AS text) FROM LATERAL (SELECT CAST(TRUE AS boolean) WHERE away_k2.away_v) AS away_k4(away_v), LATERAL (SELECT CAST(1 AS bigint)) AS away_k5(away_v) UNION ALL SELECT CAST(FALSE AS boolean), CAST(0 AS bigint), CAST(NULL AS bigint), away_k7.away_v, CAST(NULL AS text) FROM LATERAL (SELECT CAST(TRUE AS boolean) WHERE away_k2.away_v IS NOT TRUE) AS away_k6(away_v), LATERAL (SELECT CAST(2 AS bigint)) AS away_k7(away_v)) AS away_k3(away_go, away_fn, away_c0, away_res, away_err)) AS away_s(away_go, away_fn, away_c0, away_res, away_err) WHERE away_r.away_go) SELECT away_r.away_res, away_r.away_err FROM away_r WHERE NOT away_r.away_go\n";
+    "WITH RECURSIVE away_r(away_go, away_fn, away_c0, away_res, away_err) AS (SELECT CAST(TRUE AS boolean), CAST(1 AS bigint), CAST($1 AS bigint), CAST(NULL AS bigint), CAST(NULL AS text) UNION ALL SELECT away_s.away_go, away_s.away_fn, away_s.away_c0, away_s.away_res, away_s.away_err FROM away_r, LATERAL (SELECT away_k3.away_go, away_k3.away_fn, away_k3.away_c0, away_k3.away_res, away_k3.away_err FROM LATERAL (SELECT CAST(TRUE AS boolean) WHERE away_r.away_fn = CAST(1 AS bigint)) AS away_k1(away_v), LATERAL (SELECT away_r.away_c0 > CAST(0 AS integer)) AS away_k2(away_v), LATERAL (SELECT CAST(FALSE AS boolean), CAST(0 AS bigint), CAST(NULL AS bigint), away_k5.away_v, CAST(NULL AS text) FROM LATERAL (SELECT CAST(TRUE AS boolean) WHERE away_k2.away_v) AS away_k4(away_v), LATERAL (SELECT CAST(CAST(1 AS integer) AS bigint)) AS away_k5(away_v) UNION ALL SELECT CAST(FALSE AS boolean), CAST(0 AS bigint), CAST(NULL AS bigint), away_k7.away_v, CAST(NULL AS text) FROM LATERAL (SELECT CAST(TRUE AS boolean) WHERE away_k2.away_v IS NOT TRUE) AS away_k6(away_v), LATERAL (SELECT CAST(CAST(2 AS integer) AS bigint)) AS away_k7(away_v)) AS away_k3(away_go, away_fn, away_c0, away_res, away_err)) AS away_s(away_go, away_fn, away_c0, away_res, away_err) WHERE away_r.away_go) SELECT away_r.away_res, away_r.away_err FROM away_r WHERE NOT away_r.away_go\n";
 
 /// The forms before the labels.
 pub const FORMS: &str =
@@ -43,7 +43,7 @@ fn run<'x>(alloc: Global, query: &'x str, cert: &'x str) -> Result<Run, AllocErr
 }
 
 /// The tail form behind the others, and what is put in place of what in the whole; whether the query is that of all labels; the status and the line.
-static VERDICTS: [(&str, &str, &str, bool, u8, &str); 23] = [
+static VERDICTS: [(&str, &str, &str, bool, u8, &str); 24] = [
     (ALL_LABELS, "", "", true, 0, "accepted\n"),
     (ONE_LABEL, "", "", false, 0, "accepted\n"),
     (ONE_LABEL, "", "", true, 8, "not accepted S7\n"),
@@ -197,6 +197,14 @@ static VERDICTS: [(&str, &str, &str, bool, u8, &str); 23] = [
         "[\"bigint\"]",
         "[\"integer\"]",
         true,
+        8,
+        "not accepted S6\n",
+    ),
+    (
+        ALL_LABELS,
+        "[\"bigint\"]",
+        "[\"int\"]",
+        true,
         1,
         "refused c.json C2 columns\n",
     ),
@@ -225,8 +233,8 @@ static QUERIES: [(&str, &str, &str); 7] = [
         "not accepted S7\n",
     ),
     (
-        "away_c0 > CAST(0 AS bigint)",
-        "away_c0 > CAST(1 AS bigint)",
+        "away_c0 > CAST(0 AS integer)",
+        "away_c0 > CAST(1 AS integer)",
         "not accepted S7\n",
     ),
     (

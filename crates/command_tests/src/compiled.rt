@@ -7,7 +7,7 @@ use std::process::Abort;
 use std::test::Fail;
 
 const SCHEMA: &[u8] =
-    b"CREATE TABLE t (k bigint, v text); CREATE TABLE u (v bigint); CREATE TABLE w (z bigint);";
+    b"CREATE TABLE t (k bigint, v text); CREATE TABLE u (v bigint); CREATE TABLE w (z bigint); CREATE TABLE n (i int4 NOT NULL, b int8);";
 
 const COLLATZ: &str =
     "CREATE FUNCTION public.collatz(n bigint) RETURNS bigint LANGUAGE plpgsql IMMUTABLE AS $$ DECLARE steps bigint := 0; BEGIN WHILE n <> 1 LOOP IF n % 2 = 0 THEN n := n / 2; ELSE n := 3 * n + 1; END IF; steps := steps + 1; END LOOP; RETURN steps; END; $$;";
@@ -226,7 +226,7 @@ fn run<'x>(
     query: &'x [u8],
     cert: &'x [u8],
 ) -> Result<Run, AllocError> {
-    let files: [(&str, &[u8]); 7] = [
+    let files: [(&str, &[u8]); 8] = [
         ("s.sql", SCHEMA),
         ("f.sql", function.as_bytes()),
         ("q.sql", query),
@@ -234,6 +234,7 @@ fn run<'x>(
         ("d/t.csv", b"k,v\n1,one\n2,two\n2,zwei\n"),
         ("d/u.csv", b"v\n5\n9\n\\N\n"),
         ("d/w.csv", b"z\n1\n2\n3\n"),
+        ("d/n.csv", b"i,b\n1,1\n2,3000000000\n"),
     ];
     execute(alloc, words, &files, &[], &[])
 }
@@ -302,6 +303,21 @@ pub fn all_are_certified(
             0,
             "accepted\n",
         );
+    }
+    Ok(())
+}
+
+/// Each function of the rows is refused by its line.
+pub fn refused_by(rt: &(impl Abort + AllocGlobal), rows: &[(&str, &str)]) -> Result<(), Fail> {
+    for (function, line) in rows {
+        let compiled = run(
+            rt.alloc(),
+            &["compile", "s.sql", "f.sql"],
+            function,
+            b"",
+            b"",
+        )?;
+        show(rt, &compiled, 1, line);
     }
     Ok(())
 }

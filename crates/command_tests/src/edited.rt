@@ -84,8 +84,8 @@ static EDITED: [(&str, &[(&str, &str)], u8, &str); 7] = [
     (
         PRODUCT,
         &[(
-            "LATERAL (SELECT away_r.away_c0 + CAST(1 AS bigint)) AS away_k4(away_v), LATERAL (SELECT away_r.away_c0 + CAST(2 AS bigint)) AS away_k5(away_v)",
-            "LATERAL (SELECT away_r.away_c0 + CAST(2 AS bigint)) AS away_k5(away_v), LATERAL (SELECT away_r.away_c0 + CAST(1 AS bigint)) AS away_k4(away_v)",
+            "LATERAL (SELECT away_r.away_c0 + CAST(1 AS integer)) AS away_k4(away_v), LATERAL (SELECT away_r.away_c0 + CAST(2 AS integer)) AS away_k5(away_v)",
+            "LATERAL (SELECT away_r.away_c0 + CAST(2 AS integer)) AS away_k5(away_v), LATERAL (SELECT away_r.away_c0 + CAST(1 AS integer)) AS away_k4(away_v)",
         )],
         8,
         "not accepted S7\n",
@@ -94,7 +94,7 @@ static EDITED: [(&str, &[(&str, &str)], u8, &str); 7] = [
     (
         UNUSED,
         &[(
-            "LATERAL (SELECT CAST(1 AS bigint) / CAST(0 AS bigint)) AS away_k3(away_v), ",
+            "LATERAL (SELECT CAST(CAST(1 AS integer) / CAST(0 AS integer) AS bigint)) AS away_k3(away_v), ",
             "",
         )],
         8,

@@ -17,6 +17,10 @@ mod functions;
 #[cfg(test)]
 mod held;
 #[cfg(test)]
+mod integer_queries;
+#[cfg(test)]
+mod integers;
+#[cfg(test)]
 mod long;
 #[cfg(test)]
 mod printed_queries;

@@ -7,7 +7,7 @@ use std::alloc::{AllocError, Global};
 use std::test::Fail;
 
 pub const TOTAL: &str =
-    "WITH RECURSIVE away_r(away_go, away_fn, away_c0, away_c1, away_res, away_err) AS (SELECT CAST(TRUE AS boolean), CAST(1 AS bigint), CAST($1 AS bigint), CAST($2 AS bigint), CAST(NULL AS bigint), CAST(NULL AS text) UNION ALL SELECT away_s.away_go, away_s.away_fn, away_s.away_c0, away_s.away_c1, away_s.away_res, away_s.away_err FROM away_r, LATERAL (SELECT CAST(FALSE AS boolean), CAST(0 AS bigint), CAST(NULL AS bigint), CAST(NULL AS bigint), away_k2.away_v, CAST(NULL AS text) FROM LATERAL (SELECT CAST(TRUE AS boolean) WHERE away_r.away_fn = CAST(1 AS bigint)) AS away_k1(away_v), LATERAL (SELECT away_r.away_c0 + away_r.away_c1 * CAST(2 AS bigint)) AS away_k2(away_v)) AS away_s(away_go, away_fn, away_c0, away_c1, away_res, away_err) WHERE away_r.away_go) SELECT away_r.away_res, away_r.away_err FROM away_r WHERE NOT away_r.away_go\n";
+    "WITH RECURSIVE away_r(away_go, away_fn, away_c0, away_c1, away_res, away_err) AS (SELECT CAST(TRUE AS boolean), CAST(1 AS bigint), CAST($1 AS bigint), CAST($2 AS bigint), CAST(NULL AS bigint), CAST(NULL AS text) UNION ALL SELECT away_s.away_go, away_s.away_fn, away_s.away_c0, away_s.away_c1, away_s.away_res, away_s.away_err FROM away_r, LATERAL (SELECT CAST(FALSE AS boolean), CAST(0 AS bigint), CAST(NULL AS bigint), CAST(NULL AS bigint), away_k2.away_v, CAST(NULL AS text) FROM LATERAL (SELECT CAST(TRUE AS boolean) WHERE away_r.away_fn = CAST(1 AS bigint)) AS away_k1(away_v), LATERAL (SELECT away_r.away_c0 + away_r.away_c1 * CAST(2 AS integer)) AS away_k2(away_v)) AS away_s(away_go, away_fn, away_c0, away_c1, away_res, away_err) WHERE away_r.away_go) SELECT away_r.away_res, away_r.away_err FROM away_r WHERE NOT away_r.away_go\n";
 
 const HELP: &str =
     "away compile SCHEMA FUNC                 write the query that the function in FUNC becomes, over the tables of SCHEMA\naway certify SCHEMA FUNC                 write a certificate of that query, a line, and behind it the query\naway batch SCHEMA FUNC TABLE             write one query in which each row of the table TABLE of SCHEMA is a call of the function in FUNC\naway check SCHEMA FUNC QUERY CERT         write whether the certificate in CERT shows that the query in QUERY answers as the function in FUNC\naway sql BOUND SCHEMA QUERY DIR ARG..    write what the query in QUERY answers over the tables in DIR, within BOUND iterations\naway rows BOUND SCHEMA QUERY DIR ARG..   write the rows that the query in QUERY gives over the tables in DIR, within BOUND iterations\naway fn BOUND SCHEMA FUNC DIR ARG..      write what the function in FUNC answers over the tables in DIR, within BOUND turns\naway demo N                              make the case of the number N, and write how long its function and its query are and what they answer\naway --help                              write these lines\naway --version                           write the program's name and version\n";
@@ -50,30 +50,30 @@ fn expressions_have_the_fewest_parentheses(rt: HostRuntime) -> Result<(), Fail> 
         ("((B))", "away_r.away_c0"),
         (
             "a - (b - 1)",
-            "away_r.away_c0 - (away_r.away_c1 - CAST(1 AS bigint))",
+            "away_r.away_c0 - (away_r.away_c1 - CAST(1 AS integer))",
         ),
         (
             "(a - b) - 1",
-            "(away_r.away_c0 - away_r.away_c1) - CAST(1 AS bigint)",
+            "(away_r.away_c0 - away_r.away_c1) - CAST(1 AS integer)",
         ),
         (
             "a - b - 1",
-            "away_r.away_c0 - away_r.away_c1 - CAST(1 AS bigint)",
+            "away_r.away_c0 - away_r.away_c1 - CAST(1 AS integer)",
         ),
         (
             "(a * b) + 1",
-            "away_r.away_c0 * away_r.away_c1 + CAST(1 AS bigint)",
+            "away_r.away_c0 * away_r.away_c1 + CAST(1 AS integer)",
         ),
         (
             "a * (b + 1)",
-            "away_r.away_c0 * (away_r.away_c1 + CAST(1 AS bigint))",
+            "away_r.away_c0 * (away_r.away_c1 + CAST(1 AS integer))",
         ),
         (
             "a * (b * 1)",
-            "away_r.away_c0 * (away_r.away_c1 * CAST(1 AS bigint))",
+            "away_r.away_c0 * (away_r.away_c1 * CAST(1 AS integer))",
         ),
         ("9223372036854775807", "CAST(9223372036854775807 AS bigint)"),
-        ("007", "CAST(7 AS bigint)"),
+        ("007", "CAST(CAST(7 AS integer) AS bigint)"),
     ] {
         assert_eq!(rt; value_of(alloc, value)?.as_str(), expected);
     }

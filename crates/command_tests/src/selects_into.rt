@@ -1,8 +1,6 @@
 //! SELECT INTO: functions and their queries answer the same, and what breaks a rule is refused.
 
-use crate::compiled::{all_answer, all_are_certified};
-use crate::held::execute;
-use away_top::code;
+use crate::compiled::{all_answer, all_are_certified, refused_by};
 use std::test::Fail;
 
 /// A function, its arguments, the turns and the iterations, and the status and the line of both.
@@ -277,19 +275,5 @@ fn certificates_are_accepted(rt: HostRuntime) -> Result<(), Fail> {
 
 #[test]
 fn broken_rules_are_told(rt: HostRuntime) -> Result<(), Fail> {
-    for (function, line) in REFUSED.iter() {
-        let run = execute(
-            rt.alloc(),
-            &["compile", "s.sql", "f.sql"],
-            &[
-                ("s.sql", b"CREATE TABLE t (k bigint, v text);"),
-                ("f.sql", function.as_bytes()),
-            ],
-            &[],
-            &[],
-        )?;
-        assert_eq!(rt; code(&run.status), 1);
-        assert_eq!(rt; run.sink.written(), line.as_bytes());
-    }
-    Ok(())
+    refused_by(&rt, &REFUSED)
 }

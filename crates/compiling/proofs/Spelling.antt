@@ -1,4 +1,4 @@
--- Forms of a function that was read can be spelled: each block that fails does so by a class, and each column has a type with a name.
+-- Forms of a function that was read can be spelled: each block that fails does so by a class.
 use Rattle.std.proofs.Common.{◌≡◌, refl, sym, subst, ℕ, suc, ◌<◌, Bool, true, false, not, ◌&&◌, ◌==◌, List, [], ◌∷◌, length}
 use Rattle.std.specs.List.{AllByRecursion, list_all}
 use Rattle.std.specs.Prelude.{bytes_eq, codes}
@@ -8,8 +8,6 @@ use Rattle.away_trees.specs.declared.schemas.Schema.{Schema}
 use Rattle.away_trees.specs.declared.statements.Function.{Function}
 use Rattle.away_types.specs.declared.slots.Slot.{Slot}
 use Rattle.away_values.specs.Classes.{is_class, is_class_char}
-use Rattle.away_values.specs.declared.types.Ty.{Ty}
-use Rattle.away_values.specs.declared.types.Ty.TheVariants.{Bigint, Boolean, Text, Integer}
 use Rattle.block_forms.specs.declared.forms.Block.{Block}
 use Rattle.block_forms.specs.declared.forms.End.{End}
 use Rattle.block_forms.specs.declared.forms.End.TheVariants.{Jump, Branch, Return, Fail}
@@ -24,15 +22,11 @@ use Rattle.call_forms.specs.declared.forms.CallEnd.{CallEnd}
 use Rattle.call_forms.specs.declared.forms.CallEnd.TheVariants as calls
 use Rattle.call_forms.specs.declared.forms.Forms.{Forms}
 use Rattle.call_forms.specs.Called.{BlockCalled, EndCalled}
-use Rattle.call_forms.specs.Tight.{Tight}
-use Rattle.call_forms.specs.Writable.{is_code, CallEndHasCode, EndHasCode, HasCode, HasName, HasSpelling}
+use Rattle.call_forms.specs.Writable.{is_code, CallEndHasCode, EndHasCode, HasCode, HasSpelling}
 use Rattle.call_law.proofs.Labels.{element_there}
 use Rattle.equivalence.specs.Accepted.{AcceptedForms}
 use Rattle.function_facts.specs.Raising.{RaisesClass}
 use Rattle.function_facts.proofs.Raising.{raise_classes}
-use Rattle.cte_prints.specs.Texts.{IsOfTexts}
-use Rattle.cte_prints.proofs.ColumnTypes.{columns_of_texts}
-use Rattle.cte_types.specs.Typed.{HasKind}
 
 -- ---- ends
 
@@ -68,14 +62,6 @@ called_code z a i (Branch t b c) (calls.Fail x) h k = absurd h
 called_code z a i (Return t) (calls.Fail x) h k = absurd h
 called_code z a i (Fail c) (calls.Fail x) h k = subst HasCode (sym h) k
 
--- ---- types
-
-name_of : (t : Ty) → HasKind t → HasName t
-name_of Bigint h = tt
-name_of Boolean h = tt
-name_of Text h = tt
-name_of Integer h = h
-
 -- ---- whole forms
 
 -- what passes from each element of a list to that at the same place of another
@@ -89,8 +75,7 @@ all_of : {X : Type 0} (P : X → Type 0) (xs : List X) → Each P xs → AllByRe
 all_of P [] h = tt
 all_of P (x ∷ xs) h = (h 0 x refl, all_of P xs (λ i y e. h (suc i) y e))
 
-module _ (s : Schema) (f : Function) (slots : List Slot) (forms : Forms) (q : Query) (texts : IsOfTexts s f slots) (accepted : AcceptedForms s f slots forms q)
-    (tight : Tight slots forms.goto forms.ssa forms.anf forms.tail) where
+module _ (s : Schema) (f : Function) (slots : List Slot) (forms : Forms) (q : Query) (accepted : AcceptedForms s f slots forms q) where
   goto_codes : Each (λ (x : Block). EndHasCode x.end) forms.goto.blocks
   goto_codes i x at = end_code x.end (raise_classes f slots forms.goto accepted.lowered i x at)
 
@@ -104,13 +89,9 @@ module _ (s : Schema) (f : Function) (slots : List Slot) (forms : Forms) (q : Qu
       each_passes (λ (y : SsaBlock). EndHasCode y.end) (λ (x : AnfBlock). CallEndHasCode x.end) (BlockCalled forms.ssa forms.anf)
       (λ i y x h. called_code forms.ssa forms.anf i y.end x.end h.end) forms.ssa.blocks forms.anf.blocks accepted.called.as_many_blocks accepted.called.blocks ssa_codes
 
-  column_names : Each HasName forms.tail.columns
-  column_names i t at = name_of t (columns_of_texts s f slots forms.goto forms.ssa forms.anf forms.tail texts tight i t at)
-
   pub spelling : HasSpelling forms
   spelling = record {
     goto = all_of (λ (x : Block). EndHasCode x.end) forms.goto.blocks goto_codes;
     ssa = all_of (λ (y : SsaBlock). EndHasCode y.end) forms.ssa.blocks ssa_codes;
     anf = all_of (λ (x : AnfBlock). CallEndHasCode x.end) forms.anf.blocks anf_codes;
-    columns = all_of HasName forms.tail.columns column_names;
   }

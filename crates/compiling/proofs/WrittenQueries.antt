@@ -41,5 +41,5 @@ module _ (s : Schema) (f : Function) (slots : List Slot) (x : Translated) (is : 
           accepted = accepted;
           neat = is.neat;
           tight = is.tight;
-          spelling = spelling s f slots x.forms x.tree texts is.accepted is.tight;
+          spelling = spelling s f slots x.forms x.tree is.accepted;
         }

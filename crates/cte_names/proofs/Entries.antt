@@ -1,5 +1,5 @@
--- Each entry of a checked function's table is clear where the query has it.
-use Rattle.std.proofs.Common.{◌≡◌, refl, ap, sym, subst, ◌∙◌, ℕ, ℤ, zero, suc, ◌+◌, ◌<◌, ◌≤◌, arith, pos, ◌==◌, Bool, true, false, List, [], ◌∷◌, map, length, get_or}
+-- Each entry of a checked function's table is clear where the query has it, without its marks.
+use Rattle.std.proofs.Common.{◌≡◌, refl, ap, sym, subst, ◌∙◌, ℕ, ℤ, zero, suc, ◌+◌, ◌<◌, ◌≤◌, arith, pos, ◌==◌, Bool, true, false, List, [], ◌∷◌, map, length, get_or, Option}
 use Rattle.std.proofs.lemmas.Bool.{eqb-true, eq-eqb}
 use Rattle.away_values.specs.declared.operators.ChainOp.TheVariants as chain
 use Rattle.away_values.specs.declared.operators.CmpOp.{CmpOp}
@@ -9,6 +9,7 @@ use Rattle.away_values.specs.declared.operators.IntOp.TheVariants as int
 use Rattle.away_values.specs.declared.operators.IsTest.TheVariants as is
 use Rattle.away_values.specs.declared.types.Ty.{Ty}
 use Rattle.away_values.specs.declared.types.Ty.TheVariants as ty
+use Rattle.away_values.specs.Operators.{literal_type}
 use Rattle.away_trees.specs.declared.queries.Col.{Col}
 use Rattle.away_trees.specs.declared.queries.Expr.{Expr}
 use Rattle.away_trees.specs.declared.queries.Expr.TheVariants as expr
@@ -21,16 +22,24 @@ use Rattle.away_trees.specs.Algebra.{Algebra, expr_of, select_of}
 use Rattle.away_trees.specs.Count.{nodes}
 use Rattle.away_trees.specs.Limits.{most_nodes}
 use Rattle.away_trees.proofs.Equations as eq
-use Rattle.away_names.specs.Lookups.{Scope, inside}
-use Rattle.away_names.specs.Trees.{named_expr}
-use Rattle.sql_meaning.specs.Placed.{column_of, placed, placed_at}
-use Rattle.sql_meaning.specs.Reads.{Reads, reading, reads, slots_of}
+use Rattle.away_names.specs.Lookups.{Level, Scope, inside}
+use Rattle.away_typing.specs.Typing.{Places}
+use Rattle.elaboration.specs.Converting.{Around, into_converted, marked}
+use Rattle.elaboration.specs.Elaborating.{elaborated_select}
+use Rattle.elaboration.specs.Erasing.{erasing, erased}
+use Rattle.elaboration.specs.Marks.{plain_op}
+use Rattle.elaboration_law.proofs.ErasedMarks.{marked_same, marked_select_same}
+use Rattle.elaboration_law.proofs.Unmarked.{reading_blind}
+use Rattle.sql_meaning.specs.Placed.{column_of, placed_at}
+use Rattle.sql_meaning.specs.Reads.{Read, Reads, reading, reads, slots_of}
 use Rattle.sql_meaning.specs.Template.{count_from}
 use Rattle.plsql_meaning.specs.Sight.{query_of}
-use Rattle.select_into.specs.Entries.{Target, target_types, check_entries, pick_entries, into_entries}
-use Rattle.select_into.specs.Wrapped.{count_compared, pick, picked}
+use Rattle.select_into.specs.Entries.{Target, cast_at, target_types, check_entries, pick_entry, pick_entries, into_entries, unmarked}
+use Rattle.select_into.specs.Wrapped.{count_compared, picked}
 use Rattle.away_types.specs.declared.slots.Slot.{Slot}
 use Rattle.away_types.specs.CheckedFunctions.{IsChecked}
+use Rattle.away_types.specs.FunctionChecks as function
+use Rattle.away_types.specs.FunctionChecks.{around_in, body_of, resolved_function}
 use Rattle.block_forms.specs.declared.fixed_list.Fixed.{Fixed}
 use Rattle.block_forms.specs.declared.fixed_list.Fixed.TheVariants as fix
 use Rattle.block_forms.specs.Expressions.{sources, source_expressions, expressions, whole_select}
@@ -44,38 +53,48 @@ use Rattle.qualified_names.specs.Unambiguous.{value, select, IsClear}
 use Rattle.qualified_names.specs.Unambiguous as c
 use Rattle.cte_names.specs.Own.{SeesTables, IsOwn}
 use Rattle.cte_names.specs.ExpressionLaws.{PlacedAreClear}
-use Rattle.cte_names.proofs.Standing.{placing, Allowed}
+use Rattle.cte_names.proofs.Refined.{LevelsSo}
+use Rattle.cte_names.proofs.Standing.{under, placing, Allowed}
+use Rattle.cte_names.proofs.PlacedParts.{plain_twice}
 use Rattle.cte_names.proofs.PlacedTrees.{expr_clear}
+use Rattle.cte_names.proofs.PlainPlaced.{placing_blind}
+use Rattle.cte_names.proofs.ErasedPlaced.{erased_placed}
 use Rattle.cte_names.proofs.OwnLeaves.{own_leaves}
 use Rattle.cte_names.proofs.ReadSlots.{is_in, stands, reads_own}
 use Rattle.cte_names.proofs.FewTargets.{IsFew, few_targets}
-use Rattle.cte_names.proofs.IntoClear.{select_inside, test_clear, pick_clear, of_test, of_pick, as_expression}
+use Rattle.cte_names.proofs.IntoClear.{select_inside, test_clear, pick_as_clear, of_test, of_pick_as, as_expression}
 use Rattle.cte_names.proofs.IntoLists.{HasItsList, checked_lists}
 use Rattle.cte_names.proofs.ItemsTyped.{picked_length, picked_reads, picked_clear}
-use Rattle.cte_names.proofs.SourceEntries.{stmt_goes}
+use Rattle.cte_names.proofs.MarkedItems.{picked_unmarked}
+use Rattle.cte_names.proofs.ConvertedEntries.{converted_goes}
 use Rattle.cte_names.proofs.Sources.{IsResolved, checked_sources}
 
 -- clear at each place that sees the schema's tables, where its slots are columns of the query's own
 abbrev Placed : Schema → Expr → Type 0
 Placed schema e =
-    (t : Ty) (s : Scope) (ref : ℕ → Col) → SeesTables schema s → Each (λ k. IsOwn s.levels (ref k)) (slots_of e) → IsClear value s (placed_at t ref e)
+    (t : Ty) (s : Scope) (ref : ℕ → Col) → SeesTables schema s → Each (λ k. IsOwn s.levels (ref k)) (slots_of e) → IsClear value s (erased (placed_at t ref e))
 
 module _ (s : Scope) (ref : ℕ → Col) where
-  abbrev IsPlaced : Expr → Type 0
-  IsPlaced e = IsClear value s (placed ref e)
-
   abbrev P : Algebra
   P = placing (column_of ref)
 
-  whole : (t : Ty) (e : Expr) → IsPlaced e → IsClear value s (placed_at t ref e)
-  whole t b.Null h = c.cast t c.null
-  whole t e h = h
+  -- without its marks
+  abbrev IsPlaced : Expr → Type 0
+  IsPlaced e = IsClear value s (expr_of P e 0)
+
+  whole : (t : Ty) (e : Expr) → IsPlaced e → IsClear value s (erased (placed_at t ref e))
+  unfolding erased
+  whole t b.Null h = subst (IsClear value s) (sym (eq.of_cast erasing expr.Null t)) (c.cast t c.null)
+  whole t e h = subst (IsClear value s) (sym (erased_placed (column_of ref) (λ d i. refl) 0 e)) h
 
   by : (v w : ℕ → Expr) → v ≡ w → IsClear value s (w 0) → IsClear value s (v 0)
   by v w e h = subst (λ (x : ℕ → Expr). IsClear value s (x 0)) (sym e) h
 
   slot : (k : ℕ) → IsOwn s.levels (ref k) → IsPlaced (expr.Slot k)
   slot k h = (own_leaves s (λ i. k == i) ref (λ i e. subst (λ j. IsOwn s.levels (ref j)) (eqb-true k i e) h) [] [] tt k (eq-eqb k k refl)).clear
+
+  number : (n : ℤ) → IsPlaced (expr.Int n)
+  number n = c.cast (literal_type n) (c.int n)
 
   with_type : (e : Expr) (t : Ty) → IsPlaced e → IsPlaced (expr.Cast e t)
   with_type e t h = by _ _ (eq.of_cast P e t) (c.cast t h)
@@ -84,7 +103,7 @@ module _ (s : Scope) (ref : ℕ → Col) where
   is_null e h = by _ _ (eq.of_is P e is.Null false) (c.is is.Null false h)
 
   two : (op : IntOp) (x y : Expr) → IsPlaced x → IsPlaced y → IsPlaced (of_two op x y)
-  two op x y h k = by _ _ (eq.of_chain P x ((chain.Int op, y) ∷ [])) (c.chain h (c.one_link (chain.Int op) k c.no_link))
+  two op x y h k = by _ _ (eq.of_chain P x ((chain.Int op, y) ∷ [])) (c.chain h (c.one_link (plain_op (chain.Int op)) (plain_twice (chain.Int op)) k c.no_link))
 
   compare : (op : CmpOp) (x y : Expr) → IsPlaced x → IsPlaced y → IsPlaced (compared op x y)
   compare op x y h k = by _ _ (eq.of_compare P op x y) (c.compare op h k)
@@ -101,71 +120,113 @@ as_many_types types [] = refl
 as_many_types types (t ∷ ts) = ap (λ n. suc n) (as_many_types types ts)
 
 module _ (schema : Schema) where
-  source_placed : (e : Expr) → IsResolved schema e → Placed schema e
-  source_placed e r t s ref tables own = whole s ref t e (subst (λ e. IsClear value s (placed ref e)) r.resolved at)
-    where
-      owned : (i : ℕ) → is_in (slots_of e) i ≡ true → IsOwn s.levels (ref i)
-      owned i h = let p = stands (slots_of e) i h in own p.place i p.there
+  -- at a place where the slots of an entry are columns of the query's own
+  module _ (s : Scope) (ref : ℕ → Col) (tables : SeesTables schema s) (entry : Expr) (own : Each (λ k. IsOwn s.levels (ref k)) (slots_of entry)) where
+    abbrev May : List Read → Type 0
+    May = Allowed (is_in (slots_of entry))
 
-      at : IsClear value s (placed ref (named_expr r.written r.scope).it)
-      at =
-          expr_clear s (is_in (slots_of e)) (column_of ref) (own_leaves s (is_in (slots_of e)) ref owned) r.written r.scope [] r.plain.in_function (λ x k. tables.tables x k ∙ ap (λ f. f x) (sym r.plain.tables)) r.plain.no_levels tt r.clean
-          (subst (λ x. Allowed (is_in (slots_of e)) (reads x)) (sym r.resolved) (reads_own e))
+    owned : (i : ℕ) → is_in (slots_of entry) i ≡ true → IsOwn s.levels (ref i)
+    owned i h = let p = stands (slots_of entry) i h in own p.place i p.there
+
+    -- under selects of the query's own where nothing is in sight
+    resolved_placed : (e : Expr) → IsResolved schema e → (ms : List Level) → LevelsSo [] ms → May (expr_of reading e (length ms)) → IsClear value (under ms s) (expr_of (placing (column_of ref)) e (length ms))
+    resolved_placed e r ms so h =
+        subst (λ x. IsClear value (under ms s) (expr_of (placing (column_of ref)) x (length ms))) r.resolved
+        (expr_clear s (is_in (slots_of entry)) (column_of ref) (own_leaves s (is_in (slots_of entry)) ref owned) r.written r.scope ms r.plain.in_function (λ x k. tables.tables x k ∙ ap (λ f. f x) (sym r.plain.tables)) r.plain.no_levels so r.clean
+        (subst (λ x. May (expr_of reading x (length ms))) (sym r.resolved) h))
+
+    marked_placed : (p : Places) (e : Expr) → IsResolved schema e → May (reads (marked p e)) → IsPlaced s ref (marked p e)
+    marked_placed p e r h =
+        subst (λ (f : ℕ → Expr). IsClear value s (f 0)) (sym (marked_same (placing (column_of ref)) (placing_blind (column_of ref)) e p))
+        (resolved_placed e r [] tt (subst (λ (rs : Reads). May (rs 0)) (marked_same reading reading_blind e p) h))
+
+    -- the select is clear one select further in
+    select_placed : (q : Select) → IsResolved schema (query_of q) → May (select_of reading q 1) → IsClear select (inside [] s) (select_of (placing (column_of ref)) q 1)
+    select_placed q r h = select_inside (column_of ref) (inside [] s) q 1 (resolved_placed (query_of q) r ([] ∷ []) (refl, tt) (as_expression (is_in (slots_of entry)) q 1 h))
+
+  module _ (p : Places) where
+    source_marked : (e : Expr) → IsResolved schema e → Placed schema (marked p e)
+    source_marked e r t s ref tables own = whole s ref t (marked p e) (marked_placed s ref tables (marked p e) own p e r (reads_own (marked p e)))
+
+    source_cast : (u : Ty) (e : Expr) → IsResolved schema e → Placed schema (expr.Cast (marked p e) u)
+    source_cast u e r t s ref tables own =
+        let x : Expr = expr.Cast (marked p e) u in
+        whole s ref t x
+        (with_type s ref (marked p e) u
+        (marked_placed s ref tables x own p e r (subst (λ (rs : Reads). Allowed (is_in (slots_of x)) (rs 0)) (eq.of_cast reading (marked p e) u) (reads_own x))))
 
   -- ---- the tests and the picks of a SELECT INTO
 
-  module _ (s : Scope) (ref : ℕ → Col) (tables : SeesTables schema s) (e : Expr) (own : Each (λ k. IsOwn s.levels (ref k)) (slots_of e)) where
-    owned_by : (i : ℕ) → is_in (slots_of e) i ≡ true → IsOwn s.levels (ref i)
-    owned_by i h = let p = stands (slots_of e) i h in own p.place i p.there
+  module _ (a : Around) (targets : List Target) (q : Select) (r : IsResolved schema (query_of q)) (few : length (out-Select (into_converted a targets q)).list ≤ most_nodes) where
+    abbrev x : Select
+    x = into_converted a targets q
 
-    -- the select is clear one select further in, if it reads slots of the entry alone
-    select_placed : (q : Select) → IsResolved schema (query_of q) → Allowed (is_in (slots_of e)) (select_of reading q 1) → IsClear select (inside [] s) (select_of (placing (column_of ref)) q 1)
-    select_placed q r h =
-        select_inside (column_of ref) (inside [] s) q 1
-        (subst (λ x. IsClear value (inside [] s) (expr_of (placing (column_of ref)) x 1)) r.resolved
-        (expr_clear s (is_in (slots_of e)) (column_of ref) (own_leaves s (is_in (slots_of e)) ref owned_by) r.written r.scope ([] ∷ []) r.plain.in_function (λ x k. tables.tables x k ∙ ap (λ f. f x) (sym r.plain.tables)) r.plain.no_levels (refl, tt) r.clean
-        (subst (λ x. Allowed (is_in (slots_of e)) (expr_of reading x 1)) (sym r.resolved) (as_expression (is_in (slots_of e)) q 1 h))))
+    abbrev elaborated_q : Select
+    elaborated_q = (elaborated_select a.places q).it
 
-  test_of : (op : CmpOp) (than : ℤ) (q : Select) → IsResolved schema (query_of q) → length (out-Select q).list ≤ most_nodes → Placed schema (count_compared op q than)
-  test_of op than q r few t s ref tables own =
-      let e : Expr = count_compared op q than in
-      whole s ref t e (test_clear (column_of ref) s q few (select_placed s ref tables e own q r (of_test (is_in (slots_of e)) op than q (reads_own e))) op than)
+    few_picked : (types : List Ty) → length (out-Select (picked types x)).list ≤ most_nodes
+    few_picked types = omega (arith, few, picked_length types x)
 
-  pick_of : (types : List Ty) (q : Select) → IsResolved schema (query_of q) → length (out-Select q).list ≤ most_nodes → (place : ℕ) → place < length (out-Select q).list → Placed schema (pick (picked types q) place)
-  pick_of types q r few place lt t s ref tables own =
-      let p : Select = picked types q in
-      let e : Expr = pick p place in
-      let may = subst (λ (x : Reads). Allowed (is_in (slots_of e)) (x 1)) (picked_reads types q) (of_pick (is_in (slots_of e)) place p (reads_own e)) in
-      whole s ref t e
-      (pick_clear (column_of ref) s p (omega (arith, few, picked_length types q)) (picked_clear (column_of ref) (inside [] s) 1 types q (select_placed s ref tables e own q r may)) place (omega (arith, lt, picked_length types q)))
+    picked_reading : (types : List Ty) → select_of reading (picked types x) ≡ select_of reading q
+    picked_reading types = ap (λ x. select_of reading x) (picked_unmarked types a targets q) ∙ (picked_reads types elaborated_q ∙ marked_select_same reading reading_blind q a.places)
 
-  checks_placed : (strict : Bool) (q : Select) → IsResolved schema (query_of q) → length (out-Select q).list ≤ most_nodes → Every (Placed schema) (check_entries strict q)
-  checks_placed true q r few = (test_of cmp.Eq (pos 0) q r few, (test_of cmp.Gt (pos 1) q r few, tt))
-  checks_placed false q r few = tt
+    module _ (s : Scope) (ref : ℕ → Col) (tables : SeesTables schema s) (entry : Expr) (own : Each (λ k. IsOwn s.levels (ref k)) (slots_of entry)) where
+      picked_placed : (types : List Ty) → Allowed (is_in (slots_of entry)) (select_of reading (picked types x) 1) → IsClear select (inside [] s) (select_of (placing (column_of ref)) (picked types x) 1)
+      picked_placed types h =
+          let inner = select_placed s ref tables entry own q r (subst (λ (rs : Reads). Allowed (is_in (slots_of entry)) (rs 1)) (picked_reading types) h) in
+          subst (λ y. IsClear select (inside [] s) (select_of (placing (column_of ref)) y 1)) (sym (picked_unmarked types a targets q))
+          (picked_clear (column_of ref) (inside [] s) 1 types elaborated_q
+          (subst (λ (f : ℕ → Select). IsClear select (inside [] s) (f 1)) (sym (marked_select_same (placing (column_of ref)) (placing_blind (column_of ref)) q a.places)) inner))
 
-  picks_placed : (types : List Ty) (q : Select) → IsResolved schema (query_of q) → length (out-Select q).list ≤ most_nodes → (i n : ℕ) → i + n ≤ length (out-Select q).list
-      → Every (Placed schema) (map (λ place. pick (picked types q) place) (count_from i n))
-  picks_placed types q r few i zero lt = tt
-  picks_placed types q r few i (suc n) lt = (pick_of types q r few i (omega (arith, lt)), picks_placed types q r few (suc i) n (omega (arith, lt)))
+    test_of : (op : CmpOp) (than : ℤ) → Placed schema (count_compared op (unmarked x) than)
+    test_of op than t s ref tables own =
+        let e : Expr = count_compared op (unmarked x) than in
+        whole s ref t e
+        (test_clear (column_of ref) s (unmarked x) (few_picked []) (picked_placed s ref tables e own [] (of_test (is_in (slots_of e)) op than (unmarked x) (reads_own e))) op than)
+
+    pick_of : (types : List Ty) (place : ℕ) → place < length (out-Select x).list → Placed schema (pick_entry types x place)
+    pick_of types place lt t s ref tables own =
+        let cast : Option Ty = cast_at types (out-Select x).list place in
+        let e : Expr = pick_entry types x place in
+        whole s ref t e
+        (pick_as_clear (column_of ref) s (picked types x) (few_picked types) (picked_placed s ref tables e own types (of_pick_as (is_in (slots_of e)) cast place (picked types x) (reads_own e))) cast place
+        (omega (arith, lt, picked_length types x)))
+
+    checks_placed : (strict : Bool) → Every (Placed schema) (check_entries strict (unmarked x))
+    checks_placed true = (test_of cmp.Eq (pos 0), (test_of cmp.Gt (pos 1), tt))
+    checks_placed false = tt
+
+    picks_placed : (types : List Ty) (i n : ℕ) → i + n ≤ length (out-Select x).list → Every (Placed schema) (map (pick_entry types x) (count_from i n))
+    picks_placed types i zero lt = tt
+    picks_placed types i (suc n) lt = (pick_of types i (omega (arith, lt)), picks_placed types (suc i) n (omega (arith, lt)))
 
   abbrev Fits : Into → Type 0
   Fits i = HasItsList i × IsFew most_nodes i
 
-  into_placed : (types : List Ty) (strict : Bool) (targets : List Target) (q : Select) → Fits (record { targets = targets; query = q }) → Every (IsResolved schema) (whole_select strict targets q)
-      → Every (Placed schema) (into_entries types strict targets q)
-  into_placed types strict targets q f r =
+  into_placed : (types : List Ty) (a : Around) (strict : Bool) (targets : List Target) (q : Select) → Fits (record { targets = targets; query = into_converted a targets q }) → Every (IsResolved schema) (whole_select strict targets q)
+      → Every (Placed schema) (into_entries types strict targets (into_converted a targets q))
+  into_placed types a strict targets q f r =
       let own : List Ty = target_types types targets in
-      let few : length (out-Select q).list ≤ most_nodes = omega (arith, f.0, f.1) in
-      every_append (Placed schema) (check_entries strict q) (pick_entries own q) (checks_placed strict q r.0 few)
-      (picks_placed own q r.0 few 0 (length own) (omega (arith, f.0, as_many_types types targets)))
+      let x : Select = into_converted a targets q in
+      let few : length (out-Select x).list ≤ most_nodes = omega (arith, f.0, f.1) in
+      every_append (Placed schema) (check_entries strict (unmarked x)) (pick_entries own x) (checks_placed a targets q r.0 few strict)
+      (picks_placed a targets q r.0 few own 0 (length own) (omega (arith, f.0, as_many_types types targets)))
 
   -- ---- all of a function
 
-  sources_placed : (written f : Function) (slots : List Slot) → IsChecked schema written f slots → nodes f ≤ most_nodes → Every (Placed schema) (source_expressions f)
+  body_placed : (written : Function) (slots : List Slot) → IsChecked schema written (resolved_function schema written) slots → nodes (resolved_function schema written) ≤ most_nodes
+      → Every (Placed schema) (source_expressions (resolved_function schema written))
   unfolding sources intos
-  sources_placed written f slots h few =
-      stmt_goes whole_select (into_entries (shown_types f)) (IsResolved schema) (Placed schema) Fits source_placed (into_placed (shown_types f)) f.body
+  body_placed written slots h few =
+      let f : Function = resolved_function schema written in
+      let a : Around = around_in schema (function.slots_of schema written) written.result in
+      converted_goes whole_select (into_entries (shown_types f)) (IsResolved schema) (Placed schema) Fits a (source_marked a.places) (source_cast a.places) (into_placed (shown_types f) a) (body_of schema written).it
       (both HasItsList (IsFew most_nodes) (intos f.body) (checked_lists schema written f slots h) (few_targets f most_nodes few)) (checked_sources schema written f slots h)
+
+  sources_placed : (written f : Function) (slots : List Slot) → IsChecked schema written f slots → nodes f ≤ most_nodes → Every (Placed schema) (source_expressions f)
+  sources_placed written f slots h few =
+      subst (λ (f : Function). Every (Placed schema) (source_expressions f)) (sym h.function)
+      (body_placed written slots (record { unbroken = h.unbroken; function = refl; slots_are = h.slots_are }) (subst (λ (f : Function). nodes f ≤ most_nodes) h.function few))
 
   -- ---- the fixed list
 
@@ -181,7 +242,7 @@ module _ (schema : Schema) where
 
   not_positive_placed : Placed schema (compared cmp.Le a (expr.Int (pos 0)))
   unfolding b.hidden-the_row-Expr-0 denote.Hole.Carrier.hidden
-  not_positive_placed t s ref tables own = whole s ref t (compared cmp.Le a (expr.Int (pos 0))) (compare s ref cmp.Le a (expr.Int (pos 0)) (slot s ref 0 (own 0 0 refl)) (c.cast ty.Bigint (c.int (pos 0))))
+  not_positive_placed t s ref tables own = whole s ref t (compared cmp.Le a (expr.Int (pos 0))) (compare s ref cmp.Le a (expr.Int (pos 0)) (slot s ref 0 (own 0 0 refl)) (number s ref (pos 0)))
 
   both_compared : (op : CmpOp) → Placed schema (compared op a second)
   unfolding b.hidden-the_row-Expr-0 denote.Hole.Carrier.hidden
@@ -191,14 +252,14 @@ module _ (schema : Schema) where
   unfolding b.hidden-the_row-Expr-0 b.hidden-the_row-Expr-Chain-1-2-1 denote.Hole.Carrier.hidden
   limit_compared op step n t s ref tables own =
       whole s ref t (compared op (of_two step (expr.Int n) a) second)
-      (compare s ref op (of_two step (expr.Int n) a) second (two s ref step (expr.Int n) a (c.cast ty.Bigint (c.int n)) (slot s ref 0 (own 0 0 refl))) (slot s ref 1 (own 1 1 refl)))
+      (compare s ref op (of_two step (expr.Int n) a) second (two s ref step (expr.Int n) a (number s ref n) (slot s ref 0 (own 0 0 refl))) (slot s ref 1 (own 1 1 refl)))
 
   step_placed : (op : IntOp) → Placed schema (of_two op a second)
   unfolding b.hidden-the_row-Expr-0 b.hidden-the_row-Expr-Chain-1-2-1 denote.Hole.Carrier.hidden
   step_placed op t s ref tables own = whole s ref t (of_two op a second) (two s ref op a second (slot s ref 0 (own 0 0 refl)) (slot s ref 1 (own 1 1 refl)))
 
   one_placed : Placed schema (expr.Cast (expr.Int (pos 1)) ty.Bigint)
-  one_placed t s ref tables own = whole s ref t (expr.Cast (expr.Int (pos 1)) ty.Bigint) (with_type s ref (expr.Int (pos 1)) ty.Bigint (c.cast ty.Bigint (c.int (pos 1))))
+  one_placed t s ref tables own = whole s ref t (expr.Cast (expr.Int (pos 1)) ty.Bigint) (with_type s ref (expr.Int (pos 1)) ty.Bigint (number s ref (pos 1)))
 
   entry_placed : (e : Fixed) → Placed schema (expression e)
   entry_placed (fix.Null t) = null_placed t
@@ -223,7 +284,7 @@ module _ (schema : Schema) where
   -- ---- by places
 
   nothing_placed : Placed schema expr.Null
-  nothing_placed t s ref tables own = c.cast t c.null
+  nothing_placed t s ref tables own = whole s ref t expr.Null c.null
 
   at_place : (es : List Expr) → Every (Placed schema) es → (i : ℕ) → Placed schema (get_or es i expr.Null)
   at_place [] h i = nothing_placed

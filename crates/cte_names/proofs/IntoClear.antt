@@ -3,7 +3,8 @@ use Rattle.std.proofs.Common.{◌≡◌, refl, ap, sym, subst, ◌∙◌, ℕ, s
 use Rattle.std.proofs.lemmas.List.{append-nil}
 use Rattle.std.specs.Prelude.{slice_get}
 use Rattle.away_values.specs.declared.operators.CmpOp.{CmpOp}
-use Rattle.away_values.specs.declared.types.Ty.TheVariants as ty
+use Rattle.away_values.specs.declared.types.Ty.{Ty}
+use Rattle.away_values.specs.Operators.{literal_type}
 use Rattle.away_trees.specs.Limits.{most_nodes}
 use Rattle.away_trees.specs.declared.queries.Expr.{Expr}
 use Rattle.away_trees.specs.declared.queries.Expr.TheOpen.{Expr-F}
@@ -27,7 +28,7 @@ use Rattle.sql_meaning.specs.Reads.{Read, Reads, SourceReads, reading, reads, of
 use Rattle.sql_meaning.specs.Trees.{col, item, one}
 use Rattle.sql_meaning.proofs.Uses.{left, right}
 use Rattle.plsql_meaning.specs.Sight as sight
-use Rattle.select_into.specs.Wrapped.{value_name, value_names, subquery, as_source, over_source, scalar_over, count_compared, pick}
+use Rattle.select_into.specs.Wrapped.{value_name, value_names, subquery, as_source, over_source, scalar_over, count_compared, pick, pick_as}
 use Rattle.qualified_names.specs.Trees.{qualified_part, qualified_from, qualified_shown}
 use Rattle.qualified_names.specs.Unambiguous.{value, maybe, select, selects, query, IsClear}
 use Rattle.qualified_names.specs.Unambiguous as c
@@ -65,7 +66,6 @@ scalar_inside c.null q e = absurd cc
 scalar_inside (c.column x a m h k) q e = absurd cc
 scalar_inside (c.param i t) q e = absurd cc
 scalar_inside (c.neg h) q e = absurd cc
-scalar_inside (c.neg_small h) q e = absurd cc
 scalar_inside (c.not h) q e = absurd cc
 scalar_inside (c.is t v h) q e = absurd cc
 scalar_inside (c.chain h k) q e = absurd cc
@@ -158,7 +158,7 @@ module _ (leaf : ℕ → ℕ → Expr) where
     pub test_clear : (op : CmpOp) (than : ℤ) → IsClear value s (expr_of P (count_compared op q than) 0)
     test_clear op than =
         subst (λ (f : ℕ → Expr). IsClear value s (f 0)) (sym (eq.of_compare P op (scalar_over expr.CountRows None q) (expr.Int than)))
-        (c.compare op (over_clear expr.CountRows None c.count_rows c.nothing) (c.cast ty.Bigint (c.int than)))
+        (c.compare op (over_clear expr.CountRows None c.count_rows c.nothing) (c.cast (literal_type than) (c.int than)))
 
     seen_is : (place : ℕ) → place < length (out-Select q).list → (qualified_from s.levels from).seen ≡ seen (length (out-Select q).list) ∷ []
     seen_is place lt =
@@ -174,7 +174,12 @@ module _ (leaf : ℕ → ℕ → Expr) where
         over_clear (col 0 0 place) (Some (expr.Int (pos 1)))
         (subst (λ level. IsClear value (inside level s) (expr.Column (place_at place))) (sym (seen_is place lt))
         (c.column (place_at place) alias (value_name place) (called_so many place s.levels lt) (found_so many place s.levels few lt)))
-        (c.something (c.cast ty.Bigint (c.int (pos 1))))
+        (c.something (c.cast (literal_type (pos 1)) (c.int (pos 1))))
+
+    -- and under a cast
+    pub pick_as_clear : (cast : Option Ty) (place : ℕ) → place < length (out-Select q).list → IsClear value s (expr_of P (pick_as cast q place) 0)
+    pick_as_clear None place lt = pick_clear place lt
+    pick_as_clear (Some t) place lt = subst (λ (f : ℕ → Expr). IsClear value s (f 0)) (sym (eq.of_cast P (pick q place) t)) (c.cast t (pick_clear place lt))
 
 -- ---- what it reads
 
@@ -211,6 +216,10 @@ module _ (slots : ℕ → Bool) where
 
   pub of_pick : (place : ℕ) (q : Select) → May (reads (pick q place)) → May (select_of reading q 1)
   of_pick place q h = of_over (col 0 0 place) (Some (expr.Int (pos 1))) q h
+
+  pub of_pick_as : (cast : Option Ty) (place : ℕ) (q : Select) → May (reads (pick_as cast q place)) → May (select_of reading q 1)
+  of_pick_as None place q h = of_pick place q h
+  of_pick_as (Some t) place q h = of_pick place q (so (λ (r : Reads). r 0) _ _ (eq.of_cast reading (pick q place) t) h)
 
   -- as an expression of its own
   pub as_expression : (q : Select) (d : ℕ) → May (select_of reading q d) → May (expr_of reading (sight.query_of q) d)

@@ -21,7 +21,7 @@ use Rattle.away_types.specs.declared.finding.Report.{Report}
 use Rattle.away_types.specs.declared.slots.Slot.{Slot}
 use Rattle.away_types.specs.CheckedFunctions.{IsChecked}
 use Rattle.away_types.specs.Findings.{own_with, followed, nothing}
-use Rattle.away_types.specs.FunctionChecks.{asked_in, body_of, function_note, head_note, slots_of, types_note}
+use Rattle.away_types.specs.FunctionChecks.{asked_in, body_of, converted_body, function_note, head_note, slots_of, types_note}
 use Rattle.away_types.specs.StatementTypes.{Asked, By, asking, asked_stmt, asked_of_targets, all_by, maybe_by, all_taken, slot_of, takes, takes_list}
 use Rattle.select_into.specs.Entries.{Target}
 use Rattle.block_forms.specs.Intos.{Into, selecting, intos, row_intos, else_intos}
@@ -135,10 +135,10 @@ module _ (a : Asked) where
 
 -- ---- a whole function
 
-body_lists : (schema : Schema) (f : Function) → Clear (function_note schema f) → Every HasItsList (intos (body_of schema f).it)
+body_lists : (schema : Schema) (f : Function) → Clear (function_note schema f) → Every HasItsList (intos (converted_body schema f))
 unfolding asked_stmt intos
 body_lists schema f c =
-    stmt_lists (asked_in schema (slots_of schema f) f.result) (body_of schema f).it (clear_bodies (length f.params) (head_note f) (body_of schema f).note (types_note schema f) c).1
+    stmt_lists (asked_in schema (slots_of schema f) f.result) (converted_body schema f) (clear_bodies (length f.params) (head_note f) (body_of schema f).note (types_note schema f) c).1
 
 pub checked_lists : (schema : Schema) (written f : Function) (slots : List Slot) → IsChecked schema written f slots → Every HasItsList (intos f.body)
 checked_lists schema written f slots h = subst (λ (f : Function). Every HasItsList (intos f.body)) (sym h.function) (body_lists schema written h.unbroken)

@@ -1,12 +1,11 @@
--- A select whose literal NULLs have types reads what it read, and is clear where it was.
+-- A select whose literal NULLs have types, and whose items have no aliases, reads what it read, and is clear where it was.
 use Rattle.std.proofs.Common.{◌≡◌, refl, ap, sym, subst, ◌∙◌, ℕ, suc, List, [], ◌∷◌, map, drop, length, Option, Some, None, option_map}
-use Rattle.std.proofs.Common.{◌⊎◌, inl, inr}
 use Rattle.away_values.specs.declared.types.Ty.{Ty}
 use Rattle.away_trees.specs.declared.queries.Expr.{Expr}
 use Rattle.away_trees.specs.declared.queries.Expr.TheBlock as b
 use Rattle.away_trees.specs.declared.queries.Expr.TheVariants as expr
-use Rattle.away_trees.specs.declared.queries.Expr.TheViews.{out-Item, out-Select, roll-Item, roll-Select, roll-out-Item, out-roll-Item, out-roll-Select}
-use Rattle.away_trees.specs.declared.queries.Expr.TheOpen.{Select-F}
+use Rattle.away_trees.specs.declared.queries.Expr.TheViews.{out-Item, out-Select, roll-Item, roll-Select, out-roll-Item, out-roll-Select}
+use Rattle.away_trees.specs.declared.queries.Expr.TheOpen.{Item-F, Select-F}
 use Rattle.away_trees.specs.declared.queries.FromItem.{FromItem}
 use Rattle.away_trees.specs.declared.queries.Item.{Item}
 use Rattle.away_trees.specs.declared.queries.Key.{Key}
@@ -19,7 +18,7 @@ use Rattle.away_trees.proofs.Equations as eq
 use Rattle.away_names.specs.Lookups.{Level, Scope, inside}
 use Rattle.sql_meaning.specs.Reads.{reading}
 use Rattle.select_into.specs.Wrapped.{null_as, typed, item_as, items_as, picked}
-use Rattle.qualified_names.specs.Unambiguous.{items, select, IsClear}
+use Rattle.qualified_names.specs.Unambiguous.{value, items, select, IsClear}
 use Rattle.qualified_names.specs.Unambiguous as c
 use Rattle.cte_names.proofs.Standing.{placing}
 
@@ -37,7 +36,7 @@ typed_reads None e = refl
 typed_reads (Some t) e = null_reads t e
 
 item_reads : (o : Option Ty) (i : Item) → item_of reading (item_as o i) ≡ item_of reading i
-item_reads o i = ap (λ x. expr_of reading x.expr) (out-roll-Item (record (out-Item i) { expr = typed o (out-Item i).expr })) ∙ typed_reads o (out-Item i).expr
+item_reads o i = ap (λ x. expr_of reading x.expr) (out-roll-Item (record { expr = typed o (out-Item i).expr; alias = None })) ∙ typed_reads o (out-Item i).expr
 
 items_read : (types : List Ty) (is : List Item) → map (λ i. item_of reading i) (items_as types is) ≡ map (λ i. item_of reading i) is
 items_read types [] = refl
@@ -70,25 +69,23 @@ picked_length types q =
 
 -- ---- where it is clear
 
+abbrev ItemFields : Type 0
+ItemFields = Item-F Expr Source FromItem Item Key Query Recursive Select
+
 heads_same : (x y : Item) (xs ys : List Item) → x ∷ xs ≡ y ∷ ys → x ≡ y
 heads_same x y xs ys e = cc
 
--- the rest of a list, and the first of it before others
+exprs_same : (f g : ItemFields) → roll-Item f ≡ roll-Item g → f.expr ≡ g.expr
+exprs_same f g e = ap (λ h. h.expr) (sym (out-roll-Item f) ∙ (ap out-Item e ∙ out-roll-Item g))
+
+-- the first of a list, and the rest of it
+first_clear : {s : Scope} {ys : List Item} → IsClear items s ys → (f : ItemFields) (xs : List Item) → ys ≡ roll-Item f ∷ xs → IsClear value s f.expr
+first_clear c.no_item f xs e = absurd cc
+first_clear {s = s} (c.one_item {x = x} alias h r) f xs e = subst (IsClear value s) (exprs_same (record { expr = x; alias = alias }) f (heads_same _ (roll-Item f) _ xs e)) h
+
 rest_clear : {s : Scope} {ys : List Item} → IsClear items s ys → (x : Item) (xs : List Item) → ys ≡ x ∷ xs → IsClear items s xs
 rest_clear c.no_item x xs e = absurd cc
 rest_clear {s = s} (c.one_item alias h r) x xs e = subst (IsClear items s) (ap (drop 1) e) r
-
-first_clear : {s : Scope} {ys : List Item} → IsClear items s ys → (x : Item) (xs zs : List Item) → ys ≡ x ∷ xs → IsClear items s zs → IsClear items s (x ∷ zs)
-first_clear c.no_item x xs zs e k = absurd cc
-first_clear {s = s} (c.one_item alias h r) x xs zs e k = subst (λ y. IsClear items s (y ∷ zs)) (heads_same _ x _ xs e) (c.one_item alias h k)
-
-abbrev with_null : Ty → Item → Item
-with_null t i = roll-Item (record (out-Item i) { expr = expr.Cast expr.Null t })
-
--- it stays, or was a literal NULL
-stays_or : (t : Ty) (i : Item) (e : Expr) → (out-Item i).expr ≡ e → (item_as (Some t) i ≡ i) ⊎ (item_as (Some t) i ≡ with_null t i)
-stays_or t i b.Null is = inr (ap (λ e. roll-Item (record (out-Item i) { expr = null_as t e })) is)
-stays_or t i e is = inl (ap (λ e. roll-Item (record (out-Item i) { expr = null_as t e })) is ∙ (ap (λ e. roll-Item (record (out-Item i) { expr = e })) (sym is) ∙ roll-out-Item i))
 
 module _ (leaf : ℕ → ℕ → Expr) (s : Scope) (d : ℕ) where
   abbrev P : Algebra
@@ -97,20 +94,20 @@ module _ (leaf : ℕ → ℕ → Expr) (s : Scope) (d : ℕ) where
   abbrev at : List Item → List Item
   at is = map (λ x. x d) (map (λ i. item_of P i) is)
 
-  null_placed : (t : Ty) (i : Item) → item_of P (with_null t i) ≡ (λ d. with_null t i)
-  null_placed t i =
-      ap (λ x. P.item (record { expr = expr_of P x.expr; alias = x.alias })) (out-roll-Item (record (out-Item i) { expr = expr.Cast expr.Null t }))
-      ∙ ap (λ e. P.item (record { expr = e; alias = (out-Item i).alias })) (eq.of_cast P expr.Null t)
+  -- a literal NULL with a type is clear, and what is none stays
+  null_clear : (t : Ty) (e : Expr) → IsClear value s (expr_of P e d) → IsClear value s (expr_of P (null_as t e) d)
+  null_clear t b.Null h = subst (λ (f : ℕ → Expr). IsClear value s (f d)) (sym (eq.of_cast P expr.Null t)) (c.cast t c.null)
+  null_clear t e h = h
+
+  typed_clear : (o : Option Ty) (e : Expr) → IsClear value s (expr_of P e d) → IsClear value s (expr_of P (typed o e) d)
+  typed_clear None e h = h
+  typed_clear (Some t) e h = null_clear t e h
 
   one_more : (o : Option Ty) (i : Item) (is rest : List Item) → IsClear items s (at (i ∷ is)) → IsClear items s rest → IsClear items s (item_of P (item_as o i) d ∷ rest)
-  one_more None i is rest h k = subst (λ x. IsClear items s (item_of P x d ∷ rest)) (sym (roll-out-Item i)) (first_clear h (item_of P i d) (at is) rest refl k)
-  one_more (Some t) i is rest h k = by (stays_or t i (out-Item i).expr refl)
-    where
-      by : (item_as (Some t) i ≡ i) ⊎ (item_as (Some t) i ≡ with_null t i) → IsClear items s (item_of P (item_as (Some t) i) d ∷ rest)
-      by (inl e) = subst (λ x. IsClear items s (item_of P x d ∷ rest)) (sym e) (first_clear h (item_of P i d) (at is) rest refl k)
-      by (inr e) =
-          subst (λ x. IsClear items s (x ∷ rest)) (sym (ap (λ x. item_of P x d) e ∙ ap (λ f. f d) (null_placed t i)))
-          (c.one_item (out-Item i).alias (c.cast t c.null) k)
+  one_more o i is rest h k =
+      let e : Expr = (out-Item i).expr in
+      subst (λ x. IsClear items s (x ∷ rest)) (sym (ap (λ x. roll-Item (record { expr = expr_of P x.expr d; alias = x.alias })) (out-roll-Item (record { expr = typed o e; alias = None }))))
+      (c.one_item None (typed_clear o e (first_clear h (record { expr = expr_of P e d; alias = (out-Item i).alias }) (at is) refl)) k)
 
   items_stay : (types : List Ty) (is : List Item) → IsClear items s (at is) → IsClear items s (at (items_as types is))
   items_stay types [] h = h

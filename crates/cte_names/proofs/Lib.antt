@@ -5,10 +5,13 @@ pub mod Standing
 pub mod PlacedParts
 pub mod PlacedSelects
 pub mod PlacedTrees
+pub mod PlainPlaced
+pub mod ErasedPlaced
 pub mod OwnLeaves
 pub mod ReadSlots
 pub mod Sources
 pub mod SourceEntries
+pub mod ConvertedEntries
 pub mod IntoLists
 pub mod FewTargets
 pub mod Differences
@@ -16,6 +19,7 @@ pub mod OwnNames
 pub mod OwnColumns
 pub mod IntoNames
 pub mod ItemsTyped
+pub mod MarkedItems
 pub mod IntoClear
 pub mod Entries
 pub mod PassedNames
@@ -26,6 +30,8 @@ pub mod WalksRise
 pub mod BodiesClear
 pub mod BranchesClear
 pub mod FilesClear
+pub mod PlainParts
+pub mod PlainTree
 pub mod TreesClear
 pub mod Silence
 pub mod SilentExpressions

@@ -1,11 +1,14 @@
 -- How often the terms of a checked function's query name the recursive table.
-use Rattle.std.proofs.Common.{◌≡◌, refl, ap, ◌∙◌, ℕ, ◌<◌, ◌^◌, List, [], ◌∷◌, map, length, Option, Some, None}
+use Rattle.std.proofs.Common.{◌≡◌, refl, ap, sym, ◌∙◌, ℕ, ◌<◌, ◌^◌, List, [], ◌∷◌, map, length, Option, Some, None}
 use Rattle.away_trees.specs.declared.queries.FromItem.{FromItem}
+use Rattle.away_trees.specs.declared.queries.Query.{Query}
 use Rattle.away_trees.specs.declared.schemas.Schema.{Schema}
 use Rattle.away_names.specs.declared.note.File.{File}
 use Rattle.away_names.specs.declared.note.Framed.{Framed}
 use Rattle.away_names.specs.declared.note.Noted.{Noted}
 use Rattle.away_names.specs.declared.note.Part.{Part}
+use Rattle.away_names.specs.declared.note.Shown.{Shown}
+use Rattle.away_names.specs.Files.{file}
 use Rattle.away_names.specs.declared.note.Times.TheVariants.{Never, Once}
 use Rattle.away_names.specs.declared.scope.Listed.{Listed}
 use Rattle.away_names.specs.Lookups.{Name, Scope, inside}
@@ -15,7 +18,8 @@ use Rattle.away_names.specs.Trees.{named_part, named_select}
 use Rattle.cte_template.specs.Making.{Making, making_of}
 use Rattle.cte_template.specs.Tree.{start, label_rows, step, last, tree}
 use Rattle.cte_template.specs.Walks.{all_columns}
-use Rattle.qualified_names.specs.Trees.{qualified_part, qualified_from, qualified_select, qualified_selects}
+use Rattle.elaboration_law.proofs.Dotted.{same_shown}
+use Rattle.qualified_names.specs.Trees.{qualified, qualified_part, qualified_from, qualified_select, qualified_selects}
 use Rattle.qualified_names.specs.Unambiguous.{IsClear, from_item, select}
 use Rattle.qualified_names.proofs.BackQueries.{BackPart, BackFrom, from_is}
 use Rattle.qualified_names.proofs.ClearBack.{back}
@@ -27,6 +31,7 @@ use Rattle.cte_names.proofs.BodiesClear.{TableClears}
 use Rattle.cte_names.proofs.BranchesClear.{under, row_of, rows_clear, start_clear}
 use Rattle.cte_names.proofs.FilesClear.{Fields, beside_working, working_clear, step_from, step_list, step_filter}
 use Rattle.cte_names.proofs.ItemsSeen.{working_seen}
+use Rattle.cte_names.proofs.PlainTree.{numbers_plain, tree_plain, trees_plain, without_marks}
 use Rattle.cte_names.proofs.SilentQueries.{SilentPart, SilentOver, select_refers, selects_silent}
 use Rattle.cte_names.proofs.SilentTrees.{none_named, widened}
 use Rattle.cte_names.proofs.TableNamed.{plain_tables, sees_plain, extends_plain, working_refers, terms_of_file}
@@ -101,9 +106,20 @@ module _ (schema : Schema) (m : Making) (narrow : length m.tail.columns < 2 ^ 64
         second = terms_of_file schema (λ (f : File). f.second.refers) o (last m tables ∷ []) ∙ second_once rows;
       }
 
+-- with names again a query has no marks
+without : (schema : Schema) (q p : Query) → qualified p ≡ qualified q → NamesTableOnce schema p → NamesTableOnce schema q
+without schema q p same h = record {
+  first = ap (λ x. (file schema x).first.refers) (sym same) ∙ h.first;
+  second = ap (λ x. (file schema x).second.refers) (sym same) ∙ h.second;
+}
+
 pub table_named_once : TableIsNamedOnce
 table_named_once schema written f slots g z a r q checked few columned templated fits =
     let m : Making = making_of f slots z a r in
-    let clears : TableClears schema m.table = table_clears schema written f slots checked few in
-    named_once schema m fits.columns g.entry (start_clear schema m clears fits.columns (plain_tables schema) (sees_plain schema) g.entry)
-    (rows_clear schema m clears fits.columns (plain_tables schema) (sees_plain schema) slots z.names columned.as_many columned.each templated.trees fits)
+    let n : Making = without_marks m in
+    let clears : TableClears schema n.table = table_clears schema written f slots checked few in
+    let x : Query = tree m g.entry (length schema.tables) in
+    let p : Query = tree n g.entry (length schema.tables) in
+    without schema x p (ap (λ q. qualified q) (sym (tree_plain m g.entry (length schema.tables))) ∙ ap (λ (y : Shown Query). y.it) (ap (λ y. y []) (same_shown x)))
+    (named_once schema n fits.columns g.entry (start_clear schema n clears fits.columns (plain_tables schema) (sees_plain schema) g.entry)
+    (rows_clear schema n clears fits.columns (plain_tables schema) (sees_plain schema) slots z.names columned.as_many columned.each (trees_plain m templated.trees) (numbers_plain m fits)))

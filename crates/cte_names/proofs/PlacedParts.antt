@@ -3,6 +3,7 @@ use Rattle.std.proofs.Common.{◌≡◌, refl, sym, ◌∙◌, ℕ, suc, Bool, L
 use Rattle.std.specs.List.{flat_map}
 use Rattle.std.proofs.lemmas.List.{append_assoc, append-nil}
 use Rattle.away_values.specs.declared.operators.ChainOp.{ChainOp}
+use Rattle.away_values.specs.declared.operators.ChainOp.TheVariants as chain
 use Rattle.away_trees.specs.declared.queries.Expr.{Expr}
 use Rattle.away_trees.specs.declared.queries.FromItem.{FromItem}
 use Rattle.away_trees.specs.declared.queries.Expr.TheViews.{out-FromItem}
@@ -14,6 +15,7 @@ use Rattle.away_names.specs.declared.note.Part.{Part}
 use Rattle.away_names.specs.declared.scope.Seen.{Seen}
 use Rattle.away_names.specs.Lookups.{Name, Level, Scope}
 use Rattle.away_names.specs.Naming as n
+use Rattle.elaboration.specs.Marks.{plain_op}
 use Rattle.sql_meaning.specs.Reads.{Read, Reads, reading, of_list}
 use Rattle.sql_meaning.proofs.Lists.{Zipped}
 use Rattle.sql_meaning.proofs.Uses.{left, right}
@@ -66,6 +68,15 @@ module _ (s : Scope) where
 
   pub framed_clean : (ps : List n.Piece) → Clean (n.framed s ps).note → CleanPieces s [] ps
   framed_clean ps k = (clean_more n.no_part ps k).1
+
+-- an operation without its mark has none
+pub plain_twice : (op : ChainOp) → plain_op (plain_op op) ≡ plain_op op
+unfolding plain_op
+plain_twice chain.Or = refl
+plain_twice chain.And = refl
+plain_twice chain.Concat = refl
+plain_twice (chain.Int op) = refl
+plain_twice (chain.Small op) = refl
 
 zipped_append : {A B : Type 0} (R : A → B → Type 0) (xs : List A) (ys : List B) (x : A) (y : B) → Zipped R xs ys → R x y → Zipped R (xs ++ x ∷ []) (ys ++ y ∷ [])
 zipped_append R [] [] x y r h = (h, tt)
@@ -126,11 +137,11 @@ module _ (q : Scope) (slots : ℕ → Bool) (leaf : ℕ → ℕ → Expr) where
 
     pub links_clear : (ls : List (ChainOp × n.Term)) → Every (λ (l : ChainOp × n.Term). Exprs l.1) ls → Every (λ l. Clean (n.linked s l).note) ls
         → May (flat_map (λ (l : ChainOp × Reads). l.1 (length ms)) (map (λ l. eq.link_of reading l) (map (λ l. (n.linked s l).it) ls)))
-        → IsClear links (under ms q) (map (λ (l : ChainOp × (ℕ → Expr)). (l.0, l.1 (length ms))) (map (λ l. eq.link_of P l) (map (λ l. (n.linked s l).it) ls)))
+        → IsClear links (under ms q) (map (λ (l : ChainOp × (ℕ → Expr)). (plain_op l.0, l.1 (length ms))) (map (λ l. eq.link_of P l) (map (λ l. (n.linked s l).it) ls)))
     links_clear [] h k a = c.no_link
     links_clear (l ∷ ls) h k a =
         let here : List Read = expr_of reading (l.1.judge s).it (length ms) in
-        c.one_link l.0 (h.0 s ms f k.0 (left (one_of_these slots) here _ a)).clear (links_clear ls h.1 k.1 (right (one_of_these slots) here _ a))
+        c.one_link (plain_op l.0) (plain_twice l.0) (h.0 s ms f k.0 (left (one_of_these slots) here _ a)).clear (links_clear ls h.1 k.1 (right (one_of_these slots) here _ a))
 
     pub arms_clear : (as_ : List (n.Term × n.Term)) → Every (λ (a : n.Term × n.Term). Exprs a.0 × Exprs a.1) as_ → Every (λ a. Clean (n.armed s a).note) as_
         → May (flat_map (λ (a : Reads × Reads). a.0 (length ms) ++ a.1 (length ms)) (map (λ a. eq.arm_of reading a) (map (λ a. (n.armed s a).it) as_)))

@@ -14,6 +14,7 @@ use Rattle.away_names.specs.Naming as n
 use Rattle.away_names.specs.Naming.{naming}
 use Rattle.away_names.specs.Notes.{joined, breaks, each, held}
 use Rattle.away_names.specs.Trees.{named_expr}
+use Rattle.elaboration.specs.Marks.{plain_op}
 use Rattle.sql_meaning.specs.Reads.{Read, Reads, reading, of_list}
 use Rattle.sql_meaning.proofs.Related.{AlikeOption, AlikeLink, AlikeArm, Relation, IsKept, expr_related}
 use Rattle.type_soundness.specs.Sorts.{Every}
@@ -75,9 +76,9 @@ module _ (q : Scope) (slots : ℕ → Bool) (leaf : ℕ → ℕ → Expr) (leave
         subst (λ xs. IsClear values (under ms q) (map (λ x. x (length ms)) (map (λ e. expr_of P e) xs))) (sym (each_is (λ t. t.judge s) ts)) (part.values_clear q slots leaf s ms f ts h (each_clean (λ t. t.judge s) ts g) (subst (λ xs. May (of_list (length ms) (map (λ e. expr_of reading e) xs))) (each_is (λ t. t.judge s) ts) a))
 
     links_of : (ls : List (ChainOp × n.Term)) → Every (λ (l : ChainOp × n.Term). part.Exprs q slots leaf l.1) ls → Clean (each (n.linked s) ls).note → May (flat_map (λ (l : ChainOp × Reads). l.1 (length ms)) (map (λ l. eq.link_of reading l) (each (n.linked s) ls).it))
-        → IsClear links (under ms q) (map (λ (l : ChainOp × (ℕ → Expr)). (l.0, l.1 (length ms))) (map (λ l. eq.link_of P l) (each (n.linked s) ls).it))
+        → IsClear links (under ms q) (map (λ (l : ChainOp × (ℕ → Expr)). (plain_op l.0, l.1 (length ms))) (map (λ l. eq.link_of P l) (each (n.linked s) ls).it))
     links_of ls h g a =
-        subst (λ xs. IsClear links (under ms q) (map (λ (l : ChainOp × (ℕ → Expr)). (l.0, l.1 (length ms))) (map (λ l. eq.link_of P l) xs))) (sym (each_is (n.linked s) ls)) (part.links_clear q slots leaf s ms f ls h (each_clean (n.linked s) ls g) (subst (λ xs. May (flat_map (λ (l : ChainOp × Reads). l.1 (length ms)) (map (λ l. eq.link_of reading l) xs))) (each_is (n.linked s) ls) a))
+        subst (λ xs. IsClear links (under ms q) (map (λ (l : ChainOp × (ℕ → Expr)). (plain_op l.0, l.1 (length ms))) (map (λ l. eq.link_of P l) xs))) (sym (each_is (n.linked s) ls)) (part.links_clear q slots leaf s ms f ls h (each_clean (n.linked s) ls g) (subst (λ xs. May (flat_map (λ (l : ChainOp × Reads). l.1 (length ms)) (map (λ l. eq.link_of reading l) xs))) (each_is (n.linked s) ls) a))
 
     arms_of : (as_ : List (n.Term × n.Term)) → Every (λ (a : n.Term × n.Term). part.Exprs q slots leaf a.0 × part.Exprs q slots leaf a.1) as_ → Clean (each (n.armed s) as_).note → May (flat_map (λ (a : Reads × Reads). a.0 (length ms) ++ a.1 (length ms)) (map (λ a. eq.arm_of reading a) (each (n.armed s) as_).it))
         → IsClear arms (under ms q) (map (λ (a : (ℕ → Expr) × (ℕ → Expr)). (a.0 (length ms), a.1 (length ms))) (map (λ a. eq.arm_of P a) (each (n.armed s) as_).it))
@@ -104,7 +105,7 @@ module _ (q : Scope) (slots : ℕ → Bool) (leaf : ℕ → ℕ → Expr) (leave
     column = λ x s ms f g a. absurd (unwritten_not (expr.Column x) g);
     param = λ i t s ms f g a. absurd (no_param s f.in_function g);
     neg = λ x y z k s ms f g a. by (length ms) _ _ _ _ (eq.of_neg P (x.judge s).it) (node _ _ (c.neg (k s ms f g (sel.reads_so q slots leaf (length ms) _ _ (eq.of_neg reading (x.judge s).it) a)).clear) (ap own_name (d.neg_is _ _)));
-    neg_small = λ x y z k s ms f g a. by (length ms) _ _ _ _ (eq.of_negsmall P (x.judge s).it) (node _ _ (c.neg_small (k s ms f g (sel.reads_so q slots leaf (length ms) _ _ (eq.of_negsmall reading (x.judge s).it) a)).clear) (ap own_name (d.negsmall_is _ _)));
+    neg_small = λ x y z k s ms f g a. by (length ms) _ _ _ _ (eq.of_negsmall P (x.judge s).it) (node _ _ (c.neg (k s ms f g (sel.reads_so q slots leaf (length ms) _ _ (eq.of_negsmall reading (x.judge s).it) a)).clear) (ap own_name (d.neg_is _ _)));
     not = λ x y z k s ms f g a. by (length ms) _ _ _ _ (eq.of_not P (x.judge s).it) (node _ _ (c.not (k s ms f g (sel.reads_so q slots leaf (length ms) _ _ (eq.of_not reading (x.judge s).it) a)).clear) (ap own_name (d.not_is _ _)));
     is = λ x y z test negative k s ms f g a. by (length ms) _ _ _ _ (eq.of_is P (x.judge s).it test negative) (node _ _ (c.is test negative (k s ms f g (sel.reads_so q slots leaf (length ms) _ _ (eq.of_is reading (x.judge s).it test negative) a)).clear) (ap own_name (d.is_is _ _ _ _)));
     chain = λ x y z xs ys zs k r s ms f g a.

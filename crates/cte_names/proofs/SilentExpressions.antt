@@ -68,9 +68,6 @@ column_silent s c a x is found =
 pub neg_silent : (s : Scope) (x : Expr) → Silent s x → Silent s (expr.Neg x)
 neg_silent s x h = by s _ _ _ (d.neg_is x s.levels) (r.neg_is _ s) h
 
-pub negsmall_silent : (s : Scope) (x : Expr) → Silent s x → Silent s (expr.NegSmall x)
-negsmall_silent s x h = by s _ _ _ (d.negsmall_is x s.levels) (r.negsmall_is _ s) h
-
 pub not_silent : (s : Scope) (x : Expr) → Silent s x → Silent s (expr.Not x)
 not_silent s x h = by s _ _ _ (d.not_is x s.levels) (r.not_is _ s) h
 

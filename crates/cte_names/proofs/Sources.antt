@@ -1,5 +1,5 @@
--- Each source expression of a checked function is a written one whose names are resolved where the function's variables and the schema's tables are in
--- sight alone, and break no rule. The select of a SELECT INTO counts as one expression here.
+-- Each source expression of a resolved function, before its numbers are converted, is a written one whose names are resolved where the function's variables and
+-- the schema's tables are in sight alone, and break no rule. The select of a SELECT INTO counts as one expression here.
 use Rattle.std.proofs.Common.{length, ◌≡◌, refl, ap, sym, subst, ◌∙◌, true, false, List, [], ◌∷◌, ◌++◌, map, fold, Option, Some, None, option_map}
 use Rattle.away_trees.specs.declared.queries.Expr.{Expr}
 use Rattle.away_trees.specs.declared.queries.Expr.TheOpen as ex
@@ -241,6 +241,5 @@ body_resolved schema f c =
     let body = clear_bodies (length f.params) (head_note f) (body_of schema f).note (types_note schema f) c in
     stmt_resolved schema f.body (entry schema f.params) (start f.params).slots (record { in_function = refl; no_levels = refl; tables = refl }) body.0
 
-pub checked_sources : (schema : Schema) (written f : Function) (slots : List Slot) → IsChecked schema written f slots → Every (IsResolved schema) (sources whole_select f.body)
-checked_sources schema written f slots h =
-    subst (λ (f : Function). Every (IsResolved schema) (sources whole_select f.body)) (sym h.function) (body_resolved schema written h.unbroken)
+pub checked_sources : (schema : Schema) (written f : Function) (slots : List Slot) → IsChecked schema written f slots → Every (IsResolved schema) (sources whole_select (body_of schema written).it)
+checked_sources schema written f slots h = body_resolved schema written h.unbroken

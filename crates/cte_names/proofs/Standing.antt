@@ -1,5 +1,5 @@
 -- Where a function's own selects stand in a query, and what is clear there.
-use Rattle.std.proofs.Common.{◌≡◌, refl, subst, sym, ap, ◌∙◌, ℕ, Bool, true, false, ◌&&◌, List, ◌∷◌, ◌++◌, length, Option, Some, None}
+use Rattle.std.proofs.Common.{◌≡◌, refl, subst, sym, ap, ◌∙◌, ℕ, Bool, true, false, ◌&&◌, List, ◌∷◌, ◌++◌, map, length, Option, Some, None}
 use Rattle.std.specs.Prelude.{not, is_some}
 use Rattle.std.specs.List.{list_all}
 use Rattle.away_trees.specs.declared.queries.Expr.{Expr}
@@ -9,6 +9,8 @@ use Rattle.away_trees.specs.declared.queries.Item.{Item}
 use Rattle.away_trees.specs.declared.queries.Key.{Key}
 use Rattle.away_trees.specs.declared.queries.Query.{Query}
 use Rattle.away_trees.specs.declared.queries.Select.{Select}
+use Rattle.away_trees.specs.declared.queries.Expr.TheOpen.{Expr-F}
+use Rattle.away_trees.specs.declared.queries.Expr.TheOpen as ex
 use Rattle.away_trees.specs.declared.queries.Expr.TheViews.{out-FromItem}
 use Rattle.away_trees.specs.Algebra.{Algebra, expr_of}
 use Rattle.away_names.specs.declared.rule.Rule.TheVariants as rule
@@ -19,7 +21,8 @@ use Rattle.away_names.specs.Functions.{function}
 use Rattle.away_names.specs.Lookups.{Name, Level, Scope, is_kept, column_named, column_qualified, variable_named}
 use Rattle.away_names.specs.Naming as n
 use Rattle.away_names.specs.Notes.{breaks}
-use Rattle.sql_meaning.specs.Placed.{replacing, with_cast}
+use Rattle.elaboration.specs.Marks.{plain_op}
+use Rattle.sql_meaning.specs.Placed.{Layer, expr_in_place, replacing, with_cast}
 use Rattle.sql_meaning.specs.Reads.{Read, Slot, reading}
 use Rattle.sql_meaning.proofs.Lists.{Zipped}
 use Rattle.sql_meaning.proofs.Uses.{and_first}
@@ -83,8 +86,14 @@ one_of_these slots _ = true
 abbrev pub Allowed : (ℕ → Bool) → List Read → Type 0
 Allowed slots rs = list_all (one_of_these slots) rs ≡ true
 
+-- as a query has it, without the marks of operations
+abbrev pub plain_in_place : (ℕ → ℕ → Expr) → Layer Expr-F → ℕ → Expr
+plain_in_place leaf (ex.NegSmall e) d = expr.Neg (e d)
+plain_in_place leaf (ex.Chain e links) d = expr.Chain (e d) (map (λ l. (plain_op l.0, l.1 d)) links)
+plain_in_place leaf x d = expr_in_place leaf with_cast x d
+
 abbrev pub placing : (ℕ → ℕ → Expr) → Algebra
-placing leaf = replacing leaf with_cast
+placing leaf = record (replacing leaf with_cast) { expr = plain_in_place leaf }
 
 -- ---- names that a function may write
 

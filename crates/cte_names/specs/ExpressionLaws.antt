@@ -10,6 +10,7 @@ use Rattle.away_trees.specs.Limits.{most_nodes}
 use Rattle.away_names.specs.Lookups.{Scope}
 use Rattle.away_types.specs.declared.slots.Slot.{Slot}
 use Rattle.away_types.specs.CheckedFunctions.{IsChecked}
+use Rattle.elaboration.specs.Erasing.{erased}
 use Rattle.sql_meaning.specs.Placed.{placed_at}
 use Rattle.sql_meaning.specs.Reads.{slots_of}
 use Rattle.block_forms.specs.Expressions.{expressions}
@@ -17,10 +18,11 @@ use Rattle.block_forms.specs.Places.{Each}
 use Rattle.qualified_names.specs.Unambiguous.{value, IsClear}
 use Rattle.cte_names.specs.Own.{SeesTables, IsOwn}
 
--- each expression of a checked function within the limits is clear where the query has it, if its
--- slots are columns of the query's own there
+-- each expression of a checked function within the limits is clear where the query has it, without
+-- the marks of its operations, if its slots are columns of the query's own there
 abbrev pub PlacedAreClear : Type 0
 PlacedAreClear =
-    (schema : Schema) (written f : Function) (slots : List Slot) → IsChecked schema written f slots → nodes f ≤ most_nodes → (i : ℕ) (t : Ty) (s : Scope) (ref : ℕ → Col)
+    (schema : Schema) (written f : Function) (slots : List Slot) → IsChecked schema written f slots
+    → nodes f ≤ most_nodes → (i : ℕ) (t : Ty) (s : Scope) (ref : ℕ → Col)
     → SeesTables schema s → Each (λ k. IsOwn s.levels (ref k)) (slots_of (get_or (expressions f) i expr.Null))
-    → IsClear value s (placed_at t ref (get_or (expressions f) i expr.Null))
+    → IsClear value s (erased (placed_at t ref (get_or (expressions f) i expr.Null)))

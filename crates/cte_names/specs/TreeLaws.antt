@@ -18,16 +18,19 @@ use Rattle.call_forms.specs.Templated.{Templated}
 use Rattle.cte_template.specs.Making.{making_of}
 pub use Rattle.cte_template.specs.Numbers.{NumbersFit}
 use Rattle.cte_template.specs.Tree.{tree}
+use Rattle.elaboration.specs.Erasing.{erased_query}
 use Rattle.qualified_names.specs.Trees.{qualified}
 use Rattle.qualified_names.specs.Unambiguous.{IsClearFile}
 
--- names are unambiguous in the query of a checked function within the limits
+-- names are unambiguous in the query of a checked function within the limits, without the marks of
+-- its operations
 abbrev pub TreeIsClear : Type 0
 TreeIsClear =
     (schema : Schema) (written f : Function) (slots : List Slot) (g : Goto) (z : Ssa) (a : Anf) (r : Tail) (q : Query)
     → IsChecked schema written f slots → nodes f ≤ most_nodes → Columned slots z a r
     → Templated f slots (length schema.tables) g z a r q → NumbersFit (making_of f slots z a r)
-    → IsClearFile schema (tree (making_of f slots z a r) g.entry (length schema.tables))
+    → IsClearFile schema
+    (erased_query (tree (making_of f slots z a r) g.entry (length schema.tables)))
 
 -- with names again, the query names its recursive table never in its first term and once in its
 -- second

@@ -2,6 +2,7 @@
 use Rattle.std.proofs.Common.{◌≡◌, ℕ, suc, ◌+◌, ℤ, Bool, List, [], ◌∷◌, map, Option, Some, None, option_map, refl, sym, ap, ◌∙◌, arith}
 use Rattle.away_values.specs.declared.types.Ty.{Ty}
 use Rattle.away_values.specs.declared.types.Ty.TheVariants as ty
+use Rattle.away_values.specs.Operators.{literal_type}
 use Rattle.away_values.specs.declared.operators.ChainOp.{ChainOp}
 use Rattle.away_values.specs.declared.operators.CmpOp.{CmpOp}
 use Rattle.away_values.specs.declared.operators.IsTest.{IsTest}
@@ -69,7 +70,7 @@ selects_are ref d (x ∷ xs) = ap (λ ys. select_of (placing ref) x d ∷ ys) (s
 
 -- ---- expressions and sources
 
-pub in_int : (ref : ℕ → Col) (d : ℕ) (n : ℤ) → expr_in ref d (expr.Int n) ≡ with_cast ty.Bigint (expr.Int n)
+pub in_int : (ref : ℕ → Col) (d : ℕ) (n : ℤ) → expr_in ref d (expr.Int n) ≡ with_cast (literal_type n) (expr.Int n)
 unfolding expr_in
 in_int ref d n = refl
 

@@ -10,7 +10,7 @@ use crate::columns::{Leaves, column_of};
 use crate::numbers::after;
 use crate::trees::null;
 use away_trees::{Col, Expr, FromItem, Item, Key, Query, Recursive, Select, Source};
-use away_values::{ChainOp, Name, NoMemory, Ty};
+use away_values::{ChainOp, Name, NoMemory, Ty, literal_type};
 use sqlite_items::{Boxed, Items};
 use std::alloc::Global;
 use tree_events::slots_of;
@@ -46,7 +46,7 @@ fn place_expr(value: &Expr, alloc: Global, leaves: &Leaves<'_>, d: usize) -> Res
     ensures { IfOk result (λ e. e ≡ spec.expr_in (spec.column_at leaves.now) d value.now) }
 {
     match value {
-        Expr::Int(n) => cast(alloc, Expr::Int(*n), Ty::Bigint),
+        Expr::Int(n) => cast(alloc, Expr::Int(*n), literal_type(*n)),
         Expr::Str(text) => cast(alloc, Expr::Str(text.copy(alloc)?), Ty::Text),
         Expr::Bool(b) => cast(alloc, Expr::Bool(*b), Ty::Boolean),
         Expr::Null => Ok(Expr::Null),

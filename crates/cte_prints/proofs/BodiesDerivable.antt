@@ -36,7 +36,6 @@ use Rattle.cte_template.specs.Places.{nowhere, first_of, seen, stands, beside}
 use Rattle.cte_template.specs.Walks.{Walked, walk, selected, ended, let_at, value_at, column_at, cell, cells_at, all_columns, end_row, call_row, class_text}
 use Rattle.cte_template.specs.declared.places.ItemColumn.{ItemColumn}
 use Rattle.cte_template.proofs.PlacesSeen.{deeper_is, shallow_paired}
-use Rattle.cte_types.specs.Typed.{HasKind}
 use Rattle.cte_names.specs.Own.{SeesTables, IsOwn}
 use Rattle.cte_names.proofs.BodiesClear as clear
 use Rattle.cte_names.proofs.BodiesClear.{TableClears, sees_inside}
@@ -46,9 +45,8 @@ use Rattle.cte_names.proofs.PassedNames.{paired_holds, slot_holds, beside_holds}
 use Rattle.cte_names.proofs.Sighted.{Sighted, renamed}
 use Rattle.cte_names.proofs.WalksRise.{rises}
 use Rattle.cte_prints.specs.Derivable.{Derivable}
-use Rattle.cte_prints.specs.Like.{IsCastable}
 use Rattle.cte_prints.specs.InSight.{LevelIsWritable, SightIsWritable}
-use Rattle.cte_prints.specs.DerivableParts.{TableIsDerivable, HasExpression, BodyFits, further_in}
+use Rattle.cte_prints.specs.DerivableParts.{TableIsDerivable, BodyFits, further_in}
 use Rattle.cte_prints.proofs.QualifiedParts.{DerivableAt, IsSome, SelectDerivable, select_over, union_derives, let_derives}
 use Rattle.cte_prints.proofs.OwnDerivable.{FromDerivable, more_items, column_alone, column_derives, columns_derive, gated}
 use Rattle.cte_prints.proofs.SmallDerivable.{truth_derives, number_derives, null_derives, nulls_derive, class_derives, not_true_derives}
@@ -58,19 +56,7 @@ further_is : (d n : ℕ) → d ≤ further_in d n
 further_is d zero = omega arith
 further_is d (suc n) = omega (arith, further_is d n)
 
-castable : (t : Ty) → HasKind t → IsCastable t
-castable ty.Bigint h = tt
-castable ty.Boolean h = tt
-castable ty.Text h = tt
-castable ty.Integer h = absurd h
-
--- the types of what a query is made of are written
-pub record TypesAreDerivable (m : Making) : Type 0 where
-  pub types : (n : ℕ) → HasKind (m.types n)
-  pub result : HasKind m.result
-  pub columns : Every HasKind m.tail.columns
-
-module _ (schema : Schema) (m : Making) (clears : TableClears schema m.table) (narrow : length m.tail.columns < 2 ^ 64) (typed : TypesAreDerivable m)
+module _ (schema : Schema) (m : Making) (clears : TableClears schema m.table) (narrow : length m.tail.columns < 2 ^ 64)
     (d : ℕ) (derives : (e : ℕ) → d ≤ e → TableIsDerivable (suc e) schema m.table) where
   abbrev width : ℕ
   width = length m.tail.columns
@@ -83,7 +69,7 @@ module _ (schema : Schema) (m : Making) (clears : TableClears schema m.table) (n
     truth_derives n ls false,
     (
       number_derives n ls 0 (omega arith),
-      every_both (DerivableAt (suc n) ls) (map null_of m.tail.columns) (e ∷ class ∷ []) (nulls_derive n ls m.tail.columns typed.columns)
+      every_both (DerivableAt (suc n) ls) (map null_of m.tail.columns) (e ∷ class ∷ []) (nulls_derive n ls m.tail.columns)
           (h, (k, tt)),
     ),
   )
@@ -104,16 +90,16 @@ module _ (schema : Schema) (m : Making) (clears : TableClears schema m.table) (n
     list_over es next some list =
         select_over (suc n) s.levels es fs None some from.items (subst (λ l. Every (DerivableAt (suc n) (l ∷ s.levels)) es) (sym h.seen_is) list) tt
 
-    cell_derives : (t : Ty) (keys args : List ℕ) (i e : ℕ) → HasKind t → Each (Among names) args → DerivableAt (suc e) (h.level ∷ s.levels)
+    cell_derives : (t : Ty) (keys args : List ℕ) (i e : ℕ) → Each (Among names) args → DerivableAt (suc e) (h.level ∷ s.levels)
         (cell depth places t (beside keys args i))
-    cell_derives t keys args i e kind known =
-        beside_holds (λ o. DerivableAt (suc e) (h.level ∷ s.levels) (cell depth places t o)) keys args i (null_derives e (h.level ∷ s.levels) t kind)
+    cell_derives t keys args i e known =
+        beside_holds (λ o. DerivableAt (suc e) (h.level ∷ s.levels) (cell depth places t o)) keys args i (null_derives e (h.level ∷ s.levels) t)
         (λ n a. column_derives k (h.level ∷ s.levels) (column_at depth places n) (h.own n (known a.place n a.there)) both_derivable (suc e))
 
-    cells_derive : (i e : ℕ) (keys args : List ℕ) (ts : List Ty) → Every HasKind ts → Each (Among names) args
+    cells_derive : (i e : ℕ) (keys args : List ℕ) (ts : List Ty) → Each (Among names) args
         → Every (DerivableAt (suc e) (h.level ∷ s.levels)) (cells_at i depth places keys args ts)
-    cells_derive i e keys args [] kinds known = tt
-    cells_derive i e keys args (t ∷ ts) kinds known = (cell_derives t keys args i e kinds.0 known, cells_derive (suc i) e keys args ts kinds.1 known)
+    cells_derive i e keys args [] known = tt
+    cells_derive i e keys args (t ∷ ts) known = (cell_derives t keys args i e known, cells_derive (suc i) e keys args ts known)
 
     call_derives : (label e : ℕ) (keys args : List ℕ) → suc label < 2 ^ 63 → Each (Among names) args
         → Every (DerivableAt (suc e) (h.level ∷ s.levels)) (truth true ∷ number (pos (suc label)) ∷
@@ -125,17 +111,17 @@ module _ (schema : Schema) (m : Making) (clears : TableClears schema m.table) (n
             number_derives e ls (suc label) low,
             every_both (DerivableAt (suc e) ls) (cells_at 0 depth places keys args m.tail.columns)
                 (null_of m.result ∷ null_of ty.Text ∷ [])
-                (cells_derive 0 e keys args m.tail.columns typed.columns known) (null_derives e ls m.result typed.result, (null_derives e ls ty.Text tt, tt)),
+                (cells_derive 0 e keys args m.tail.columns known) (null_derives e ls m.result, (null_derives e ls ty.Text, tt)),
           ),
         )
 
     -- a term's expression, whose item sees the items before it
-    value_derives : (t : Ty) (u : Term) (e : ℕ) → d ≤ e → HasKind t → HasExpression m.table u → SeesTables schema s
+    value_derives : (t : Ty) (u : Term) (e : ℕ) → d ≤ e → SeesTables schema s
         → HasReferences m.table names u → DerivableAt (suc e) ([] ∷ h.level ∷ s.levels) (value_at m depth places t u)
-    value_derives t u e le kind some sees refers =
+    value_derives t u e le sees refers =
         let here : Scope = inside [] (inside h.level s) in
         let slots : List ℕ = slots_of (get_or m.table u.expr expr.Null) in
-        derives e le u.expr t here (column_beside slots (map (column_at (suc depth) places) u.names) (seen (suc depth) nowhere)) (castable t kind) some
+        derives e le u.expr t here (column_beside slots (map (column_at (suc depth) places) u.names) (seen (suc depth) nowhere))
         (sees_inside schema (inside h.level s) [] (sees_inside schema s h.level sees)) (tt, both_derivable)
         (λ place slot there.
         slot_holds (IsOwn here.levels) (column_at (suc depth) places) (seen (suc depth) nowhere) slots u.names slot refers.as_many
@@ -147,29 +133,29 @@ module _ (schema : Schema) (m : Making) (clears : TableClears schema m.table) (n
   -- behind a term's item
   with_let : (k depth : ℕ) (s : Scope) (fs : List FromItem) (names : List ℕ) (places : scopes.Scope ItemColumn) → (h : Sighted k depth s fs names places)
       → SightIsWritable s.levels
-      → (e : ℕ) → d ≤ e → FromDerivable (suc (suc e)) s.levels fs → k < 2 ^ 64 → SeesTables schema s → (t : Ty) → HasKind t → (u : Term) → HasExpression m.table u
+      → (e : ℕ) → d ≤ e → FromDerivable (suc (suc e)) s.levels fs → k < 2 ^ 64 → SeesTables schema s → (t : Ty) (u : Term)
       → HasReferences m.table names u
       → FromDerivable (suc (suc e)) s.levels (fs ++ let_at m depth places k t u ∷ [])
-  with_let k depth s fs names places h sight e le from fits sees t kind u some refers =
+  with_let k depth s fs names places h sight e le from fits sees t u refers =
       let v : Expr = value_at m depth places t u in
       more_items (suc e) s.levels fs (alias_name k) only_name [] (one (tree.select (v ∷ []) [] None)) (alias_writable k fits) (only_derivable, tt)
       (let_derives (suc e) ((qualified_from s.levels fs).seen ∷ s.levels) v
       (subst (λ l. DerivableAt (suc e) ([] ∷ l ∷ s.levels) v) (sym h.seen_is)
-      (value_derives k depth s fs names places h sight (suc e) from t u e le kind some sees refers))) from
+      (value_derives k depth s fs names places h sight (suc e) from t u e le sees refers))) from
 
   -- ---- bodies
 
   pub body_derives : (x : Body) (k depth : ℕ) (s : Scope) (fs : List FromItem) (names : List ℕ) (places : scopes.Scope ItemColumn) → SeesTables schema s
       → HasTree m.table names x
-      → (walk m depth places fs k x).next ≤ 2 ^ 64 → Sighted k depth s fs names places → SightIsWritable s.levels → (n : ℕ) → BodyFits m.table x n
+      → (walk m depth places fs k x).next ≤ 2 ^ 64 → Sighted k depth s fs names places → SightIsWritable s.levels → (n : ℕ) → BodyFits x n
       → FromDerivable (suc (suc (further_in d n))) s.levels fs → SelectDerivable (suc (suc (further_in d n))) s.levels (selected (walk m depth places fs k x))
   body_derives (sets name u x) k depth s fs names places sees has fits h sight n fit from =
       let now : scopes.Scope ItemColumn = stands name (first_of depth (length fs)) places in
       let item : FromItem = let_at m depth places k (m.types name) u in
       let low : k < 2 ^ 64 = omega (arith, rises m x depth now (fs ++ (item ∷ [])) (suc k), fits) in
       body_derives x (suc k) depth s (fs ++ (item ∷ [])) (name ∷ names) now sees has.1 fits
-      (clear.assigned schema m clears narrow k depth s fs names places h low sees (m.types name) u has.0 name) sight n fit.1
-      (with_let k depth s fs names places h sight (further_in d n) (further_is d n) from low sees (m.types name) (typed.types name) u fit.0 has.0)
+      (clear.assigned schema m clears narrow k depth s fs names places h low sees (m.types name) u has.0 name) sight n fit
+      (with_let k depth s fs names places h sight (further_in d n) (further_is d n) from low sees (m.types name) u has.0)
   body_derives (enters params args x) k depth s fs names places sees has fits h sight n fit from =
       let now : scopes.Scope ItemColumn = paired places nowhere params args in
       body_derives x k depth s fs params now sees has.1 fits
@@ -177,7 +163,7 @@ module _ (schema : Schema) (m : Making) (clears : TableClears schema m.table) (n
       (λ i among. paired_holds (λ p. Own k (h.level ∷ s.levels) (seen depth p)) places nowhere params args i has.0.as_many
       (λ a known. h.own a (has.0.known known.place a known.there)) among))
       sight n fit from
-  body_derives (picks u x y) k depth s fs names places sees has fits h sight zero fit from = absurd fit.1
+  body_derives (picks u x y) k depth s fs names places sees has fits h sight zero fit from = absurd fit
   body_derives (picks u x y) k depth s fs names places sees has fits h sight (suc n) fit from =
       let d' : ℕ = further_in d n in
       let e : Expr = col 2 (length fs) 0 in
@@ -199,7 +185,7 @@ module _ (schema : Schema) (m : Making) (clears : TableClears schema m.table) (n
       let own : Own (suc k) (with.level ∷ s.levels) column = clear.let_own schema m clears narrow k depth s fs names places h low sees ty.Boolean u has.0 in
       let further : d ≤ suc d' = omega (arith, further_is d n) in
       let from_one : FromDerivable (suc (suc (suc d'))) s.levels gs =
-      with_let k depth s fs names places h sight (suc d') further from low sees ty.Boolean tt u fit.0 has.0 in
+      with_let k depth s fs names places h sight (suc d') further from low sees ty.Boolean u has.0 in
       let here : Scope = inside with.level s in
       let here_derivable : SightIsWritable here.levels = both_derivable (suc k) depth s gs names places with sight (suc (suc d')) from_one in
       let seen_there : SeesTables schema here = sees_inside schema s with.level sees in
@@ -213,11 +199,11 @@ module _ (schema : Schema) (m : Making) (clears : TableClears schema m.table) (n
       let behind_no : Sighted (suc first.next) (suc depth) here (gate_as first.next no ∷ []) names places =
       clear.behind_gate schema m clears narrow (suc k) first.next depth s gs names places with le_no low_no column own no (c.is test.True true is_e) in
       let yes : SelectDerivable (suc (suc d')) here.levels (selected first) =
-      body_derives x (suc (suc (suc k))) (suc depth) here (gate ∷ []) names places seen_there has.1 low_first behind here_derivable n fit.1.0
+      body_derives x (suc (suc (suc k))) (suc depth) here (gate ∷ []) names places seen_there has.1 low_first behind here_derivable n fit.0
       (gated d' (suc (suc k)) here.levels e low_gate (column_derives (suc k) ([] ∷ [] ∷ here.levels) (deeper (deeper column)) deep (tt, (tt, here_derivable))
       (suc d'))) in
       let other : SelectDerivable (suc (suc d')) here.levels (selected second) =
-      body_derives y (suc first.next) (suc depth) here (gate_as first.next no ∷ []) names places seen_there has.2 fits behind_no here_derivable n fit.1.1
+      body_derives y (suc first.next) (suc depth) here (gate_as first.next no ∷ []) names places seen_there has.2 fits behind_no here_derivable n fit.1
       (gated d' first.next here.levels no low_no
       (not_true_derives (suc d') ([] ∷ [] ∷ here.levels) e (column_alone (suc k) ([] ∷ [] ∷ here.levels) (deeper (deeper column)) deep (tt, (tt, here_derivable))
       (suc d')))) in
@@ -249,16 +235,16 @@ module _ (schema : Schema) (m : Making) (clears : TableClears schema m.table) (n
       let with : Sighted (suc k) depth s gs names places = clear.with_let schema m clears narrow k depth s fs names places h low sees m.result u has in
       let own = clear.let_own schema m clears narrow k depth s fs names places h low sees m.result u has in
       let from_one : FromDerivable (suc (suc d')) s.levels gs =
-      with_let k depth s fs names places h sight d' (further_is d n) from low sees m.result typed.result u fit has in
+      with_let k depth s fs names places h sight d' (further_is d n) from low sees m.result u has in
       let here : SightIsWritable (with.level ∷ s.levels) = both_derivable (suc k) depth s gs names places with sight (suc d') from_one in
       list_over (suc k) depth s gs names places with sight (suc d') from_one (end_row m (col 0 (length fs) 0) (null_of ty.Text)) (suc k) tt
       (end_derives (suc d') (with.level ∷ s.levels) (col 0 (length fs) 0) (null_of ty.Text)
       (column_derives (suc k) (with.level ∷ s.levels) (record { level = 0; item = length fs; column = 0 }) own here (suc (suc d')))
-      (null_derives (suc d') (with.level ∷ s.levels) ty.Text tt))
+      (null_derives (suc d') (with.level ∷ s.levels) ty.Text))
   body_derives (fails class) k depth s fs names places sees has fits h sight n fit from =
       let d' : ℕ = suc (further_in d n) in
       list_over k depth s fs names places h sight d' from (end_row m (null_of m.result) (class_text m class)) k tt
-      (end_derives d' (h.level ∷ s.levels) (null_of m.result) (class_text m class) (null_derives d' (h.level ∷ s.levels) m.result typed.result)
+      (end_derives d' (h.level ∷ s.levels) (null_of m.result) (class_text m class) (null_derives d' (h.level ∷ s.levels) m.result)
       (class_derives d' (h.level ∷ s.levels) class.code fit))
   body_derives (calls label keys args) k depth s fs names places sees has fits h sight n fit from =
       let d' : ℕ = suc (further_in d n) in
@@ -267,5 +253,5 @@ module _ (schema : Schema) (m : Making) (clears : TableClears schema m.table) (n
   body_derives endless k depth s fs names places sees has fits h sight n fit from =
       let d' : ℕ = suc (further_in d n) in
       list_over k depth s fs names places h sight d' from (end_row m (null_of m.result) (null_of ty.Text)) k tt
-      (end_derives d' (h.level ∷ s.levels) (null_of m.result) (null_of ty.Text) (null_derives d' (h.level ∷ s.levels) m.result typed.result)
-      (null_derives d' (h.level ∷ s.levels) ty.Text tt))
+      (end_derives d' (h.level ∷ s.levels) (null_of m.result) (null_of ty.Text) (null_derives d' (h.level ∷ s.levels) m.result)
+      (null_derives d' (h.level ∷ s.levels) ty.Text))

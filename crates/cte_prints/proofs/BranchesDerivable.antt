@@ -34,7 +34,7 @@ use Rattle.cte_names.proofs.OwnColumns.{Own, own_deeper}
 use Rattle.cte_prints.specs.Derivable.{Derivable}
 use Rattle.cte_prints.specs.InSight.{ItemIsWritable, SightIsWritable}
 use Rattle.cte_prints.specs.DerivableParts.{TableIsDerivable, BodyFits, further_in}
-use Rattle.cte_prints.proofs.BodiesDerivable.{TypesAreDerivable, body_derives}
+use Rattle.cte_prints.proofs.BodiesDerivable.{body_derives}
 use Rattle.cte_prints.proofs.QualifiedParts.{DerivableAt, SelectDerivable, union_derives, lateral_derives}
 use Rattle.cte_prints.proofs.OwnDerivable.{seen_writable, column_alone, gated}
 use Rattle.cte_prints.proofs.SmallDerivable.{is_number_derives}
@@ -43,7 +43,7 @@ use Rattle.cte_prints.proofs.OwnWritableNames.{table_derivable, step_derivable, 
 pub row_in_sight : (w : ℕ) → w < 2 ^ 64 → ItemIsWritable (row_of w)
 row_in_sight w narrow = seen_writable table_name (row_names w) table_derivable (row_derivable w narrow)
 
-module _ (schema : Schema) (m : Making) (clears : TableClears schema m.table) (narrow : length m.tail.columns < 2 ^ 64) (typed : TypesAreDerivable m)
+module _ (schema : Schema) (m : Making) (clears : TableClears schema m.table) (narrow : length m.tail.columns < 2 ^ 64)
     (d tests : ℕ) (derives : (e : ℕ) → d ≤ e → TableIsDerivable (suc e) schema m.table) (tables : Name → Option Listed) (sees : SeesTables schema (under schema tables))
     (few : length m.tail.labels < 2 ^ 63) where
   abbrev width : ℕ
@@ -73,12 +73,12 @@ module _ (schema : Schema) (m : Making) (clears : TableClears schema m.table) (n
       is_number_derives n ls (col 2 0 1) i low (column_alone 1 ls (record { level = 2; item = 0; column = 1 }) own (tt, (tt, here_derivable)) (suc n))
 
   branch_derives : (i b : ℕ) → suc i < 2 ^ 63 → KeysFit width (params_of (slice_get m.anf.blocks b)) (keys_of m i)
-      → HasTree m.table (params_of (slice_get m.anf.blocks b)) (body_of m.anf m.tail b) → BodyFits m.table (body_of m.anf m.tail b) tests →
+      → HasTree m.table (params_of (slice_get m.anf.blocks b)) (body_of m.anf m.tail b) → BodyFits (body_of m.anf m.tail b) tests →
       (walk_of m i b).next ≤ 2 ^ 64
       → SelectDerivable depth here.levels (branch m i b)
   branch_derives i b small fit has fits low =
       let params : List ℕ = params_of (slice_get m.anf.blocks b) in
-      body_derives schema m clears narrow typed d derives (body_of m.anf m.tail b) 2 1 here (gate_as 1 (at_label m (suc i)) ∷ []) params
+      body_derives schema m clears narrow d derives (body_of m.anf m.tail b) 2 1 here (gate_as 1 (at_label m (suc i)) ∷ []) params
       (paired row_place nowhere params (keys_of m i))
       (sees_inside schema outside (row_of width ∷ []) sees) has low
       (clear.behind_gate schema m clears narrow tables sees params (keys_of m i) fit (suc i)) here_derivable tests fits
@@ -109,7 +109,7 @@ module _ (schema : Schema) (m : Making) (clears : TableClears schema m.table) (n
   module _ (slots : List Slot) (names : List ℕ) (as_many : length m.tail.places ≡ length m.tail.labels)
       (placed : EachPair (λ i b places. PlacesAt slots names m.tail.columns (slice_get m.anf.blocks b) places) m.tail.labels m.tail.places)
       (trees : Each (λ b. HasTree m.table (params_of (slice_get m.anf.blocks b)) (body_of m.anf m.tail b)) m.tail.labels)
-      (bodies : Each (λ b. BodyFits m.table (body_of m.anf m.tail b) tests) m.tail.labels) (fits : NumbersFit m) (some : 0 < length m.tail.labels) where
+      (bodies : Each (λ b. BodyFits (body_of m.anf m.tail b) tests) m.tail.labels) (fits : NumbersFit m) (some : 0 < length m.tail.labels) where
     each_branch : (i b : ℕ) → slice_get m.tail.labels i ≡ Some b → SelectDerivable depth here.levels (branch m i b)
     each_branch i b there =
         let lt : i < length m.tail.labels = slice_get_within m.tail.labels i b there in

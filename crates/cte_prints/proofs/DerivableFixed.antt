@@ -10,6 +10,7 @@ use Rattle.away_values.specs.declared.operators.IntOp.TheVariants as int
 use Rattle.away_values.specs.declared.operators.IsTest.TheVariants as is
 use Rattle.away_values.specs.declared.types.Ty.{Ty}
 use Rattle.away_values.specs.declared.types.Ty.TheVariants as ty
+use Rattle.away_values.specs.Operators.{literal_type}
 use Rattle.away_grammar.specs.declared.grammar.Level.{Level}
 use Rattle.away_grammar.specs.declared.grammar.Level.TheVariants as l
 use Rattle.away_grammar.specs.declared.grammar.Mark.{Mark}
@@ -22,8 +23,9 @@ use Rattle.away_trees.specs.declared.queries.Expr.TheBlock as b
 use Rattle.away_trees.specs.declared.schemas.Schema.{Schema}
 use Rattle.away_trees.specs.Algebra.{Algebra}
 use Rattle.away_trees.proofs.Equations as eq
+use Rattle.elaboration.specs.Marks.{plain_op}
 use Rattle.away_names.specs.Lookups.{Scope}
-use Rattle.sql_meaning.specs.Placed.{column_of, placed}
+use Rattle.sql_meaning.specs.Placed.{column_of, placed, replacing, with_cast}
 use Rattle.block_forms.specs.declared.fixed_list.Fixed.{Fixed}
 use Rattle.block_forms.specs.declared.fixed_list.Fixed.TheVariants as fix
 use Rattle.block_forms.specs.FixedList.{a, b as second, null_as, a_is_null, of_two, compared, expression, entries, fixed_list}
@@ -31,9 +33,7 @@ use Rattle.type_soundness.specs.Sorts.{Every}
 use Rattle.qualified_names.specs.Trees.{qualified_expr}
 use Rattle.qualified_names.proofs.QualifyingRules as d
 use Rattle.cte_names.specs.Own.{IsOwn}
-use Rattle.cte_names.proofs.Standing.{placing}
 use Rattle.cte_prints.specs.Derivable.{Derivable}
-use Rattle.cte_prints.specs.Like.{IsCastable}
 use Rattle.cte_prints.proofs.NodesAlike.{derive_cast_to}
 use Rattle.cte_prints.proofs.DeriveNodes as derive
 use Rattle.cte_prints.proofs.DeriveLevels.{loosen, at_or}
@@ -43,30 +43,31 @@ use Rattle.cte_prints.proofs.DerivableEntries.{IsWritableName, null_derivable, w
 
 module _ (s : Scope) (ref : ℕ → Col) where
   abbrev P : Algebra
-  P = placing (column_of ref)
+  P = replacing (column_of ref) with_cast
 
   abbrev At : Level → Expr → Type 0
-  At level e = Derivable 195 (at level) (qualified_expr (placed ref e) s.levels)
+  At level e = Derivable 196 (at level) (qualified_expr (placed ref e) s.levels)
 
-  by : (level : Level) (v w : ℕ → Expr) (u : Expr) → v ≡ w → qualified_expr (w 0) s.levels ≡ u → Derivable 195 (at level) u
-      → Derivable 195 (at level) (qualified_expr (v 0) s.levels)
-  by level v w u e k h = subst (Derivable 195 (at level)) (sym (ap (λ (t : ℕ → Expr). qualified_expr (t 0) s.levels) e ∙ k)) h
+  by : (level : Level) (v w : ℕ → Expr) (u : Expr) → v ≡ w → qualified_expr (w 0) s.levels ≡ u → Derivable 196 (at level) u
+      → Derivable 196 (at level) (qualified_expr (v 0) s.levels)
+  by level v w u e k h = subst (Derivable 196 (at level)) (sym (ap (λ (t : ℕ → Expr). qualified_expr (t 0) s.levels) e ∙ k)) h
 
   slot : (k : ℕ) → SightIsWritable s.levels → IsOwn s.levels (ref k) → At l.Primary (expr.Slot k)
   slot k derivable own =
       let c = derivable_leaves s (λ i. k == i) ref derivable (λ i e. subst (λ j. IsOwn s.levels (ref j)) (eqb-true k i e) own) [] k (eq-eqb k k refl) in
-      subst (Derivable 195 (at l.Primary)) (sym c.is) (derive.derive_qualified c.alias_writable c.name_writable)
+      subst (Derivable 196 (at l.Primary)) (sym c.is) (derive.derive_qualified c.alias_writable c.name_writable)
 
-  -- a number has the cast to bigint
-  number : (n : ℤ) → Derivable 194 (at l.Or) (expr.Int n) → At l.Primary (expr.Int n)
+  -- a number has the cast to its type
+  number : (n : ℤ) → Derivable 195 (at l.Or) (expr.Int n) → At l.Primary (expr.Int n)
   number n h =
-      subst (Derivable 195 (at l.Primary)) (sym (d.cast_is (expr.Int n) ty.Bigint s.levels ∙ ap (λ v. expr.Cast v ty.Bigint) (d.int_is n s.levels)))
-      (derive_cast_to {d = 194} ty.Bigint tt h)
+      subst (Derivable 196 (at l.Primary)) (sym (d.cast_is (expr.Int n) (literal_type n) s.levels ∙ ap (λ v. expr.Cast v (literal_type n)) (d.int_is n s.levels)))
+      (derive_cast_to {d = 195} (literal_type n) h)
 
   is_null : (e : Expr) → At l.Compare e → At l.Is (expr.Is e is.Null false)
   is_null e h = by l.Is _ _ _ (eq.of_is P e is.Null false) (d.is_is _ is.Null false s.levels) (derive.derive_is false m.Null refl h)
 
   two : (op : IntOp) (terminal : Mark) → operator_of l.Sum terminal ≡ Some (chain.Int op) → (x y : Expr) → At l.Product x → At l.Product y → At l.Sum (of_two op x y)
+  unfolding plain_op
   two op terminal e x y h k =
       by l.Sum _ _ _ (eq.of_chain P x ((chain.Int op, y) ∷ [])) (d.chain_is _ _ s.levels) (derive.derive_chain tt h (derive.derive_link terminal e k derive.derive_no_link))
 
@@ -79,72 +80,62 @@ module _ (s : Scope) (ref : ℕ → Col) where
   to_product : (e : Expr) → At l.Primary e → At l.Product e
   to_product e h = loosen l.Product l.Primary (omega arith) h
 
--- an entry, unless it is NULL of the type integer
-abbrev pub IsDerivableEntry : Schema → Expr → Type 0
-IsDerivableEntry schema e = (e ≡ null_as ty.Integer → ⊥) → IsWritableName schema e
-
 module _ (schema : Schema) where
-  null_entry : (u : Ty) → IsCastable u → IsDerivableEntry schema (null_as u)
-  null_entry u k n t s ref h tables derivable own =
-      whole s t ref (null_as u) h (by s ref l.Or _ _ _ (eq.of_cast (P s ref) expr.Null u) refl (null_derivable s u k))
+  null_entry : (u : Ty) → IsWritableName schema (null_as u)
+  null_entry u t s ref tables derivable own =
+      whole s t ref (null_as u) (by s ref l.Or _ _ _ (eq.of_cast (P s ref) expr.Null u) refl (null_derivable s u))
 
-  integer_entry : IsDerivableEntry schema (null_as ty.Integer)
-  integer_entry n = absurd (n refl)
+  first_entry : IsWritableName schema a
+  first_entry t s ref tables derivable own = whole s t ref a (at_or l.Primary (slot s ref 0 derivable (own 0 0 refl)))
 
-  first_entry : IsDerivableEntry schema a
-  first_entry n t s ref h tables derivable own = whole s t ref a h (at_or l.Primary (slot s ref 0 derivable (own 0 0 refl)))
-
-  test_entry : IsDerivableEntry schema a_is_null
+  test_entry : IsWritableName schema a_is_null
   unfolding b.hidden-the_row-Expr-0 denote.Hole.Carrier.hidden
-  test_entry n t s ref h tables derivable own =
-      whole s t ref a_is_null h (at_or l.Is (is_null s ref a (loosen l.Compare l.Primary (omega arith) (slot s ref 0 derivable (own 0 0 refl)))))
+  test_entry t s ref tables derivable own =
+      whole s t ref a_is_null (at_or l.Is (is_null s ref a (loosen l.Compare l.Primary (omega arith) (slot s ref 0 derivable (own 0 0 refl)))))
 
-  not_positive_entry : IsDerivableEntry schema (compared cmp.Le a (expr.Int (pos 0)))
+  not_positive_entry : IsWritableName schema (compared cmp.Le a (expr.Int (pos 0)))
   unfolding b.hidden-the_row-Expr-0 denote.Hole.Carrier.hidden
-  not_positive_entry n t s ref h tables derivable own =
-      whole s t ref (compared cmp.Le a (expr.Int (pos 0))) h
+  not_positive_entry t s ref tables derivable own =
+      whole s t ref (compared cmp.Le a (expr.Int (pos 0)))
       (at_or l.Compare (compare s ref cmp.Le m.LessEqual refl a (expr.Int (pos 0)) (to_range s ref a (slot s ref 0 derivable (own 0 0 refl)))
       (to_range s ref (expr.Int (pos 0)) (number s ref (pos 0) (at_or l.Primary (derive.derive_number (omega arith)))))))
 
-  both_entry : (op : CmpOp) (terminal : Mark) → comparison_of terminal ≡ Some op → IsDerivableEntry schema (compared op a second)
+  both_entry : (op : CmpOp) (terminal : Mark) → comparison_of terminal ≡ Some op → IsWritableName schema (compared op a second)
   unfolding b.hidden-the_row-Expr-0 denote.Hole.Carrier.hidden
-  both_entry op terminal e n t s ref h tables derivable own =
-      whole s t ref (compared op a second) h
+  both_entry op terminal e t s ref tables derivable own =
+      whole s t ref (compared op a second)
       (at_or l.Compare (compare s ref op terminal e a second (to_range s ref a (slot s ref 0 derivable (own 0 0 refl)))
       (to_range s ref second (slot s ref 1 derivable (own 1 1 refl)))))
 
   limit_entry : (op : CmpOp) (terminal : Mark) → comparison_of terminal ≡ Some op → (step : IntOp) (plus : Mark) → operator_of l.Sum plus ≡ Some (chain.Int step)
-      → (x : ℤ) → Derivable 194 (at l.Or) (expr.Int x)
-      → IsDerivableEntry schema (compared op (of_two step (expr.Int x) a) second)
+      → (x : ℤ) → Derivable 195 (at l.Or) (expr.Int x)
+      → IsWritableName schema (compared op (of_two step (expr.Int x) a) second)
   unfolding b.hidden-the_row-Expr-0 b.hidden-the_row-Expr-Chain-1-2-1 denote.Hole.Carrier.hidden
-  limit_entry op terminal e step plus k x c n t s ref h tables derivable own =
-      whole s t ref (compared op (of_two step (expr.Int x) a) second) h
+  limit_entry op terminal e step plus k x c t s ref tables derivable own =
+      whole s t ref (compared op (of_two step (expr.Int x) a) second)
       (at_or l.Compare (compare s ref op terminal e (of_two step (expr.Int x) a) second
       (loosen l.Range l.Sum (omega arith)
       (two s ref step plus k (expr.Int x) a (to_product s ref (expr.Int x) (number s ref x c)) (to_product s ref a (slot s ref 0 derivable (own 0 0 refl)))))
       (to_range s ref second (slot s ref 1 derivable (own 1 1 refl)))))
 
-  step_entry : (op : IntOp) (plus : Mark) → operator_of l.Sum plus ≡ Some (chain.Int op) → IsDerivableEntry schema (of_two op a second)
+  step_entry : (op : IntOp) (plus : Mark) → operator_of l.Sum plus ≡ Some (chain.Int op) → IsWritableName schema (of_two op a second)
   unfolding b.hidden-the_row-Expr-0 b.hidden-the_row-Expr-Chain-1-2-1 denote.Hole.Carrier.hidden
-  step_entry op plus k n t s ref h tables derivable own =
-      whole s t ref (of_two op a second) h
+  step_entry op plus k t s ref tables derivable own =
+      whole s t ref (of_two op a second)
       (at_or l.Sum (two s ref op plus k a second (to_product s ref a (slot s ref 0 derivable (own 0 0 refl)))
       (to_product s ref second (slot s ref 1 derivable (own 1 1 refl)))))
 
-  one_entry : IsDerivableEntry schema (expr.Cast (expr.Int (pos 1)) ty.Bigint)
-  one_entry n t s ref h tables derivable own =
-      whole s t ref (expr.Cast (expr.Int (pos 1)) ty.Bigint) h
+  one_entry : IsWritableName schema (expr.Cast (expr.Int (pos 1)) ty.Bigint)
+  one_entry t s ref tables derivable own =
+      whole s t ref (expr.Cast (expr.Int (pos 1)) ty.Bigint)
       (by s ref l.Or _ _ _ (eq.of_cast (P s ref) (expr.Int (pos 1)) ty.Bigint)
       (d.cast_is _ ty.Bigint s.levels ∙ ap (λ v. expr.Cast v ty.Bigint)
-      (d.cast_is _ ty.Bigint s.levels ∙ ap (λ v. expr.Cast v ty.Bigint) (d.int_is (pos 1) s.levels)))
-      (at_or l.Primary (derive_cast_to {d = 194} ty.Bigint tt
-      (at_or l.Primary (derive_cast_to {d = 193} ty.Bigint tt (at_or l.Primary (derive.derive_number (omega arith))))))))
+      (d.cast_is _ (literal_type (pos 1)) s.levels ∙ ap (λ v. expr.Cast v (literal_type (pos 1))) (d.int_is (pos 1) s.levels)))
+      (at_or l.Primary (derive_cast_to {d = 195} ty.Bigint
+      (at_or l.Primary (derive_cast_to {d = 194} (literal_type (pos 1)) (at_or l.Primary (derive.derive_number (omega arith))))))))
 
-  entry_derivable : (e : Fixed) → IsDerivableEntry schema (expression e)
-  entry_derivable (fix.Null ty.Bigint) = null_entry ty.Bigint tt
-  entry_derivable (fix.Null ty.Boolean) = null_entry ty.Boolean tt
-  entry_derivable (fix.Null ty.Text) = null_entry ty.Text tt
-  entry_derivable (fix.Null ty.Integer) = integer_entry
+  entry_derivable : (e : Fixed) → IsWritableName schema (expression e)
+  entry_derivable (fix.Null t) = null_entry t
   entry_derivable (fix.IsNull t) = test_entry
   entry_derivable fix.NotPositive = not_positive_entry
   entry_derivable fix.AtMost = both_entry cmp.Le m.LessEqual refl
@@ -156,9 +147,9 @@ module _ (schema : Schema) where
   entry_derivable fix.One = one_entry
   entry_derivable fix.Copy = first_entry
 
-  all_derivable : (xs : List Fixed) → Every (IsDerivableEntry schema) (map expression xs)
+  all_derivable : (xs : List Fixed) → Every (IsWritableName schema) (map expression xs)
   all_derivable [] = tt
   all_derivable (x ∷ xs) = (entry_derivable x, all_derivable xs)
 
-  pub fixed_derivable : Every (IsDerivableEntry schema) fixed_list
+  pub fixed_derivable : Every (IsWritableName schema) fixed_list
   fixed_derivable = all_derivable entries

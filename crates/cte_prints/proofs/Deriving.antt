@@ -24,7 +24,6 @@ use Rattle.away_trees.specs.declared.queries.Recursive.{Recursive}
 use Rattle.away_trees.specs.declared.queries.Select.{Select}
 use Rattle.away_trees.specs.declared.queries.Expr.TheViews.{roll-FromItem, roll-Item, roll-Query, roll-Recursive, roll-Select}
 use Rattle.qualified_names.proofs.Gives.{Every}
-use Rattle.cte_types.specs.Typed.{HasKind}
 use Rattle.cte_prints.specs.Derivable.{Derivable}
 use Rattle.cte_prints.specs.DerivesIn.{DerivesIn}
 use Rattle.cte_prints.specs.ReadsIn as s
@@ -96,39 +95,39 @@ module _ (d : ℕ) where
 
 -- ---- casts
 
-type_is : (t : Ty) → HasKind t → type_named (type_name t) ≡ Some t
+type_is : (t : Ty) → type_named (type_name t) ≡ Some t
 unfolding type_named
-type_is ty.Bigint h = refl
-type_is ty.Boolean h = refl
-type_is ty.Text h = refl
-type_is ty.Integer h = absurd h
+type_is ty.Bigint = refl
+type_is ty.Boolean = refl
+type_is ty.Text = refl
+type_is ty.Integer = refl
 
-type_derivable : (t : Ty) → HasKind t → NameIsWritable (type_name t)
+type_derivable : (t : Ty) → NameIsWritable (type_name t)
 unfolding is_reserved
-type_derivable ty.Bigint h = (record { starts = refl; plain = refl; short = omega arith }, refl, refl)
-type_derivable ty.Boolean h = (record { starts = refl; plain = refl; short = omega arith }, refl, refl)
-type_derivable ty.Text h = (record { starts = refl; plain = refl; short = omega arith }, refl, refl)
-type_derivable ty.Integer h = absurd h
+type_derivable ty.Bigint = (record { starts = refl; plain = refl; short = omega arith }, refl, refl)
+type_derivable ty.Boolean = (record { starts = refl; plain = refl; short = omega arith }, refl, refl)
+type_derivable ty.Text = (record { starts = refl; plain = refl; short = omega arith }, refl, refl)
+type_derivable ty.Integer = (record { starts = refl; plain = refl; short = omega arith }, refl, refl)
 
-pub cast_alone : (d : ℕ) (t : Ty) (x : Expr) → HasKind t → Derivable d (at l.Or) x → Derivable (suc d) (at l.Primary) (expr.Cast x t)
-cast_alone d t x k h rest =
+pub cast_alone : (d : ℕ) (t : Ty) (x : Expr) → Derivable d (at l.Or) x → Derivable (suc d) (at l.Primary) (expr.Cast x t)
+cast_alone d t x h rest =
     let p = h (mark m.As ∷ name (type_name t) ∷ mark m.Close ∷ rest) in
     record {
       terminals = mark m.Cast ∷ mark m.Open ∷ p.terminals;
-      writable = λ r. (tt, (tt, p.writable (tt, (type_derivable t k, (tt, r)))));
+      writable = λ r. (tt, (tt, p.writable (tt, (type_derivable t, (tt, r)))));
       derives = s.cast (type_name t)
-          (type_is t k) p.derives;
+          (type_is t) p.derives;
     }
 
-pub cast_derivable : (d : ℕ) (t : Ty) (x : Expr) → HasKind t → Derivable d (at l.Or) x → Derivable (suc d) (at l.Or) (expr.Cast x t)
-cast_derivable d t x k h = stands_alone (suc d) (expr.Cast x t) (cast_alone d t x k h)
+pub cast_derivable : (d : ℕ) (t : Ty) (x : Expr) → Derivable d (at l.Or) x → Derivable (suc d) (at l.Or) (expr.Cast x t)
+cast_derivable d t x h = stands_alone (suc d) (expr.Cast x t) (cast_alone d t x h)
 
-pub param_derivable : (d i : ℕ) (t : Ty) → HasKind t → 1 ≤ i → i ≤ 64 → Derivable (suc d) (at l.Or) (expr.Param i t)
-param_derivable d i t k low high rest =
+pub param_derivable : (d i : ℕ) (t : Ty) → 1 ≤ i → i ≤ 64 → Derivable (suc d) (at l.Or) (expr.Param i t)
+param_derivable d i t low high rest =
     record {
       terminals = mark m.Cast ∷ mark m.Open ∷ parameter i ∷ mark m.As ∷ name (type_name t) ∷ mark m.Close ∷ rest;
-      writable = λ r. (tt, (tt, ((low, high), (tt, (type_derivable t k, (tt, r))))));
-      derives = anywhere (s.typed_parameter (type_name t) (type_is t k));
+      writable = λ r. (tt, (tt, ((low, high), (tt, (type_derivable t, (tt, r))))));
+      derives = anywhere (s.typed_parameter (type_name t) (type_is t));
     }
 
 module _ (d : ℕ) where

@@ -14,6 +14,7 @@ use Rattle.away_trees.proofs.Equations as eq
 use Rattle.away_names.specs.Lookups.{Name, Level, Scope}
 use Rattle.away_names.specs.Naming as n
 use Rattle.away_names.specs.Notes.{joined, each, held}
+use Rattle.elaboration.specs.Marks.{plain_op}
 use Rattle.sql_meaning.specs.Reads.{Read, Reads, reading, of_list, of_option}
 use Rattle.sql_meaning.proofs.Uses.{left, right}
 use Rattle.type_soundness.specs.Sorts.{Every}
@@ -74,13 +75,19 @@ module _ (q : Scope) (slots : ℕ → Bool) (leaf : ℕ → ℕ → Expr) (deriv
       (s : Scope) (ms : List Level) → Stands q s ms → Every (λ l. Clean (n.linked s l).note) ls
       → May (flat_map (λ (l : ChainOp × Reads). l.1 (length ms)) (map (λ l. eq.link_of reading l) (map (λ l. (n.linked s l).it) ls)))
       → IsLike links ws (map (qualified_link (ms ++ q.levels))
-      (map (λ (l : ChainOp × (ℕ → Expr)). (l.0, l.1 (length ms))) (map (λ l. eq.link_of P l) (map (λ l. (n.linked s l).it) ls))))
+      (map (λ (l : ChainOp × (ℕ → Expr)). (plain_op l.0, l.1 (length ms))) (map (λ l. eq.link_of P l) (map (λ l. (n.linked s l).it) ls))))
 
-  pub one_link : (o : ChainOp) (w : Expr) (t : n.Term) (ws : List (ChainOp × Expr)) (ls : List (ChainOp × n.Term)) → LikeTerm w t → LikeLinks ws ls
+  -- the operation is written without a mark
+  pub one_link : (o : ChainOp) → plain_op o ≡ o → (w : Expr) (t : n.Term) (ws : List (ChainOp × Expr)) (ls : List (ChainOp × n.Term)) → LikeTerm w t → LikeLinks ws ls
       → LikeLinks ((o, w) ∷ ws) ((o, t) ∷ ls)
-  one_link o w t ws ls h r s ms st k a =
+  one_link o p w t ws ls h r s ms st k a =
       let here : List Read = expr_of reading (t.judge s).it (length ms) in
-      like.one_link o (h s ms st k.0 (one here _ a)) (r s ms st k.1 (two here _ a))
+      let l : List Level = ms ++ q.levels in
+      subst (λ o2. IsLike links ((o, w) ∷ ws)
+      ((o2, qualified_expr (expr_of P (t.judge s).it (length ms)) l)
+      ∷ map (qualified_link l) (map (λ (l : ChainOp × (ℕ → Expr)). (plain_op l.0, l.1 (length ms))) (map (λ l. eq.link_of P l) (map (λ l. (n.linked s l).it) ls)))))
+      (sym (ap plain_op p ∙ p))
+      (like.one_link o (h s ms st k.0 (one here _ a)) (r s ms st k.1 (two here _ a)))
 
   abbrev pub LikeArms : List (Expr × Expr) → List (n.Term × n.Term) → Type 0
   LikeArms ws as_ =
@@ -121,10 +128,10 @@ module _ (q : Scope) (slots : ℕ → Bool) (leaf : ℕ → ℕ → Expr) (deriv
       → Clean (each (n.linked s) ls).note
       → May (flat_map (λ (l : ChainOp × Reads). l.1 (length ms)) (map (λ l. eq.link_of reading l) (each (n.linked s) ls).it))
       → IsLike links ws (map (qualified_link (ms ++ q.levels))
-      (map (λ (l : ChainOp × (ℕ → Expr)). (l.0, l.1 (length ms))) (map (λ l. eq.link_of P l) (each (n.linked s) ls).it)))
+      (map (λ (l : ChainOp × (ℕ → Expr)). (plain_op l.0, l.1 (length ms))) (map (λ l. eq.link_of P l) (each (n.linked s) ls).it)))
   all_links ws ls h s ms st k a =
       subst (λ xs. IsLike links ws
-      (map (qualified_link (ms ++ q.levels)) (map (λ (l : ChainOp × (ℕ → Expr)). (l.0, l.1 (length ms))) (map (λ l. eq.link_of P l) xs))))
+      (map (qualified_link (ms ++ q.levels)) (map (λ (l : ChainOp × (ℕ → Expr)). (plain_op l.0, l.1 (length ms))) (map (λ l. eq.link_of P l) xs))))
       (sym (each_is (n.linked s) ls))
       (h s ms st (each_clean (n.linked s) ls k)
       (subst (λ xs. May (flat_map (λ (l : ChainOp × Reads). l.1 (length ms)) (map (λ l. eq.link_of reading l) xs))) (each_is (n.linked s) ls) a))

@@ -32,7 +32,6 @@ use Rattle.qualified_names.proofs.Gives.{Every}
 use Rattle.sql_meaning.specs.Trees.{col, truth, number, null_of}
 use Rattle.cte_parts.specs.Names.{table_name, step_name, go_name, label_name, result_name, fault_name, value_names, row_names}
 use Rattle.cte_parts.specs.Trees.{working}
-use Rattle.cte_types.specs.Typed.{HasKind}
 use Rattle.cte_names.proofs.BranchesClear.{row_of, row_own}
 use Rattle.cte_names.proofs.Differences.{every_both}
 use Rattle.cte_names.proofs.FilesClear as clear
@@ -42,7 +41,6 @@ use Rattle.cte_names.proofs.OwnNames.{letter_apart}
 use Rattle.cte_names.proofs.PassedNames.{beside_holds}
 use Rattle.cte_prints.specs.Derivable.{Derivable}
 use Rattle.cte_prints.specs.InSight.{SightIsWritable}
-use Rattle.cte_prints.proofs.BodiesDerivable.{TypesAreDerivable}
 use Rattle.cte_prints.proofs.BranchesDerivable.{row_in_sight}
 use Rattle.cte_prints.proofs.QualifiedParts.{DerivableAt, SelectDerivable, select_over, working_derives}
 use Rattle.cte_prints.proofs.OwnDerivable.{seen_writable, column_alone, column_derives, columns_derive}
@@ -56,7 +54,7 @@ QueryFields = Query-F Expr Source FromItem Item Key Query Recursive Select
 abbrev Fields : Type 0
 Fields = Recursive-F Expr Source FromItem Item Key Query Recursive Select
 
-module _ (schema : Schema) (m : Making) (narrow : length m.tail.columns < 2 ^ 64) (typed : TypesAreDerivable m) (n : ℕ) where
+module _ (schema : Schema) (m : Making) (narrow : length m.tail.columns < 2 ^ 64) (n : ℕ) where
   abbrev width : ℕ
   width = length m.tail.columns
 
@@ -66,16 +64,16 @@ module _ (schema : Schema) (m : Making) (narrow : length m.tail.columns < 2 ^ 64
   -- ---- the first row
 
   module _ (entry : ℕ) (few : (p : ℕ) → Among (params_of (slice_get m.anf.blocks entry)) p → p < 64) where
-    argument_derives : (t : Ty) (keys : List ℕ) (i : ℕ) → HasKind t → DerivableAt (suc n) ([] ∷ [])
+    argument_derives : (t : Ty) (keys : List ℕ) (i : ℕ) → DerivableAt (suc n) ([] ∷ [])
         (argument m t (beside keys (params_of (slice_get m.anf.blocks entry)) i))
-    argument_derives t keys i kind =
-        beside_holds (λ o. DerivableAt (suc n) ([] ∷ []) (argument m t o)) keys (params_of (slice_get m.anf.blocks entry)) i (null_derives n ([] ∷ []) t kind)
-        (λ p among. parameter_derives n ([] ∷ []) (suc p) (m.types p) (typed.types p) (omega arith) (omega (arith, few p among)))
+    argument_derives t keys i =
+        beside_holds (λ o. DerivableAt (suc n) ([] ∷ []) (argument m t o)) keys (params_of (slice_get m.anf.blocks entry)) i (null_derives n ([] ∷ []) t)
+        (λ p among. parameter_derives n ([] ∷ []) (suc p) (m.types p) (omega arith) (omega (arith, few p among)))
 
-    arguments_derive : (i : ℕ) (keys : List ℕ) (ts : List Ty) → Every HasKind ts → Every (DerivableAt (suc n) ([] ∷ []))
+    arguments_derive : (i : ℕ) (keys : List ℕ) (ts : List Ty) → Every (DerivableAt (suc n) ([] ∷ []))
         (arguments_at m i keys (params_of (slice_get m.anf.blocks entry)) ts)
-    arguments_derive i keys [] kinds = tt
-    arguments_derive i keys (t ∷ ts) kinds = (argument_derives t keys i kinds.0, arguments_derive (suc i) keys ts kinds.1)
+    arguments_derive i keys [] = tt
+    arguments_derive i keys (t ∷ ts) = (argument_derives t keys i, arguments_derive (suc i) keys ts)
 
     pub start_derives : suc (entry_place m.table m.types m.result m.anf m.tail entry) < 2 ^ 63 → SelectDerivable (suc n) [] (start m entry)
     start_derives low =
@@ -87,8 +85,8 @@ module _ (schema : Schema) (m : Making) (narrow : length m.tail.columns < 2 ^ 64
           (
             number_derives n ([] ∷ []) (suc place) low,
             every_both (DerivableAt (suc n) ([] ∷ [])) arguments ends
-                (arguments_derive 0 (keys_of m place) m.tail.columns typed.columns)
-                (null_derives n ([] ∷ []) m.result typed.result, (null_derives n ([] ∷ []) ty.Text tt, tt)),
+                (arguments_derive 0 (keys_of m place) m.tail.columns)
+                (null_derives n ([] ∷ []) m.result, (null_derives n ([] ∷ []) ty.Text, tt)),
           ),
         ) tt
 

@@ -2,7 +2,8 @@
 use Rattle.std.proofs.Common.{◌≡◌, refl, ap, sym, subst, ◌∙◌, ℕ, zero, suc, ◌+◌, ◌<◌, ◌≤◌, ◌^◌, pos, arith, false, List, [], ◌∷◌, ◌++◌, map, length, Option, Some, None, option_map, codes, decimal}
 use Rattle.std.proofs.lemmas.Fmt.{decimal_is_IsNumeral}
 use Rattle.away_values.specs.declared.operators.CmpOp.{CmpOp}
-use Rattle.away_values.specs.declared.types.Ty.TheVariants as ty
+use Rattle.away_values.specs.declared.types.Ty.{Ty}
+use Rattle.away_values.specs.Operators.{literal_type}
 use Rattle.away_grammar.specs.declared.grammar.Mark.{Mark}
 use Rattle.away_grammar.specs.declared.grammar.Level.TheVariants as l
 use Rattle.away_grammar.specs.Grammar.{at, from_item, from_clause, limit_clause, query, comparison_of}
@@ -23,7 +24,7 @@ use Rattle.away_trees.specs.Limits.{most_nodes}
 use Rattle.away_trees.proofs.Equations as eq
 use Rattle.sql_meaning.specs.Template.{count_from}
 use Rattle.sql_meaning.specs.Trees.{col, item, one}
-use Rattle.select_into.specs.Wrapped.{value_name, scalar_over, count_compared, pick}
+use Rattle.select_into.specs.Wrapped.{value_name, scalar_over, count_compared, pick, pick_as}
 use Rattle.qualified_names.specs.Sight.{Sight, reference}
 use Rattle.qualified_names.specs.Trees.{qualified_expr, qualified_in, qualified_part, qualified_from, qualified_shown}
 use Rattle.qualified_names.proofs.Gives.{Every}
@@ -35,7 +36,7 @@ use Rattle.cte_prints.specs.Derivable.{Derivable}
 use Rattle.cte_prints.proofs.DeriveLevels.{at_or}
 use Rattle.cte_prints.proofs.DeriveNodes as node
 use Rattle.cte_prints.proofs.DeriveQueries as part
-use Rattle.cte_prints.proofs.Deriving.{names_writable, qualified_derivable, cast_alone, int_derivable, stands_alone}
+use Rattle.cte_prints.proofs.Deriving.{names_writable, qualified_derivable, cast_alone, cast_derivable, int_derivable, stands_alone}
 use Rattle.cte_prints.proofs.OwnWritableNames.{NameIsWritable, digits_go_on, digits_folded, short_digits}
 use Rattle.cte_prints.proofs.QualifiedParts.{DerivableAt, MaybeDerivableAt, Fields, qualified_fields, query_is, item_is}
 
@@ -117,10 +118,10 @@ ranged h =
     node.derive_unranged
     (node.derive_one {level = l.Concat} tt (node.derive_one {level = l.Sum} tt (node.derive_one {level = l.Product} tt (node.derive_unsigned (node.derive_uncast h)))))
 
-number_alone : (n : ℕ) (i : ℕ) (s : Sight) → i < 2 ^ 63 → Derivable (suc n) (at l.Primary) (qualified_expr (expr.Cast (expr.Int (pos i)) ty.Bigint) s)
-number_alone n i s low =
-    subst (Derivable (suc n) (at l.Primary)) (sym (d.cast_is (expr.Int (pos i)) ty.Bigint s ∙ ap (λ x. expr.Cast x ty.Bigint) (d.int_is (pos i) s)))
-    (cast_alone n ty.Bigint (expr.Int (pos i)) tt (int_derivable n i low))
+number_alone : (n : ℕ) (i : ℕ) (t : Ty) (s : Sight) → i < 2 ^ 63 → Derivable (suc n) (at l.Primary) (qualified_expr (expr.Cast (expr.Int (pos i)) t) s)
+number_alone n i t s low =
+    subst (Derivable (suc n) (at l.Primary)) (sym (d.cast_is (expr.Int (pos i)) t s ∙ ap (λ x. expr.Cast x t) (d.int_is (pos i) s)))
+    (cast_alone n t (expr.Int (pos i)) (int_derivable n i low))
 
 -- ---- tests and picks, where this stands for slots
 
@@ -138,12 +139,12 @@ module _ (leaf : ℕ → ℕ → Expr) (n : ℕ) (s : Sight) (q : Select) (few :
       subst (λ (f : ℕ → Expr). Derivable (suc (suc n)) (at l.Or) (qualified_expr (f 0) s))
       (sym
       (eq.of_compare P op (scalar_over expr.CountRows None q) (expr.Int (pos i))
-      ∙ ap (λ (f : ℕ → Expr). λ d. expr.Compare op (f d) (expr.Cast (expr.Int (pos i)) ty.Bigint)) (over_placed leaf expr.CountRows None q)))
-      (subst (Derivable (suc (suc n)) (at l.Or)) (sym (d.compare_is op (expr.Scalar (one (over_at leaf expr.CountRows None q x))) (expr.Cast (expr.Int (pos i)) ty.Bigint) s))
+      ∙ ap (λ (f : ℕ → Expr). λ d. expr.Compare op (f d) (expr.Cast (expr.Int (pos i)) (literal_type (pos i)))) (over_placed leaf expr.CountRows None q)))
+      (subst (Derivable (suc (suc n)) (at l.Or)) (sym (d.compare_is op (expr.Scalar (one (over_at leaf expr.CountRows None q x))) (expr.Cast (expr.Int (pos i)) (literal_type (pos i))) s))
       (at_or l.Compare
       (node.derive_compare terminal is
       (ranged (scalar_derives leaf n s q x few inside expr.CountRows None (subst (Derivable (suc n) (at l.Or)) (sym (d.countrows_is (here leaf n s q x few inside))) (at_or l.Primary node.derive_count_rows)) tt))
-      (ranged (number_alone (suc n) i s low)))))
+      (ranged (number_alone (suc n) i (literal_type (pos i)) s low)))))
 
   pub pick_derives : (place : ℕ) → place < length (out-Select q).list → Derivable (suc (suc n)) (at l.Or) (qualified_expr (expr_of P (pick q place) 0) s)
   pick_derives place lt =
@@ -153,7 +154,16 @@ module _ (leaf : ℕ → ℕ → Expr) (n : ℕ) (s : Sight) (q : Select) (few :
       d.column_is (place_at place) sight
       ∙ (ap (λ level. reference (level ∷ s) (place_at place)) (seen_is leaf n s q x few inside place lt) ∙ called_so many place s lt) in
       subst (λ (f : ℕ → Expr). Derivable (suc (suc n)) (at l.Or) (qualified_expr (f 0) s)) (sym (over_placed leaf (col 0 0 place) (Some (expr.Int (pos 1))) q))
-      (stands_alone (suc (suc n)) (qualified_expr (expr.Scalar (one (over_at leaf (expr.Column (place_at place)) (Some (expr.Cast (expr.Int (pos 1)) ty.Bigint)) q x))) s)
-      (scalar_derives leaf n s q x few inside (expr.Column (place_at place)) (Some (expr.Cast (expr.Int (pos 1)) ty.Bigint))
+      (stands_alone (suc (suc n)) (qualified_expr (expr.Scalar (one (over_at leaf (expr.Column (place_at place)) (Some (expr.Cast (expr.Int (pos 1)) (literal_type (pos 1)))) q x))) s)
+      (scalar_derives leaf n s q x few inside (expr.Column (place_at place)) (Some (expr.Cast (expr.Int (pos 1)) (literal_type (pos 1))))
       (subst (Derivable (suc n) (at l.Or)) (sym named) (qualified_derivable (suc n) alias (value_name place) alias_writable (value_writable place (omega (arith, lt, few)))))
-      (at_or l.Primary (number_alone n 1 sight (omega arith)))))
+      (at_or l.Primary (number_alone n 1 (literal_type (pos 1)) sight (omega arith)))))
+
+  -- and under a cast
+  pub pick_as_derives : (cast : Option Ty) (place : ℕ) → place < length (out-Select q).list
+      → Derivable (suc (suc (suc n))) (at l.Or) (qualified_expr (expr_of P (pick_as cast q place) 0) s)
+  pick_as_derives None place lt = node.deepened (suc (suc n)) (suc (suc (suc n))) (omega arith) (pick_derives place lt)
+  pick_as_derives (Some t) place lt =
+      subst (λ (f : ℕ → Expr). Derivable (suc (suc (suc n))) (at l.Or) (qualified_expr (f 0) s)) (sym (eq.of_cast P (pick q place) t))
+      (subst (Derivable (suc (suc (suc n))) (at l.Or)) (sym (d.cast_is (expr_of P (pick q place) 0) t s))
+      (cast_derivable (suc (suc n)) t (qualified_expr (expr_of P (pick q place) 0) s) (pick_derives place lt)))

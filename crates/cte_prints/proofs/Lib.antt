@@ -29,6 +29,8 @@ pub mod LikeFrom
 pub mod LikeSelects
 pub mod LikeTrees
 pub mod WrittenSources
+pub mod PlainPlaced
+pub mod UnmarkedSelects
 pub mod DerivableEntries
 pub mod ScalarsInside
 pub mod PickedLike
@@ -47,9 +49,6 @@ pub mod BranchesDerivable
 pub mod FilesDerivable
 pub mod BodiesFit
 pub mod TreesDerivable
-pub mod SpelledTypes
-pub mod SlotTypes
-pub mod ColumnTypes
 pub mod FewLabels
 pub mod Linked
 pub mod LinkedItems

@@ -76,10 +76,12 @@ names_writable (r.another_name a) h more = derive_query.derive_another_name h.0 
 item_derivable : {d : ℕ} {x : Expr} {u : Item} → parts.LikeItem (record { expr = x; alias = None }) u → ((v : Expr) → IsLike value x v → Derivable d (at l.Or) v)
     → Derivable d item u
 item_derivable (parts.an_item {u = v} h) c = derive_query.derive_item (c v h)
+item_derivable (parts.a_bare_item {u = v} h) c = derive_query.derive_item (c v h)
 
 item_as_derivable : {d : ℕ} {x : Expr} {n : List ℕ} {u : Item} → Writable (name n) → parts.LikeItem (record { expr = x; alias = Some n }) u
     → ((v : Expr) → IsLike value x v → Derivable d (at l.Or) v) → Derivable d item u
 item_as_derivable g (parts.an_item {u = v} h) c = derive_query.derive_item_as g (c v h)
+item_as_derivable g (parts.a_bare_item {u = v} h) c = derive_query.derive_item (c v h)
 
 key_derivable : {d : ℕ} {x : Expr} {u : Key} → parts.LikeKey (record { expr = x; descending = false }) u → ((v : Expr) → IsLike value x v → Derivable d (at l.Or) v)
     → Derivable d key u
@@ -155,11 +157,11 @@ like_derivable (r.least {d = d}) h u j =
 like_derivable (r.uncast {d = d} a) h u j = derive.derive_uncast (deepened (3 * d + 1) (3 * d + 3) (omega arith) (like_derivable a h u j))
 like_derivable (r.cast_once {d = d} {x = x} {ty = ty} t g a) h u j =
     deepened (suc (3 * d + 1)) (3 * d + 3) (omega arith)
-    (derive.derive_uncast (node.cast_derivable ty (node.castable t ty g) (shape _ u (ex.Cast x ty) (see.see_cast x ty) j) (λ w i. at_or l.Primary (like_derivable a h w i))))
+    (derive.derive_uncast (node.cast_derivable ty (shape _ u (ex.Cast x ty) (see.see_cast x ty) j) (λ w i. at_or l.Primary (like_derivable a h w i))))
 like_derivable (r.cast_twice {d = d} {x = x} {first = first} {second = second} t s g f a) h u j =
     deepened (suc (suc (3 * d + 1))) (3 * d + 3) (omega arith)
     (derive.derive_uncast
-    (node.casts_derivable first second (node.castable t first g) (node.castable s second f)
+    (node.casts_derivable first second
     (shape _ u (ex.Cast (e.Cast x first) second) (see.see_cast (e.Cast x first) second) j) (λ w i. at_or l.Primary (like_derivable a h w i))))
 like_derivable (r.number {d = d} {n = n} g) h u j = deepened (suc 0) (3 * d + 1) (omega arith) (node.int_derivable (pos n) l.Primary (derive.derive_number g) j)
 like_derivable (r.text {d = d} {t = t}) h u j = deepened (suc 0) (3 * d + 1) (omega arith) (node.str_derivable t h.0 j)
@@ -171,7 +173,7 @@ like_derivable (r.short_parameter {i = i} {ty = ty} t g) h u j = absurd (shape _
 like_derivable (r.parentheses {d = d} a) h u j = inside d (derive.derive_parentheses (like_derivable a h.1 u j))
 like_derivable (r.scalar {d = d} {q = q} a) h u j = inside d (node.scalar_derivable (shape _ u (ex.Scalar q) (see.see_scalar q) j) (λ p i. like_derivable a h.1 p i))
 like_derivable (r.cast {d = d} {x = x} {ty = ty} t g a) h u j =
-    inside d (node.cast_derivable ty (node.castable t ty g) (shape _ u (ex.Cast x ty) (see.see_cast x ty) j) (λ w i. like_derivable a h.1.1 w i))
+    inside d (node.cast_derivable ty (shape _ u (ex.Cast x ty) (see.see_cast x ty) j) (λ w i. like_derivable a h.1.1 w i))
 like_derivable (r.exists {d = d} {q = q} a) h u j = inside d (node.exists_derivable (shape _ u (ex.Exists q) (see.see_exists q) j) (λ p i. like_derivable a h.1.1 p i))
 like_derivable (r.cases {d = d} {a = c} {more = more} a) h u j =
     inside d (node.cases_derivable (shape _ u (ex.Cases (c ∷ more) None) (see.see_cases (c ∷ more) None) j) (λ w i. like_derivable a h.1 w i))

@@ -3,6 +3,7 @@ use Rattle.std.proofs.Common.{◌≡◌, ap, sym, subst, ◌∙◌, ℕ, Bool, t
 use Rattle.away_values.specs.declared.operators.ChainOp.{ChainOp}
 use Rattle.away_values.specs.declared.types.Ty.{Ty}
 use Rattle.away_values.specs.declared.types.Ty.TheVariants as ty
+use Rattle.away_values.specs.Operators.{literal_type}
 use Rattle.away_trees.specs.declared.queries.Expr.{Expr}
 use Rattle.away_trees.specs.declared.queries.Expr.TheVariants as expr
 use Rattle.away_trees.specs.declared.queries.Expr.TheOpen as ex
@@ -113,7 +114,7 @@ module _ (q : Scope) (slots : ℕ → Bool) (leaf : ℕ → ℕ → Expr) (leave
       (from_.subquery q slots leaf derive w (query_of naming w) alias columns lateral h k)
 
   pub all_like : {k : Kind} {w : Tree k} → NamesAreWritable k w → Holds k w
-  all_like (derivable.int x) = λ s ms st k a. shown _ _ _ (with_cast (expr.Int x) ty.Bigint _ (d.int_is x _)) (like.int x)
+  all_like (derivable.int x) = λ s ms st k a. shown _ _ _ (with_cast (expr.Int x) (literal_type x) _ (d.int_is x _)) (like.int x)
   all_like (derivable.str t) = λ s ms st k a. shown _ _ _ (with_cast (expr.Str t) ty.Text _ (d.str_is t _)) (like.str t)
   all_like (derivable.bool v) = λ s ms st k a. shown _ _ _ (with_cast (expr.Bool v) ty.Boolean _ (d.bool_is v _)) (like.bool v)
   all_like derivable.null = λ s ms st k a. shown _ _ _ (d.null_is _) like.null
@@ -139,7 +140,7 @@ module _ (q : Scope) (slots : ℕ → Bool) (leaf : ℕ → ℕ → Expr) (leave
   all_like derivable.no_value = λ s ms st k a. like.no_value
   all_like (derivable.one_value {x = x} {xs = xs} h r) = node.one_value q slots leaf derive x (T x) xs (Ts xs) (all_like h) (all_like r)
   all_like derivable.no_link = λ s ms st k a. like.no_link
-  all_like (derivable.one_link {x = x} {xs = xs} o h r) = node.one_link q slots leaf derive o x (T x) xs (Ls xs) (all_like h) (all_like r)
+  all_like (derivable.one_link {x = x} {xs = xs} o p h r) = node.one_link q slots leaf derive o p x (T x) xs (Ls xs) (all_like h) (all_like r)
   all_like derivable.no_arm = λ s ms st k a. like.no_arm
   all_like (derivable.one_arm {x = x} {y = y} {xs = xs} h i r) = node.one_arm q slots leaf derive x y (T x) (T y) xs (As xs) (all_like h) (all_like i) (all_like r)
   all_like derivable.nothing = λ s ms st k a. like.nothing

@@ -1,5 +1,5 @@
 -- No item of a SELECT INTO of a function that is read is a chain without links.
-use Rattle.std.proofs.Common.{◌≡◌, refl, ap, sym, subst, ◌∙◌, ℕ, zero, suc, List, [], ◌∷◌, map, fold, Option, Some, None}
+use Rattle.std.proofs.Common.{◌≡◌, refl, ap, sym, subst, ◌∙◌, ℕ, zero, suc, Bool, List, [], ◌∷◌, map, fold, drop, Option, Some, None}
 use Rattle.away_grammar.specs.FunctionGrammar.{ReadsFunction}
 use Rattle.away_grammar.specs.Grammar.{Reads, item, items, select, selects, query}
 use Rattle.away_grammar.specs.Grammar as g
@@ -35,20 +35,26 @@ use Rattle.away_trees.specs.Algebra.{item_of, query_of, select_of}
 use Rattle.away_trees.specs.StatementAlgebra.{stmt_of, stmts_of, branches_of, else_of}
 use Rattle.away_trees.proofs.Equations as eq
 use Rattle.away_types.specs.CheckedFunctions.{IsChecked}
+use Rattle.away_types.specs.FunctionChecks.{around_in, body_of, slots_of}
 use Rattle.away_types.specs.declared.slots.Slot.{Slot}
+use Rattle.away_typing.specs.declared.kind.Kind.{Kind}
+use Rattle.away_typing.specs.Typing.{Places}
+use Rattle.elaboration.specs.Converting.{Around, converted, first_mark, into_converted, items_marked, select_marked}
+use Rattle.elaboration.specs.Elaborating.{Itemizing, MadeSelect, Selecting, elaborated, elaborated_select, elaborating, item_trees}
 use Rattle.sql_meaning.specs.Trees.{one}
 use Rattle.plsql_meaning.specs.Sight as sight
 use Rattle.plsql_parse.specs.Refusals.{MayBeRead}
-use Rattle.block_forms.specs.Expressions.{sources, whole_select, in_turn, defaults, of_kind, of_else}
+use Rattle.select_into.specs.Entries.{Target}
+use Rattle.block_forms.specs.Expressions.{Entries, sources, sourcing, whole_select, in_turn, defaults, of_kind, of_else}
 use Rattle.block_forms.specs.Intos.{Into, intos, selecting, row_intos, else_intos}
 use Rattle.block_forms.specs.Places.{Each}
 use Rattle.type_soundness.specs.Sorts.{Every}
 use Rattle.type_soundness.proofs.Lists.{every_append, every_left, every_right}
-use Rattle.cte_names.proofs.Sources.{texts}
+use Rattle.cte_names.proofs.ConvertedEntries.{converted_goes}
 use Rattle.cte_types.specs.Linked.{IsLinked, HasLinkedItems}
 use Rattle.cte_prints.specs.Derivation.{IsReadWithin}
 use Rattle.cte_prints.proofs.Files.{sources_are_read}
-use Rattle.cte_prints.proofs.Linked.{read_linked, resolved_linked}
+use Rattle.cte_prints.proofs.Linked.{any_into, marked_linked, read_linked, resolved_linked}
 use Rattle.cte_prints.proofs.ReadingDepth.{read_so}
 use Rattle.cte_prints.proofs.ScalarsInside.{Inside, read_inside}
 use Rattle.cte_prints.proofs.Shapes.{Node, see_scalar}
@@ -205,44 +211,84 @@ module _ (schema : Schema) (q : Select) (r : StandsFor (IsReadWithin 64) schema 
       of_node (out-Expr r.written) refl (read_inside 64 r.written r.holds)
       (node_scalar (out-Expr r.written) (subst IsScalar (sym (roll-out-Expr r.written)) (was_scalar r.written r.scope (subst IsScalar (sym r.resolved) tt))))
 
+-- ---- with its operations marked, and its items
+
+abbrev item_exprs : Entries
+item_exprs strict targets q = map (λ (x : Item). (out-Item x).expr) (out-Select q).list
+
+exprs_linked : (xs : List Item) → Every ItemIsLinked xs → Every IsLinked (map (λ (x : Item). (out-Item x).expr) xs)
+exprs_linked [] h = tt
+exprs_linked (x ∷ xs) h = (h.0, exprs_linked xs h.1)
+
+items_linked_back : (xs : List Item) → Every IsLinked (map (λ (x : Item). (out-Item x).expr) xs) → Every ItemIsLinked xs
+items_linked_back [] h = tt
+items_linked_back (x ∷ xs) h = (h.0, items_linked_back xs h.1)
+
+module _ (p : Places) where
+  made_items : (xs : List Item) → Every ItemIsLinked xs → Every ItemIsLinked (item_trees (map (λ (i : Itemizing). i p) (map (λ x. item_of elaborating x) xs)))
+  unfolding elaborated
+  made_items [] h = tt
+  made_items (x ∷ xs) h =
+      (of_item (record { expr = (elaborated p (out-Item x).expr).it; alias = (out-Item x).alias }) (marked_linked p (out-Item x).expr h.0), made_items xs h.1)
+
+made_select : (p : Places) (q : Select) → SelectIsLinked q → SelectIsLinked (elaborated_select p q).it
+unfolding elaborated_select
+made_select p q h =
+    subst (λ (m : Selecting). SelectIsLinked (m p).it) (sym (eq.select_is elaborating q)) (of_list _ (made_items _ (out-Select q).list h))
+
+marked_items : (a : Around) (ts : List Target) (ks : List Kind) (xs : List Item) → Every ItemIsLinked xs → Every ItemIsLinked (items_marked a ts ks xs)
+marked_items a ts ks [] h = tt
+marked_items a ts ks (x ∷ xs) h =
+    (of_item (record { expr = (out-Item x).expr; alias = first_mark a ts ks }) h.0, marked_items a (drop 1 ts) (drop 1 ks) xs h.1)
+
+marked_select : (a : Around) (ts : List Target) (o : Option (List Kind)) (q : Select) → SelectIsLinked q → SelectIsLinked (select_marked a ts (record { kinds = o; it = q }))
+marked_select a ts None q h = h
+marked_select a ts (Some ks) q h = of_list (record (out-Select q) { list = items_marked a ts ks (out-Select q).list }) (marked_items a ts ks (out-Select q).list h)
+
+converted_linked : (a : Around) (ts : List Target) (q : Select) → SelectIsLinked q → SelectIsLinked (into_converted a ts q)
+unfolding into_converted
+converted_linked a ts q h =
+    let m : MadeSelect = elaborated_select a.places q in marked_select a ts m.kinds m.it (made_select a.places q h)
+
 -- ---- all statements
 
-module _ (P : Expr → Type 0) (R : Into → Type 0) (into : (i : Into) → P (sight.query_of i.query) → R i) where
+module _ (E : Entries) (P : Expr → Type 0) (R : Into → Type 0)
+    (into : (strict : Bool) (targets : List Target) (q : Select) → Every P (E strict targets q) → R (record { targets = targets; query = q })) where
   mutual
-    stmt_intos : (x : Stmt) → Every P (stmt_of texts x) → Every R (stmt_of selecting x)
-    stmt_intos (st.Block' label decls m body closing) h = row_selects body (every_right P (defaults decls) (in_turn (stmts_of texts body)) h)
+    stmt_intos : (x : Stmt) → Every P (stmt_of (sourcing E) x) → Every R (stmt_of selecting x)
+    stmt_intos (st.Block' label decls m body closing) h = row_selects body (every_right P (defaults decls) (in_turn (stmts_of (sourcing E) body)) h)
     stmt_intos (st.Assign name slot e) h = tt
     stmt_intos (st.If' m arms o) h =
         every_append R (row_intos (branches_of selecting arms)) (else_intos (else_of selecting o))
-        (arms_select arms (every_left P (in_turn (branches_of texts arms)) (of_else (else_of texts o)) h))
-        (else_selects o (every_right P (in_turn (branches_of texts arms)) (of_else (else_of texts o)) h))
+        (arms_select arms (every_left P (in_turn (branches_of (sourcing E) arms)) (of_else (else_of (sourcing E) o)) h))
+        (else_selects o (every_right P (in_turn (branches_of (sourcing E) arms)) (of_else (else_of (sourcing E) o)) h))
     stmt_intos (st.Cases' m arms o) h =
         every_append R (row_intos (branches_of selecting arms)) (else_intos (else_of selecting o))
-        (arms_select arms (every_left P (in_turn (branches_of texts arms)) (of_else (else_of texts o)) h))
-        (else_selects o (every_right P (in_turn (branches_of texts arms)) (of_else (else_of texts o)) h))
-    stmt_intos (st.Loop' label k m body closing) h = row_selects body (every_right P (of_kind k) (in_turn (stmts_of texts body)) h)
+        (arms_select arms (every_left P (in_turn (branches_of (sourcing E) arms)) (of_else (else_of (sourcing E) o)) h))
+        (else_selects o (every_right P (in_turn (branches_of (sourcing E) arms)) (of_else (else_of (sourcing E) o)) h))
+    stmt_intos (st.Loop' label k m body closing) h = row_selects body (every_right P (of_kind k) (in_turn (stmts_of (sourcing E) body)) h)
     stmt_intos (st.Exit label when) h = tt
     stmt_intos (st.Continue label when) h = tt
     stmt_intos (st.Return e) h = tt
     stmt_intos (st.Raise raised) h = tt
-    stmt_intos (st.Into strict targets q) h = (into (record { targets = targets; query = q }) h.0, tt)
+    stmt_intos (st.Into strict targets q) h = (into strict targets q h, tt)
     stmt_intos st.Nothing h = tt
 
-    row_selects : {m : _} (body : st.Row_of-Stmt m) → Every P (in_turn (stmts_of texts body)) → Every R (row_intos (stmts_of selecting body))
+    row_selects : {m : _} (body : st.Row_of-Stmt m) → Every P (in_turn (stmts_of (sourcing E) body)) → Every R (row_intos (stmts_of selecting body))
     row_selects st.end_of-Stmt h = tt
     row_selects (st.more_of-Stmt x rest) h =
         every_append R (stmt_of selecting x) (row_intos (stmts_of selecting rest))
-        (stmt_intos x (every_left P (stmt_of texts x) (in_turn (stmts_of texts rest)) h))
-        (row_selects rest (every_right P (stmt_of texts x) (in_turn (stmts_of texts rest)) h))
+        (stmt_intos x (every_left P (stmt_of (sourcing E) x) (in_turn (stmts_of (sourcing E) rest)) h))
+        (row_selects rest (every_right P (stmt_of (sourcing E) x) (in_turn (stmts_of (sourcing E) rest)) h))
 
-    arms_select : {m : _} (arms : st.Row_of-Arm m) → Every P (in_turn (branches_of texts arms)) → Every R (row_intos (branches_of selecting arms))
+    arms_select : {m : _} (arms : st.Row_of-Arm m) → Every P (in_turn (branches_of (sourcing E) arms)) → Every R (row_intos (branches_of selecting arms))
     arms_select st.end_of-Arm h = tt
     arms_select (st.more_of-Arm test m body rest) h =
         every_append R (row_intos (stmts_of selecting body)) (row_intos (branches_of selecting rest))
-        (row_selects body (every_left P (in_turn (stmts_of texts body)) (in_turn (branches_of texts rest)) h.1))
-        (arms_select rest (every_right P (in_turn (stmts_of texts body)) (in_turn (branches_of texts rest)) h.1))
+        (row_selects body (every_left P (in_turn (stmts_of (sourcing E) body)) (in_turn (branches_of (sourcing E) rest)) h.1))
+        (arms_select rest (every_right P (in_turn (stmts_of (sourcing E) body)) (in_turn (branches_of (sourcing E) rest)) h.1))
 
-    else_selects : (o : st.Held-Stmt-If-1) → Every P (of_else (else_of texts o)) → Every R (else_intos (else_of selecting o))
+    else_selects : (o : st.Held-Stmt-If-1) → Every P (of_else (else_of (sourcing E) o)) → Every R (else_intos (else_of selecting o))
     else_selects st.None' h = tt
     else_selects (st.Some' m body) h = row_selects body h
 
@@ -257,12 +303,29 @@ every_of : (P : Expr → Type 0) (xs : List Expr) → Each P xs → Every P xs
 every_of P [] h = tt
 every_of P (x ∷ xs) h = (h 0 x refl, every_of P xs (λ i y e. h (suc i) y e))
 
+read_within : (bytes : List ℕ) (written : Function) → MayBeRead bytes → ReadsFunction bytes written → Every (IsReadWithin 64) (sources whole_select written.body)
+read_within bytes written may reads = every_of (IsReadWithin 64) (sources whole_select written.body) (sources_are_read bytes written may reads)
+
+stands_read : (schema : Schema) (e : Expr) → StandsFor (IsReadWithin 64) schema e → IsLinked e
+stands_read schema e r = subst IsLinked r.resolved (resolved_linked r.written r.scope (read_linked (read_so r.holds.reads)))
+
+items_of : (schema : Schema) (written f : Function) (slots : List Slot) → IsChecked schema written f slots
+    → Every (StandsFor (IsReadWithin 64) schema) (sources whole_select (body_of schema written).it) → Every IsLinked (sources item_exprs f.body)
+unfolding sources
+items_of schema written f slots checked stand =
+    let around : Around = around_in schema (slots_of schema written) written.result in
+    let body : Stmt = (body_of schema written).it in
+    subst (λ (x : Stmt). Every IsLinked (stmt_of (sourcing item_exprs) x)) (sym (ap (λ (f : Function). f.body) checked.function))
+    (converted_goes whole_select item_exprs (StandsFor (IsReadWithin 64) schema) IsLinked (λ (i : Into). Unit {0}) around
+    (λ e r. marked_linked around.places e (stands_read schema e r)) (λ t e r. tt)
+    (λ strict targets q u r. exprs_linked (out-Select (into_converted around targets q)).list (converted_linked around targets q (stands_linked schema q r.0))) body
+    (any_into (stmt_of selecting (converted around body))) stand)
+
 pub intos_linked : (bytes : List ℕ) (schema : Schema) (written f : Function) (slots : List Slot) → MayBeRead bytes → ReadsFunction bytes written
     → IsChecked schema written f slots → Each HasLinkedItems (intos f.body)
 unfolding sources intos
 intos_linked bytes schema written f slots may reads checked =
-    let read = every_of (IsReadWithin 64) (sources whole_select written.body) (sources_are_read bytes written may reads) in
-    let stand = sources_stand (IsReadWithin 64) schema written f slots checked read in
+    let stand = sources_stand (IsReadWithin 64) schema written f slots checked (read_within bytes written may reads) in
     each_of HasLinkedItems (intos f.body)
-    (stmt_intos (StandsFor (IsReadWithin 64) schema) HasLinkedItems
-    (λ i r. each_of ItemIsLinked (out-Select i.query).list (stands_linked schema i.query r)) f.body stand)
+    (stmt_intos item_exprs IsLinked HasLinkedItems (λ strict targets q k. each_of ItemIsLinked (out-Select q).list (items_linked_back (out-Select q).list k)) f.body
+    (items_of schema written f slots checked stand))

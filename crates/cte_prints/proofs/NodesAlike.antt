@@ -1,5 +1,5 @@
 -- What is like a node can be derived, where what is like its parts can be.
-use Rattle.std.proofs.Common.{◌≡◌, ℕ, ℤ, suc, Bool, true, false, if◌then◌else◌, List, [], ◌∷◌, Some, None, refl, sym, subst}
+use Rattle.std.proofs.Common.{◌≡◌, ℕ, ℤ, suc, Bool, true, false, List, [], ◌∷◌, Some, None, refl, sym, subst}
 use Rattle.std.proofs.lemmas.Option.{same_Some}
 use Rattle.away_grammar.specs.declared.grammar.Mark.{Mark}
 use Rattle.away_grammar.specs.declared.grammar.Mark.TheVariants as m
@@ -7,6 +7,7 @@ use Rattle.away_grammar.specs.declared.grammar.Level.{Level}
 use Rattle.away_grammar.specs.declared.grammar.Level.TheVariants as l
 use Rattle.away_values.specs.declared.types.Ty.{Ty}
 use Rattle.away_values.specs.declared.types.Ty.TheVariants as types
+use Rattle.away_values.specs.Operators.{literal_type}
 use Rattle.away_values.specs.declared.operators.ChainOp.{ChainOp}
 use Rattle.away_values.specs.declared.operators.CmpOp.{CmpOp}
 use Rattle.away_values.specs.declared.operators.IsTest.{IsTest}
@@ -20,7 +21,7 @@ use Rattle.away_grammar.specs.Printing.{type_name}
 use Rattle.sql_printer.specs.Writable.{Writable}
 use Rattle.sql_printer.proofs.PrintClear.{type_writable}
 use Rattle.cte_prints.specs.Derivable.{Derivable}
-use Rattle.cte_prints.specs.Like.{IsCastable, IsLike, value, values, links as link_list, arms as arm_list, maybe, query as whole_query}
+use Rattle.cte_prints.specs.Like.{IsLike, value, values, links as link_list, arms as arm_list, maybe, query as whole_query}
 use Rattle.cte_prints.specs.Like as k
 use Rattle.cte_prints.proofs.Shapes.{LikeNull, alone, cast_to, LikeName, column, LikeOne, one, LikeTwo, two, LikeThree, three, LikeChain, chain, LikeChoice}
 use Rattle.cte_prints.proofs.Shapes.{choice, LikeCases, cases, LikeCall, call, LikeWhole, whole}
@@ -31,48 +32,34 @@ use Rattle.cte_prints.proofs.DeriveLevels.{at_or}
 
 -- ---- casts
 
-no_integer : (a b c : Bool)
-    → (if a then Some types.Bigint else (if b then Some types.Boolean else (if c then Some types.Text else None))) ≡ Some types.Integer → ⊥
-no_integer true b c h = cc h
-no_integer false true c h = cc h
-no_integer false false true h = cc h
-no_integer false false false h = cc h
-
 -- The name that a type prints as is its name.
-pub castable_name : (t : Ty) → IsCastable t → type_named (type_name t) ≡ Some t
+pub castable_name : (t : Ty) → type_named (type_name t) ≡ Some t
 unfolding type_named
-castable_name types.Bigint h = refl
-castable_name types.Boolean h = refl
-castable_name types.Text h = refl
-castable_name types.Integer h = absurd h
+castable_name types.Bigint = refl
+castable_name types.Boolean = refl
+castable_name types.Text = refl
+castable_name types.Integer = refl
 
-pub castable : (t : List ℕ) (ty : Ty) → type_named t ≡ Some ty → IsCastable ty
-unfolding type_named
-castable t types.Bigint h = tt
-castable t types.Boolean h = tt
-castable t types.Text h = tt
-castable t types.Integer h = absurd (no_integer _ _ _ h)
-
-pub derive_cast_to : {d : ℕ} {x : Expr} (t : Ty) → IsCastable t → Derivable d (at l.Or) x → Derivable (suc d) (at l.Primary) (e.Cast x t)
-derive_cast_to t h c = derive.derive_cast (type_name t) (castable_name t h) (type_writable t) c
+pub derive_cast_to : {d : ℕ} {x : Expr} (t : Ty) → Derivable d (at l.Or) x → Derivable (suc d) (at l.Primary) (e.Cast x t)
+derive_cast_to t c = derive.derive_cast (type_name t) (castable_name t) (type_writable t) c
 
 -- ---- what stands alone
 
 pub int_derivable : {d : ℕ} {u : Expr} (n : ℤ) (level : Level) → Derivable d (at level) (e.Int n) → IsLike value (e.Int n) u → Derivable (suc d) (at l.Primary) u
 int_derivable {d = d} {u = u} n level c j =
-    subst (λ u. Derivable (suc d) (at l.Primary) u) (sym (shape _ u (ex.Int n) (see_int n) j)) (derive_cast_to types.Bigint tt (at_or level c))
+    subst (λ u. Derivable (suc d) (at l.Primary) u) (sym (shape _ u (ex.Int n) (see_int n) j)) (derive_cast_to (literal_type n) (at_or level c))
 
 pub str_derivable : {d : ℕ} {u : Expr} (t : List ℕ) → Writable (string t) → IsLike value (e.Str t) u → Derivable (suc d) (at l.Primary) u
 str_derivable {d = d} {u = u} t h j =
-    subst (λ u. Derivable (suc d) (at l.Primary) u) (sym (shape _ u (ex.Str t) (see_str t) j)) (derive_cast_to types.Text tt (at_or l.Primary (derive.derive_text h)))
+    subst (λ u. Derivable (suc d) (at l.Primary) u) (sym (shape _ u (ex.Str t) (see_str t) j)) (derive_cast_to types.Text (at_or l.Primary (derive.derive_text h)))
 
 bool_derivable : {d : ℕ} {u : Expr} (v : Bool) → Derivable d (at l.Primary) (e.Bool v) → IsLike value (e.Bool v) u → Derivable (suc d) (at l.Primary) u
 bool_derivable {d = d} {u = u} v c j =
-    subst (λ u. Derivable (suc d) (at l.Primary) u) (sym (shape _ u (ex.Bool v) (see_bool v) j)) (derive_cast_to types.Boolean tt (at_or l.Primary c))
+    subst (λ u. Derivable (suc d) (at l.Primary) u) (sym (shape _ u (ex.Bool v) (see_bool v) j)) (derive_cast_to types.Boolean (at_or l.Primary c))
 
 null_by : {d : ℕ} {u : Expr} → LikeNull u → Derivable (suc d) (at l.Primary) u
 null_by alone = derive.derive_literal m.Null refl
-null_by (cast_to t h) = derive_cast_to t h (at_or l.Primary (derive.derive_literal m.Null refl))
+null_by (cast_to t) = derive_cast_to t (at_or l.Primary (derive.derive_literal m.Null refl))
 
 null_derivable : {d : ℕ} {u : Expr} → IsLike value e.Null u → Derivable (suc d) (at l.Primary) u
 null_derivable {u = u} j = null_by (shape _ u ex.Null see_null j)
@@ -117,14 +104,14 @@ one_of_derivable n (choice {u = v} {us = vs} h j) c b = derive.derive_one_of n (
 pub neg_derivable : {d : ℕ} {x u : Expr} → LikeOne (λ x. e.Neg x) x u → ((v : Expr) → IsLike value x v → Derivable d (at l.Cast) v) → Derivable d (at l.Sign) u
 neg_derivable (one {u = v} h) c = derive.derive_neg (c v h)
 
-pub cast_derivable : {d : ℕ} {x u : Expr} (t : Ty) → IsCastable t → LikeOne (λ x. e.Cast x t) x u → ((v : Expr) → IsLike value x v → Derivable d (at l.Or) v)
+pub cast_derivable : {d : ℕ} {x u : Expr} (t : Ty) → LikeOne (λ x. e.Cast x t) x u → ((v : Expr) → IsLike value x v → Derivable d (at l.Or) v)
     → Derivable (suc d) (at l.Primary) u
-cast_derivable t g (one {u = v} h) c = derive_cast_to t g (c v h)
+cast_derivable t (one {u = v} h) c = derive_cast_to t (c v h)
 
 -- two casts, one round the other
-pub casts_derivable : {d : ℕ} {x u : Expr} (t s : Ty) → IsCastable t → IsCastable s → LikeOne (λ x. e.Cast x s) (e.Cast x t) u
+pub casts_derivable : {d : ℕ} {x u : Expr} (t s : Ty) → LikeOne (λ x. e.Cast x s) (e.Cast x t) u
     → ((v : Expr) → IsLike value x v → Derivable d (at l.Or) v) → Derivable (suc (suc d)) (at l.Primary) u
-casts_derivable {x = x} t s g i h c = cast_derivable s i h (λ v j. at_or l.Primary (cast_derivable t g (shape (e.Cast x t) v (ex.Cast x t) (see_cast x t) j) c))
+casts_derivable {x = x} t s h c = cast_derivable s h (λ v j. at_or l.Primary (cast_derivable t (shape (e.Cast x t) v (ex.Cast x t) (see_cast x t) j) c))
 
 pub scalar_derivable : {d : ℕ} {q : Query} {u : Expr} → LikeWhole (λ q. e.Scalar q) q u → ((p : Query) → IsLike whole_query q p → Derivable d query p)
     → Derivable (suc d) (at l.Primary) u
@@ -163,7 +150,7 @@ never_number (k.int n) = refl
 never_number (k.str t) = refl
 never_number (k.bool v) = refl
 never_number k.null = refl
-never_number (k.null_as t h) = refl
+never_number (k.null_as t) = refl
 never_number (k.named n a c h j) = refl
 never_number (k.qualified b n a c h j) = refl
 never_number (k.neg h) = refl

@@ -1,4 +1,4 @@
--- What is like a query with the only select is like it where the select's literal NULLs have types; and what is like a query in brackets is one.
+-- What is like a query with the only select is like it where the select's literal NULLs have types and its items no aliases.
 use Rattle.std.proofs.Common.{◌≡◌, ◌⊎◌, inl, inr, refl, ap, sym, subst, ◌∙◌, ℕ, suc, List, [], ◌∷◌, map, Option, Some, None, option_map}
 use Rattle.away_values.specs.declared.types.Ty.{Ty}
 use Rattle.away_trees.specs.declared.queries.Expr.{Expr}
@@ -16,13 +16,13 @@ use Rattle.away_names.specs.declared.note.Column.{Column}
 use Rattle.away_names.specs.Lookups.{Level}
 use Rattle.sql_meaning.specs.Trees.{one}
 use Rattle.select_into.specs.Wrapped.{null_as, item_as, items_as, picked}
-use Rattle.type_soundness.specs.Sorts.{Every}
 use Rattle.qualified_names.specs.Trees.{qualified_expr, qualified_item, qualified_items, qualified_from, qualified_keys, qualified_in, qualified_select, qualified_shown}
 use Rattle.qualified_names.proofs.QualifyingRules as d
 use Rattle.cte_names.proofs.Standing.{placing}
-use Rattle.cte_prints.specs.Like.{IsCastable, IsLike, value, item, items, select, selects, query}
+use Rattle.cte_prints.specs.Like.{IsLike, value, item, items, select, selects, query}
 use Rattle.cte_prints.specs.Like as k
 use Rattle.cte_prints.proofs.QualifiedParts.{Fields, qualified_fields, query_is}
+use Rattle.cte_prints.proofs.QueryShapes.{ItemFields}
 use Rattle.cte_prints.proofs.Shapes as see
 use Rattle.cte_prints.proofs.Shapes.{Node}
 
@@ -35,48 +35,53 @@ IsNull _ = ⊥
 is_null : {u : Expr} {n : Node} → out-Expr u ≡ n → u ≡ e.Null → IsNull n
 is_null h z = subst IsNull (sym see.see_null ∙ (ap out-Expr (sym z) ∙ h)) tt
 
-null_like : {w u : Expr} (t : Ty) → IsCastable t → IsLike value w u → u ≡ e.Null → IsLike value w (e.Cast e.Null t)
-null_like t h k.null z = k.null_as t h
-null_like t h (k.null_as s c) z = absurd (is_null (see.see_cast e.Null s) z)
-null_like t h (k.int n) z = absurd (is_null (see.see_cast (e.Int n) _) z)
-null_like t h (k.str x) z = absurd (is_null (see.see_cast (e.Str x) _) z)
-null_like t h (k.bool v) z = absurd (is_null (see.see_cast (e.Bool v) _) z)
-null_like t h (k.named n a c i j) z = absurd (is_null (see.see_qualified a c) z)
-null_like t h (k.qualified x n a c i j) z = absurd (is_null (see.see_qualified a c) z)
-null_like t h (k.neg {u = u} i) z = absurd (is_null (see.see_neg u) z)
-null_like t h (k.not {u = u} i) z = absurd (is_null (see.see_not u) z)
-null_like t h (k.is {u = u} s v i) z = absurd (is_null (see.see_is u s v) z)
-null_like t h (k.chain {u = u} {us = us} i j) z = absurd (is_null (see.see_chain u us) z)
-null_like t h (k.compare {u = u} {v = v} o i j) z = absurd (is_null (see.see_compare o u v) z)
-null_like t h (k.between {u = u} {v = v} {w = w} n i j l) z = absurd (is_null (see.see_between n u v w) z)
-null_like t h (k.one_of {u = u} {us = us} n i j) z = absurd (is_null (see.see_one_of n u us) z)
-null_like t h (k.cast {u = u} s i) z = absurd (is_null (see.see_cast u s) z)
-null_like t h (k.cases {us = us} {u = u} i j) z = absurd (is_null (see.see_cases us u) z)
-null_like t h (k.call {us = us} n i) z = absurd (is_null (see.see_call n us) z)
-null_like t h k.count_rows z = absurd (is_null see.see_count_rows z)
-null_like t h (k.scalar {p = p} i) z = absurd (is_null (see.see_scalar p) z)
-null_like t h (k.exists {p = p} i) z = absurd (is_null (see.see_exists p) z)
+null_like : {w u : Expr} (t : Ty) → IsLike value w u → u ≡ e.Null → IsLike value w (e.Cast e.Null t)
+null_like t k.null z = k.null_as t
+null_like t (k.null_as s) z = absurd (is_null (see.see_cast e.Null s) z)
+null_like t (k.int n) z = absurd (is_null (see.see_cast (e.Int n) _) z)
+null_like t (k.str x) z = absurd (is_null (see.see_cast (e.Str x) _) z)
+null_like t (k.bool v) z = absurd (is_null (see.see_cast (e.Bool v) _) z)
+null_like t (k.named n a c i j) z = absurd (is_null (see.see_qualified a c) z)
+null_like t (k.qualified x n a c i j) z = absurd (is_null (see.see_qualified a c) z)
+null_like t (k.neg {u = u} i) z = absurd (is_null (see.see_neg u) z)
+null_like t (k.not {u = u} i) z = absurd (is_null (see.see_not u) z)
+null_like t (k.is {u = u} s v i) z = absurd (is_null (see.see_is u s v) z)
+null_like t (k.chain {u = u} {us = us} i j) z = absurd (is_null (see.see_chain u us) z)
+null_like t (k.compare {u = u} {v = v} o i j) z = absurd (is_null (see.see_compare o u v) z)
+null_like t (k.between {u = u} {v = v} {w = w} n i j l) z = absurd (is_null (see.see_between n u v w) z)
+null_like t (k.one_of {u = u} {us = us} n i j) z = absurd (is_null (see.see_one_of n u us) z)
+null_like t (k.cast {u = u} s i) z = absurd (is_null (see.see_cast u s) z)
+null_like t (k.cases {us = us} {u = u} i j) z = absurd (is_null (see.see_cases us u) z)
+null_like t (k.call {us = us} n i) z = absurd (is_null (see.see_call n us) z)
+null_like t k.count_rows z = absurd (is_null see.see_count_rows z)
+null_like t (k.scalar {p = p} i) z = absurd (is_null (see.see_scalar p) z)
+null_like t (k.exists {p = p} i) z = absurd (is_null (see.see_exists p) z)
 
 -- ---- items
 
 abbrev entry : Expr → Option (List ℕ) → Item
 entry x alias = roll-Item (record { expr = x; alias = alias })
 
-item_like : {w u : Item} (t : Ty) → IsCastable t → IsLike item w u → (alias : Option (List ℕ)) → u ≡ entry e.Null alias → IsLike item w (entry (e.Cast e.Null t) alias)
-item_like t h (k.an_item {x = x} {u = u} own i) alias z =
-    let same : record { expr = u; alias = own } ≡ record { expr = e.Null; alias = alias } =
-    sym (out-roll-Item (record { expr = u; alias = own })) ∙ (ap out-Item z ∙ out-roll-Item (record { expr = e.Null; alias = alias })) in
-    subst (λ a. IsLike item (entry x own) (entry (e.Cast e.Null t) a)) (ap (λ f. f.alias) same)
-    (k.an_item own (null_like t h i (ap (λ f. f.expr) same)))
+-- an item that is like one without its alias, and with what is like its expression
+item_like : {w u : Item} → IsLike item w u → (x y : Expr) (alias : Option (List ℕ)) → u ≡ entry x alias → ((v : Expr) → IsLike value v x → IsLike value v y)
+    → IsLike item w (entry y None)
+item_like (k.an_item {x = v} {u = u} own i) x y alias z go =
+    let same : record { expr = u; alias = own } ≡ record { expr = x; alias = alias } =
+    sym (out-roll-Item (record { expr = u; alias = own })) ∙ (ap out-Item z ∙ out-roll-Item (record { expr = x; alias = alias })) in
+    k.a_bare_item own (go v (subst (IsLike value v) (ap (λ (f : ItemFields). f.expr) same) i))
+item_like (k.a_bare_item {x = v} {u = u} own i) x y alias z go =
+    let same : record { expr = u; alias = None } ≡ record { expr = x; alias = alias } =
+    sym (out-roll-Item (record { expr = u; alias = None })) ∙ (ap out-Item z ∙ out-roll-Item (record { expr = x; alias = alias })) in
+    k.a_bare_item own (go v (subst (IsLike value v) (ap (λ (f : ItemFields). f.expr) same) i))
 
-abbrev with_null : Ty → Item → Item
-with_null t i = entry (e.Cast e.Null t) (out-Item i).alias
+abbrev with_null : Ty → Item
+with_null t = entry (e.Cast e.Null t) None
 
--- it stays, or was a literal NULL
-stays_or : (t : Ty) (i : Item) (x : Expr) → (out-Item i).expr ≡ x → (item_as (Some t) i ≡ i) ⊎ (((out-Item i).expr ≡ e.Null) × (item_as (Some t) i ≡ with_null t i))
-stays_or t i b.Null is = inr (is, ap (λ x. roll-Item (record (out-Item i) { expr = null_as t x })) is)
-stays_or t i x is =
-    inl (ap (λ x. roll-Item (record (out-Item i) { expr = null_as t x })) is ∙ (ap (λ x. roll-Item (record (out-Item i) { expr = x })) (sym is) ∙ roll-out-Item i))
+-- its expression stays, or was a literal NULL
+stays_or : (t : Ty) (i : Item) (x : Expr) → (out-Item i).expr ≡ x
+    → (item_as (Some t) i ≡ entry (out-Item i).expr None) ⊎ (((out-Item i).expr ≡ e.Null) × (item_as (Some t) i ≡ with_null t))
+stays_or t i b.Null is = inr (is, ap (λ x. entry (null_as t x) None) is)
+stays_or t i x is = inl (ap (λ x. entry (null_as t x) None) is ∙ ap (λ x. entry x None) (sym is))
 
 heads_same : (x y : Item) (xs ys : List Item) → x ∷ xs ≡ y ∷ ys → x ≡ y
 heads_same x y xs ys z = cc
@@ -107,37 +112,43 @@ module _ (leaf : ℕ → ℕ → Expr) (level : List Level) (depth : ℕ) where
       ap (λ f. (qualified_item (P.item (record { expr = expr_of P f.expr; alias = f.alias }) depth) level).it) (out-roll-Item (record { expr = x; alias = alias }))
       ∙ ap (λ (c : Column). c.it) (d.item_rule (entry (expr_of P x depth) alias) level)
 
-  null_shown : (i : Item) → (out-Item i).expr ≡ e.Null → shown i ≡ entry e.Null (out-Item i).alias
-  null_shown i h =
-      ap shown (sym (roll-out-Item i))
-      ∙ (shown_is (out-Item i).expr (out-Item i).alias
-      ∙ (ap (λ x. entry (qualified_expr (expr_of P x depth) level) (out-Item i).alias) h ∙ ap (λ x. entry x (out-Item i).alias) (d.null_is level)))
+  abbrev value_of : Item → Expr
+  value_of i = qualified_expr (expr_of P (out-Item i).expr depth) level
 
-  cast_shown : (t : Ty) (i : Item) → shown (with_null t i) ≡ with_null t i
-  cast_shown t i =
-      shown_is (e.Cast e.Null t) (out-Item i).alias
-      ∙ ap (λ x. entry x (out-Item i).alias)
-      (ap (λ f. qualified_expr (f depth) level) (eq.of_cast P e.Null t) ∙ (d.cast_is e.Null t level ∙ ap (λ x. e.Cast x t) (d.null_is level)))
+  own_shown : (i : Item) → shown i ≡ entry (value_of i) (out-Item i).alias
+  own_shown i = ap shown (sym (roll-out-Item i)) ∙ shown_is (out-Item i).expr (out-Item i).alias
 
-  typed_like : (t : Ty) → IsCastable t → (i : Item) {w : Item} → IsLike item w (shown i) → IsLike item w (shown (item_as (Some t) i))
-  typed_like t h i {w = w} l = by (stays_or t i (out-Item i).expr refl)
+  null_value : (i : Item) → (out-Item i).expr ≡ e.Null → value_of i ≡ e.Null
+  null_value i h = ap (λ x. qualified_expr (expr_of P x depth) level) h ∙ d.null_is level
+
+  cast_shown : (t : Ty) → shown (with_null t) ≡ with_null t
+  cast_shown t =
+      shown_is (e.Cast e.Null t) None
+      ∙ ap (λ x. entry x None) (ap (λ f. qualified_expr (f depth) level) (eq.of_cast P e.Null t) ∙ (d.cast_is e.Null t level ∙ ap (λ x. e.Cast x t) (d.null_is level)))
+
+  typed_like : (t : Ty) (i : Item) {w : Item} → IsLike item w (shown i) → IsLike item w (shown (item_as (Some t) i))
+  typed_like t i {w = w} l = by (stays_or t i (out-Item i).expr refl)
     where
-      by : (item_as (Some t) i ≡ i) ⊎ (((out-Item i).expr ≡ e.Null) × (item_as (Some t) i ≡ with_null t i)) → IsLike item w (shown (item_as (Some t) i))
-      by (inl z) = subst (λ j. IsLike item w (shown j)) (sym z) l
+      by : (item_as (Some t) i ≡ entry (out-Item i).expr None) ⊎ (((out-Item i).expr ≡ e.Null) × (item_as (Some t) i ≡ with_null t))
+          → IsLike item w (shown (item_as (Some t) i))
+      by (inl z) =
+          subst (IsLike item w) (sym (ap shown z ∙ shown_is (out-Item i).expr None))
+          (item_like l (value_of i) (value_of i) (out-Item i).alias (own_shown i) (λ v j. j))
       by (inr z) =
-          subst (IsLike item w) (sym (ap shown z.1 ∙ cast_shown t i))
-          (item_like t h l (out-Item i).alias (null_shown i z.0))
+          subst (IsLike item w) (sym (ap shown z.1 ∙ cast_shown t))
+          (item_like l (value_of i) (e.Cast e.Null t) (out-Item i).alias (own_shown i) (λ v j. null_like t j (null_value i z.0)))
 
   untyped_like : (i : Item) {w : Item} → IsLike item w (shown i) → IsLike item w (shown (item_as None i))
-  untyped_like i {w = w} l = subst (λ j. IsLike item w (shown j)) (sym (roll-out-Item i)) l
+  untyped_like i {w = w} l =
+      subst (IsLike item w) (sym (shown_is (out-Item i).expr None)) (item_like l (value_of i) (value_of i) (out-Item i).alias (own_shown i) (λ v j. j))
 
-  list_like : (types : List Ty) → Every IsCastable types → (is ws : List Item) → IsLike items ws (all_shown is) → IsLike items ws (all_shown (items_as types is))
-  list_like types h [] ws l = l
-  list_like [] h (i ∷ is) ws l =
-      items_like l (shown i) (shown (item_as None i)) (all_shown is) (all_shown (items_as [] is)) refl (λ w j. untyped_like i j) (λ vs j. list_like [] tt is vs j)
-  list_like (t ∷ types) h (i ∷ is) ws l =
-      items_like l (shown i) (shown (item_as (Some t) i)) (all_shown is) (all_shown (items_as types is)) refl (λ w j. typed_like t h.0 i j)
-      (λ vs j. list_like types h.1 is vs j)
+  list_like : (types : List Ty) (is ws : List Item) → IsLike items ws (all_shown is) → IsLike items ws (all_shown (items_as types is))
+  list_like types [] ws l = l
+  list_like [] (i ∷ is) ws l =
+      items_like l (shown i) (shown (item_as None i)) (all_shown is) (all_shown (items_as [] is)) refl (λ w j. untyped_like i j) (λ vs j. list_like [] is vs j)
+  list_like (t ∷ types) (i ∷ is) ws l =
+      items_like l (shown i) (shown (item_as (Some t) i)) (all_shown is) (all_shown (items_as types is)) refl (λ w j. typed_like t i j)
+      (λ vs j. list_like types is vs j)
 
 -- ---- selects and queries
 
@@ -169,7 +180,7 @@ query_like (k.union {us = us} h) x y z go =
     ∙ (ap (λ q. (out-Query q).selects) z ∙ ap (λ f. f.selects) (out-roll-Query (record { recursive = None; selects = x ∷ [] }))))
     go)
 
-module _ (leaf : ℕ → ℕ → Expr) (level : List Level) (depth : ℕ) (types : List Ty) (castable : Every IsCastable types) (q : Select) where
+module _ (leaf : ℕ → ℕ → Expr) (level : List Level) (depth : ℕ) (types : List Ty) (q : Select) where
   abbrev own : Algebra
   own = placing leaf
 
@@ -217,4 +228,4 @@ module _ (leaf : ℕ → ℕ → Expr) (level : List Level) (depth : ℕ) (types
       (query_like h (placed q) (placed (picked types q)) (query_is (select_of own q depth ∷ []) level)
       (λ x l. subst (IsLike select x) (sym picked_placed)
       (select_like l (named (out-Select q).list) (all_shown leaf within (suc depth) (items_as types (out-Select q).list)) own_placed
-      (λ ws l. list_like leaf within (suc depth) types castable (out-Select q).list ws l))))
+      (λ ws l. list_like leaf within (suc depth) types (out-Select q).list ws l))))

@@ -41,10 +41,13 @@ QueryFields = Query-F Expr Source FromItem Item Key Query Recursive Select
 
 pub data LikeItem (f : ItemFields) : Item → Type 0 where
   an_item : {u : Expr} → IsLike value f.expr u → LikeItem f (roll-Item (record { expr = u; alias = f.alias }))
+  a_bare_item : {u : Expr} → IsLike value f.expr u → LikeItem f (roll-Item (record { expr = u; alias = None }))
 
 item_shaped : {x u : Item} → IsLike item x u → LikeItem (out-Item x) u
 item_shaped (k.an_item {x = x} {u = u} alias h) =
     subst (λ f. LikeItem f (roll-Item (record { expr = u; alias = alias }))) (sym (out-roll-Item (record { expr = x; alias = alias }))) (an_item h)
+item_shaped (k.a_bare_item {x = x} {u = u} alias h) =
+    subst (λ f. LikeItem f (roll-Item (record { expr = u; alias = None }))) (sym (out-roll-Item (record { expr = x; alias = alias }))) (a_bare_item h)
 
 pub item_shape : (f : ItemFields) {u : Item} → IsLike item (roll-Item f) u → LikeItem f u
 item_shape f {u = u} h = subst (λ f. LikeItem f u) (out-roll-Item f) (item_shaped h)

@@ -2,6 +2,7 @@
 use Rattle.std.proofs.Common.{◌≡◌, ℕ, ℤ, Bool, List, Option, Some, None, refl, sym, subst}
 use Rattle.away_values.specs.declared.types.Ty.{Ty}
 use Rattle.away_values.specs.declared.types.Ty.TheVariants as ty
+use Rattle.away_values.specs.Operators.{literal_type}
 use Rattle.away_values.specs.declared.operators.ChainOp.{ChainOp}
 use Rattle.away_values.specs.declared.operators.CmpOp.{CmpOp}
 use Rattle.away_values.specs.declared.operators.IsTest.{IsTest}
@@ -19,7 +20,7 @@ use Rattle.away_trees.specs.declared.queries.Expr.TheOpen as ex
 use Rattle.away_trees.specs.declared.queries.Expr.TheViews.{out-Expr, roll-Expr, out-roll-Expr}
 use Rattle.away_grammar.specs.Terminals.{name}
 use Rattle.sql_printer.specs.Writable.{Writable}
-use Rattle.cte_prints.specs.Like.{IsCastable, IsLike, value, values, links, arms, maybe, query}
+use Rattle.cte_prints.specs.Like.{IsLike, value, values, links, arms, maybe, query}
 use Rattle.cte_prints.specs.Like as k
 
 -- a node with its parts
@@ -114,7 +115,7 @@ see_exists q = out-roll-Expr (ex.Exists q)
 -- the literal NULL, with a cast or without
 pub data LikeNull : Expr → Type 0 where
   alone : LikeNull e.Null
-  cast_to : (t : Ty) → IsCastable t → LikeNull (e.Cast e.Null t)
+  cast_to : (t : Ty) → LikeNull (e.Cast e.Null t)
 
 pub data LikeName : Expr → Type 0 where
   column : (a c : List ℕ) → Writable (name a) → Writable (name c) → LikeName (e.Dotted a c)
@@ -145,7 +146,7 @@ pub data LikeWhole (f : Query → Expr) (q : Query) : Expr → Type 0 where
   whole : {p : Query} → IsLike query q p → LikeWhole f q (f p)
 
 abbrev pub Shape : Node → Expr → Type 0
-Shape (ex.Int n) u = u ≡ e.Cast (e.Int n) ty.Bigint
+Shape (ex.Int n) u = u ≡ e.Cast (e.Int n) (literal_type n)
 Shape (ex.Str t) u = u ≡ e.Cast (e.Str t) ty.Text
 Shape (ex.Bool v) u = u ≡ e.Cast (e.Bool v) ty.Boolean
 Shape ex.Null u = LikeNull u
@@ -177,7 +178,7 @@ shaped (k.int n) = so _ _ (see_int n) refl
 shaped (k.str t) = so _ _ (see_str t) refl
 shaped (k.bool v) = so _ _ (see_bool v) refl
 shaped k.null = so _ _ see_null alone
-shaped (k.null_as t h) = so _ _ see_null (cast_to t h)
+shaped (k.null_as t) = so _ _ see_null (cast_to t)
 shaped (k.named n a c h j) = so _ _ (see_named n) (column a c h j)
 shaped (k.qualified b n a c h j) = so _ _ (see_qualified b n) (column a c h j)
 shaped (k.neg {x = x} h) = so _ _ (see_neg x) (one h)

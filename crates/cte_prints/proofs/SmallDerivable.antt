@@ -14,36 +14,35 @@ use Rattle.qualified_names.specs.Trees.{qualified_expr}
 use Rattle.qualified_names.proofs.QualifyingRules as d
 use Rattle.qualified_names.proofs.Gives.{Every}
 use Rattle.sql_meaning.specs.Trees.{truth, number, null_of, cast_to}
-use Rattle.cte_types.specs.Typed.{HasKind}
 use Rattle.cte_prints.specs.Derivable.{Derivable}
 use Rattle.cte_prints.proofs.ClassDerivable.{class_is_text}
 use Rattle.cte_prints.proofs.QualifiedParts.{DerivableAt}
 use Rattle.cte_prints.proofs.Deriving as derive
 
 module _ (n : ℕ) (s : Sight) where
-  cast_derives : (t : Ty) (e x : Expr) → HasKind t → qualified_expr e s ≡ x → Derivable n (at l.Or) x → DerivableAt (suc n) s (expr.Cast e t)
-  cast_derives t e x k same h = subst (Derivable (suc n) (at l.Or)) (sym (d.cast_is e t s ∙ ap (λ y. expr.Cast y t) same)) (derive.cast_derivable n t x k h)
+  cast_derives : (t : Ty) (e x : Expr) → qualified_expr e s ≡ x → Derivable n (at l.Or) x → DerivableAt (suc n) s (expr.Cast e t)
+  cast_derives t e x same h = subst (Derivable (suc n) (at l.Or)) (sym (d.cast_is e t s ∙ ap (λ y. expr.Cast y t) same)) (derive.cast_derivable n t x h)
 
   pub truth_derives : (b : Bool) → DerivableAt (suc n) s (truth b)
-  truth_derives b = cast_derives ty.Boolean (expr.Bool b) (expr.Bool b) tt (d.bool_is b s) (derive.bool_derivable n b)
+  truth_derives b = cast_derives ty.Boolean (expr.Bool b) (expr.Bool b) (d.bool_is b s) (derive.bool_derivable n b)
 
   pub number_derives : (i : ℕ) → i < 2 ^ 63 → DerivableAt (suc n) s (number (pos i))
-  number_derives i low = cast_derives ty.Bigint (expr.Int (pos i)) (expr.Int (pos i)) tt (d.int_is (pos i) s) (derive.int_derivable n i low)
+  number_derives i low = cast_derives ty.Bigint (expr.Int (pos i)) (expr.Int (pos i)) (d.int_is (pos i) s) (derive.int_derivable n i low)
 
-  pub null_derives : (t : Ty) → HasKind t → DerivableAt (suc n) s (null_of t)
-  null_derives t k = cast_derives t expr.Null expr.Null k (d.null_is s) (derive.null_derivable n)
+  pub null_derives : (t : Ty) → DerivableAt (suc n) s (null_of t)
+  null_derives t = cast_derives t expr.Null expr.Null (d.null_is s) (derive.null_derivable n)
 
-  pub nulls_derive : (ts : List Ty) → Every HasKind ts → Every (DerivableAt (suc n) s) (map null_of ts)
-  nulls_derive [] h = tt
-  nulls_derive (t ∷ ts) h = (null_derives t h.0, nulls_derive ts h.1)
+  pub nulls_derive : (ts : List Ty) → Every (DerivableAt (suc n) s) (map null_of ts)
+  nulls_derive [] = tt
+  nulls_derive (t ∷ ts) = (null_derives t, nulls_derive ts)
 
   pub class_derives : (t : List ℕ) → is_class t ≡ true → DerivableAt (suc n) s (cast_to ty.Text (expr.Str t))
   class_derives t h =
       let is = class_is_text t h in
-      cast_derives ty.Text (expr.Str t) (expr.Str t) tt (d.str_is t s) (derive.text_derivable n t is.0 is.1)
+      cast_derives ty.Text (expr.Str t) (expr.Str t) (d.str_is t s) (derive.text_derivable n t is.0 is.1)
 
-  pub parameter_derives : (i : ℕ) (t : Ty) → HasKind t → 1 ≤ i → i ≤ 64 → DerivableAt (suc n) s (expr.Param i t)
-  parameter_derives i t k low high = subst (Derivable (suc n) (at l.Or)) (sym (d.param_is i t s)) (derive.param_derivable n i t k low high)
+  pub parameter_derives : (i : ℕ) (t : Ty) → 1 ≤ i → i ≤ 64 → DerivableAt (suc n) s (expr.Param i t)
+  parameter_derives i t low high = subst (Derivable (suc n) (at l.Or)) (sym (d.param_is i t s)) (derive.param_derivable n i t low high)
 
   -- ---- tests of a value that stands alone
 
@@ -60,4 +59,4 @@ module _ (n : ℕ) (s : Sight) where
       d.cast_is (expr.Int (pos i)) ty.Bigint s ∙ ap (λ y. expr.Cast y ty.Bigint) (d.int_is (pos i) s) in
       subst (Derivable (suc n) (at l.Or)) (sym (d.compare_is cmp.Eq e (number (pos i)) s))
       (derive.equal_derivable (suc n) (qualified_expr e s) (qualified_expr (number (pos i)) s) h
-      (subst (Derivable (suc n) (at l.Primary)) (sym same) (derive.cast_alone n ty.Bigint (expr.Int (pos i)) tt (derive.int_derivable n i low))))
+      (subst (Derivable (suc n) (at l.Primary)) (sym same) (derive.cast_alone n ty.Bigint (expr.Int (pos i)) (derive.int_derivable n i low))))

@@ -1,12 +1,17 @@
 -- The names of what is read from writable terminals can be written.
-use Rattle.std.proofs.Common.{◌≡◌, subst, Bool, true, false, List, [], ◌∷◌, Some, None}
+use Rattle.std.proofs.Common.{◌≡◌, refl, subst, Bool, true, false, List, [], ◌∷◌, Some, None}
 use Rattle.away_grammar.specs.declared.grammar.Mark.{Mark}
 use Rattle.away_grammar.specs.declared.grammar.Mark.TheVariants as m
+use Rattle.away_grammar.specs.declared.grammar.Level.{Level}
+use Rattle.away_grammar.specs.declared.grammar.Level.TheVariants as l
 use Rattle.away_values.specs.declared.operators.ChainOp.{ChainOp}
+use Rattle.away_values.specs.declared.operators.ChainOp.TheVariants as chain
+use Rattle.away_values.specs.declared.operators.IntOp.TheVariants as int
+use Rattle.elaboration.specs.Marks.{plain_op}
 use Rattle.away_trees.specs.declared.queries.Expr.{Expr}
 use Rattle.away_trees.specs.declared.queries.Expr.TheVariants as expr
 use Rattle.away_grammar.specs.Terminals.{Terminal, mark}
-use Rattle.away_grammar.specs.Grammar.{Sort, Tree, Reads, chained, literal_of, perhaps, schema_qualified, not_null}
+use Rattle.away_grammar.specs.Grammar.{Sort, Tree, Reads, chained, literal_of, operator_of, perhaps, schema_qualified, not_null}
 use Rattle.away_grammar.specs.Grammar as g
 use Rattle.sql_printer.specs.Writable.{Writable, AllWritable}
 use Rattle.cte_prints.specs.Like as k
@@ -43,6 +48,25 @@ chain_derivable : (first : Expr) (more : List (ChainOp × Expr)) → NamesAreWri
     → NamesAreWritable k.value (chained first more)
 chain_derivable first [] h r = h
 chain_derivable first (x ∷ xs) h r = s.chain h r
+
+-- an operator that is read has no mark
+plain_some : (x o : ChainOp) → plain_op x ≡ x → Some x ≡ Some o → plain_op o ≡ o
+plain_some x o p e = let same : x ≡ o = cc in subst (λ o. plain_op o ≡ o) same p
+
+plain_none : (o : ChainOp) → None ≡ Some o → plain_op o ≡ o
+plain_none o e = absurd cc
+
+plain_operator : (level : Level) (terminal : Mark) (o : ChainOp) → operator_of level terminal ≡ Some o → plain_op o ≡ o
+unfolding plain_op
+plain_operator l.Or m.Or o e = plain_some chain.Or o refl e
+plain_operator l.And m.And o e = plain_some chain.And o refl e
+plain_operator l.Concat m.Bars o e = plain_some chain.Concat o refl e
+plain_operator l.Sum m.Plus o e = plain_some (chain.Int int.Add) o refl e
+plain_operator l.Sum m.Minus o e = plain_some (chain.Int int.Sub) o refl e
+plain_operator l.Product m.Star o e = plain_some (chain.Int int.Mul) o refl e
+plain_operator l.Product m.Slash o e = plain_some (chain.Int int.Div) o refl e
+plain_operator l.Product m.Percent o e = plain_some (chain.Int int.Rem) o refl e
+plain_operator _ _ o e = plain_none o e
 
 some_is : (x y : Expr) → Some x ≡ Some y → x ≡ y
 some_is x y e = cc
@@ -81,7 +105,7 @@ made h r = record { names = h; rest = r }
 pub names_writable : {n : Sort} {ts : List Terminal} {t : Tree n} {rest : List Terminal} → Reads n ts t rest → AllWritable ts → HasWritable n t rest
 names_writable (g.chain a b c) h = let x = names_writable b h in let y = names_writable c x.rest in made (chain_derivable _ _ x.names y.names) y.rest
 names_writable g.no_link h = made s.no_link h
-names_writable (g.link a b c e) h = let x = names_writable c h.1 in let y = names_writable e x.rest in made (s.one_link _ x.names y.names) y.rest
+names_writable (g.link a b c e) h = let x = names_writable c h.1 in let y = names_writable e x.rest in made (s.one_link _ (plain_operator _ _ _ b) x.names y.names) y.rest
 names_writable (g.affirmed a) h = let x = names_writable a h in made x.names x.rest
 names_writable (g.negated a) h = let x = names_writable a h.1 in made (s.not x.names) x.rest
 names_writable (g.untested a) h = let x = names_writable a h in made x.names x.rest

@@ -1,4 +1,4 @@
--- Each source expression of a checked function stands for a written one: its names are resolved where the schema's tables are in sight alone, and break
+-- Each source expression of a function whose names are resolved stands for a written one: its names are resolved where the schema's tables are in sight alone, and break
 -- no rule. What holds of all written source expressions holds of that one.
 use Rattle.std.proofs.Common.{length, ◌≡◌, refl, ap, sym, subst, ◌∙◌, true, false, List, [], ◌∷◌, ◌++◌, map, fold, Option, Some, None, option_map}
 use Rattle.away_trees.specs.declared.queries.Expr.{Expr}
@@ -277,7 +277,5 @@ module _ (P : Expr → Type 0) where
       stmt_resolved P schema f.body q (entry schema f.params) (start f.params).slots (record { in_function = refl; no_levels = refl; tables = refl }) body.0
 
   pub sources_stand : (schema : Schema) (written f : Function) (slots : List Slot) → IsChecked schema written f slots → Every P (sources whole_select written.body)
-      → Every (StandsFor P schema) (sources whole_select f.body)
-  sources_stand schema written f slots h q =
-      subst (λ (f : Function). Every (StandsFor P schema) (sources whole_select f.body)) (sym h.function)
-      (body_resolved schema written q h.unbroken)
+      → Every (StandsFor P schema) (sources whole_select (body_of schema written).it)
+  sources_stand schema written f slots h q = body_resolved schema written q h.unbroken

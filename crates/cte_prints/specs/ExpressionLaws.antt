@@ -1,7 +1,6 @@
 -- What holds of a function's expressions as a query has them.
-use Rattle.std.specs.Prelude.{◌≡◌, ◌≤◌, ℕ, List, get_or}
+use Rattle.std.specs.Prelude.{◌≤◌, ℕ, List, get_or}
 use Rattle.away_values.specs.declared.types.Ty.{Ty}
-use Rattle.away_values.specs.declared.types.Ty.TheVariants as ty
 use Rattle.away_grammar.specs.declared.grammar.Level.{Level}
 use Rattle.away_grammar.specs.declared.grammar.Level.TheVariants as l
 use Rattle.away_trees.specs.declared.queries.Col.{Col}
@@ -20,15 +19,13 @@ use Rattle.away_types.specs.CheckedFunctions.{IsChecked}
 use Rattle.sql_meaning.specs.Placed.{placed_at}
 use Rattle.sql_meaning.specs.Reads.{slots_of}
 use Rattle.block_forms.specs.Expressions.{sources, whole_select, expressions}
-use Rattle.block_forms.specs.FixedList.{null_as}
 use Rattle.block_forms.specs.Places.{Each}
 use Rattle.qualified_names.specs.Trees.{qualified_expr}
 use Rattle.plsql_parse.specs.Refusals.{MayBeRead, most_nesting}
 use Rattle.cte_names.specs.Own.{SeesTables, IsOwn}
-use Rattle.cte_types.specs.Typed.{NoIntegers}
 use Rattle.sql_printer.specs.Writable.{AllWritable}
 use Rattle.cte_prints.specs.Derivable.{Derivable}
-use Rattle.cte_prints.specs.Like.{IsCastable, value}
+use Rattle.cte_prints.specs.Like.{value}
 use Rattle.cte_prints.specs.Derivation.{IsReadWithin}
 use Rattle.cte_prints.specs.InSight.{SightIsWritable}
 use Rattle.cte_prints.specs.WritableNames.{NamesAreWritable}
@@ -39,25 +36,25 @@ ReadNamesAreWritable = (level : Level) (ts : List Terminal) (x : Expr) (rest : L
     → NamesAreWritable value x
 
 -- Each entry of the table of a checked function within the limits can be derived where a query has
--- it, in no more than 195 brackets one inside another: with the literals' casts, and CAST for each
--- `::`, three times the 64 of the function's text and three. NULL of the type integer alone can't
--- be derived, as no cast can name that type.
+-- it, in no more than 196 brackets one inside another: with the literals' casts, and CAST for each
+-- `::`, three times the 64 of the function's text and three, and one more for the cast to the type
+-- that its place asks for.
 abbrev pub EntriesAreDerivable : (Function → Function → List Slot → Type 0) → Type 0
 EntriesAreDerivable IsRead =
     (schema : Schema) (written f : Function) (slots : List Slot) → IsChecked schema written f slots
     → nodes f ≤ most_nodes → IsRead written f slots → (i : ℕ) (t : Ty) (s : Scope)
     (ref : ℕ → Col)
-    → IsCastable t → (get_or (expressions f) i expr.Null ≡ null_as ty.Integer → ⊥)
     → SeesTables schema s → SightIsWritable s.levels → Each (λ k. IsOwn s.levels (ref k)) (slots_of (get_or (expressions f) i expr.Null))
-    → Derivable 195 (at l.Or) (qualified_expr (placed_at t ref (get_or (expressions f) i expr.Null)) s.levels)
+    → Derivable 196 (at l.Or)
+    (qualified_expr (placed_at t ref (get_or (expressions f) i expr.Null)) s.levels)
 
 -- of a function whose source expressions are read from writable terminals, the select of a SELECT
--- INTO as one in brackets, and whose slots have types that a cast can name
+-- INTO as one in brackets
 abbrev pub ExpressionsAreDerivable : Type 0
 ExpressionsAreDerivable =
     EntriesAreDerivable
     (λ (written f : Function) slots.
-    Each (IsReadWithin most_nesting) (sources whole_select written.body) × NoIntegers slots f.result)
+    Each (IsReadWithin most_nesting) (sources whole_select written.body))
 
 -- of a function that a file reads as
 abbrev pub FileExpressionsAreDerivable : Type 0

@@ -1,8 +1,9 @@
 -- Trees that are one another's like: the second tree is the first one with columns called by an
--- alias and a name, and with casts round literals.
+-- alias and a name, and with casts round literals. Neither has marks of operations.
 use Rattle.std.specs.Prelude.{ℕ, ℤ, Bool, List, [], ◌∷◌, Option, Some, None}
 use Rattle.away_values.specs.declared.types.Ty.{Ty}
 use Rattle.away_values.specs.declared.types.Ty.TheVariants as ty
+use Rattle.away_values.specs.Operators.{literal_type}
 use Rattle.away_values.specs.declared.operators.ChainOp.{ChainOp}
 use Rattle.away_values.specs.declared.operators.CmpOp.{CmpOp}
 use Rattle.away_values.specs.declared.operators.IsTest.{IsTest}
@@ -57,17 +58,12 @@ Tree select = Select
 Tree selects = List Select
 Tree query = Query
 
--- a type that a cast can name
-abbrev pub IsCastable : Ty → Type 0
-IsCastable ty.Integer = ⊥
-IsCastable _ = Unit {0}
-
 pub data IsLike : (n : Kind) → Tree n → Tree n → Type 0 where
-  int : (n : ℤ) → IsLike value (expr.Int n) (expr.Cast (expr.Int n) ty.Bigint)
+  int : (n : ℤ) → IsLike value (expr.Int n) (expr.Cast (expr.Int n) (literal_type n))
   str : (t : List ℕ) → IsLike value (expr.Str t) (expr.Cast (expr.Str t) ty.Text)
   bool : (v : Bool) → IsLike value (expr.Bool v) (expr.Cast (expr.Bool v) ty.Boolean)
   null : IsLike value expr.Null expr.Null
-  null_as : (t : Ty) → IsCastable t → IsLike value expr.Null (expr.Cast expr.Null t)
+  null_as : (t : Ty) → IsLike value expr.Null (expr.Cast expr.Null t)
   -- a name of the first tree is a column of the second one
   named : (n a c : List ℕ) → Writable (name a) → Writable (name c) → IsLike value (expr.Named n) (expr.Dotted a c)
   qualified : (b n a c : List ℕ) → Writable (name a) → Writable (name c) → IsLike value (expr.Dotted b n) (expr.Dotted a c)
@@ -98,6 +94,10 @@ pub data IsLike : (n : Kind) → Tree n → Tree n → Type 0 where
   -- the alias stays
   an_item : {x u : Expr} (alias : Option (List ℕ)) → IsLike value x u
       → IsLike item (roll-Item (record { expr = x; alias = alias })) (roll-Item (record { expr = u; alias = alias }))
+  -- or goes, in the select of a SELECT INTO
+  a_bare_item : {x u : Expr} (alias : Option (List ℕ)) → IsLike value x u
+      → IsLike item (roll-Item (record { expr = x; alias = alias }))
+      (roll-Item (record { expr = u; alias = None }))
   no_item : IsLike items [] []
   one_item : {x u : Item} {xs us : List Item} → IsLike item x u → IsLike items xs us → IsLike items (x ∷ xs) (u ∷ us)
   -- the direction stays

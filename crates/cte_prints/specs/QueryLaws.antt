@@ -26,25 +26,23 @@ use Rattle.cte_template.specs.Tree.{tree}
 use Rattle.qualified_names.specs.Trees.{qualified}
 use Rattle.cte_prints.specs.Derivable.{Derivable}
 use Rattle.cte_types.specs.Linked.{HasLinkedItems}
-use Rattle.cte_types.specs.Typed.{HasKind, NoIntegers}
 use Rattle.cte_prints.specs.DerivableParts.{TableIsDerivable}
 
 -- What is asked of a function and its labels beside their relations: that it keeps the limit of
--- nodes, no integers of 32 bits, no item of a SELECT INTO that is a chain without links, parameters
--- that have a terminal, and labels whose numbers are bigints.
-pub record IsWritable (f : Function) (slots : List Slot) (r : Tail) (params : ℕ) : Type 0 where
+-- nodes, no item of a SELECT INTO that is a chain without links, parameters that have a terminal,
+-- and labels whose numbers are bigints.
+pub record IsWritable (f : Function) (r : Tail) (params : ℕ) : Type 0 where
   pub few : nodes f ≤ most_nodes
-  pub types : NoIntegers slots f.result
   pub items : Each HasLinkedItems (intos f.body)
-  pub columns : Each HasKind r.columns
   pub parameters : params ≤ 64
   pub labels : length r.labels < 2 ^ 63
 
--- Where the function's expressions can be derived with 195 brackets one inside another, the query,
+-- Where the function's expressions can be derived with 196 brackets one inside another, the query,
 -- with its names, can be derived with 216.
 abbrev pub TreeIsDerivable : Type 0
 TreeIsDerivable =
     (schema : Schema) (written f : Function) (slots : List Slot) (g : Goto) (z : Ssa) (a : Anf) (r : Tail) (count params : ℕ)
     → IsChecked schema written f slots → Lowered f slots g → Named count params g z → Called g z a → Merged g a r → Columned slots z a r
-    → Tight slots g z a r → IsWritable f slots r params → NumbersFit (making_of f slots z a r) → TableIsDerivable 195 schema (expressions f)
+    → Tight slots g z a r → IsWritable f r params → NumbersFit (making_of f slots z a r)
+    → TableIsDerivable 196 schema (expressions f)
     → Derivable 216 file (qualified (tree (making_of f slots z a r) g.entry (length schema.tables)))

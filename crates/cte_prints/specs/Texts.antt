@@ -38,7 +38,7 @@ pub record IsOfTexts (s : Schema) (f : Function) (slots : List Slot) : Type 0 wh
   pub reads_function : ReadsFunction function_text written
 
 -- The text of the tree, with its names, reads as the tree with its names, which breaks no rule
--- under the schema and is the tree once they are resolved.
+-- under the schema and is the tree once they are resolved and its operations marked.
 pub record ReadsAgain (s : Schema) (q : Query) : Type 0 where
   pub may_be_read : MayBeRead (query_text (qualified q))
   pub reads : ReadsQuery (query_text (qualified q)) (qualified q)

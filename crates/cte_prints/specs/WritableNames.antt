@@ -1,6 +1,6 @@
 -- Trees whose names can be written: each is in lower case and isn't reserved. No slot, no column by
--- its place and no WITH stands in them.
-use Rattle.std.specs.Prelude.{ℕ, ℤ, Bool, List, [], ◌∷◌, Option, Some, None}
+-- its place and no WITH stands in them, and their operations have no marks.
+use Rattle.std.specs.Prelude.{◌≡◌, ℕ, ℤ, Bool, List, [], ◌∷◌, Option, Some, None}
 use Rattle.away_values.specs.declared.types.Ty.{Ty}
 use Rattle.away_values.specs.declared.operators.ChainOp.{ChainOp}
 use Rattle.away_values.specs.declared.operators.CmpOp.{CmpOp}
@@ -20,6 +20,7 @@ use Rattle.away_trees.specs.declared.queries.Expr.TheViews.{
   roll-Query,
 }
 use Rattle.away_grammar.specs.Terminals.{name}
+use Rattle.elaboration.specs.Marks.{plain_op}
 use Rattle.sql_printer.specs.Writable.{Writable}
 use Rattle.cte_prints.specs.Like.{
   Kind,
@@ -74,8 +75,8 @@ pub data NamesAreWritable : (n : Kind) → Tree n → Type 0 where
   no_value : NamesAreWritable values []
   one_value : {x : Expr} {xs : List Expr} → NamesAreWritable value x → NamesAreWritable values xs → NamesAreWritable values (x ∷ xs)
   no_link : NamesAreWritable links []
-  one_link : {x : Expr} {xs : List (ChainOp × Expr)} (o : ChainOp) → NamesAreWritable value x
-      → NamesAreWritable links xs → NamesAreWritable links ((o, x) ∷ xs)
+  one_link : {x : Expr} {xs : List (ChainOp × Expr)} (o : ChainOp) → plain_op o ≡ o
+      → NamesAreWritable value x → NamesAreWritable links xs → NamesAreWritable links ((o, x) ∷ xs)
   no_arm : NamesAreWritable arms []
   one_arm : {x y : Expr} {xs : List (Expr × Expr)} → NamesAreWritable value x → NamesAreWritable value y → NamesAreWritable arms xs
       → NamesAreWritable arms ((x, y) ∷ xs)

@@ -7,8 +7,8 @@ pub fn names_that_are_read_are_writable()
     ensures { ReadNamesAreWritable }
 {}
 
-/// Each expression of a checked function within the limits can be derived where a query has it, if the function's were read from terminals that can be
-/// written and its slots have types that a cast can name. NULL of the type integer can't.
+/// Each expression of a checked function within the limits can be derived where a query has it, if the function's were read from terminals that can
+/// be written.
 pub fn expressions_in_a_query_are_derivable()
     ensures { ExpressionsAreDerivable }
 {}

@@ -5,6 +5,7 @@ use Rattle.away_trees.specs.declared.queries.Expr.TheVariants as expr
 use Rattle.away_trees.specs.declared.queries.Col.{Col}
 use Rattle.away_values.specs.declared.types.Ty.{Ty}
 use Rattle.away_values.specs.declared.types.Ty.TheVariants as ty
+use Rattle.away_values.specs.Operators.{literal_type}
 use Rattle.sql_meaning.specs.Placed.{further, placed, placed_at}
 use Rattle.tree_events.specs.declared.events.Kind.{Kind}
 use Rattle.tree_events.specs.declared.events.Kind.TheVariants as kind
@@ -40,9 +41,10 @@ slot_stands depth slots refs k i r is found rest =
     ∙ (ap (λ r. placed_kind (λ i. further depth.within (col_at depth.out r)) 0 (kind.Slot i) rest) found
     ∙ ap (λ k. placed_kind (slot_column_in depth slots refs) 0 k rest) (sym is))
 
-pub number_stands : (ref : ℕ → Col) (k : Kind) (n : ℤ) → k ≡ kind.Int n → (rest : Events)
-    → event.Open (kind.Cast ty.Bigint) ∷ event.Open k ∷ event.Close ∷ rest ≡ placed_kind ref 0 k rest
-number_stands ref k n is rest = subst (λ k. event.Open (kind.Cast ty.Bigint) ∷ event.Open k ∷ event.Close ∷ rest ≡ placed_kind ref 0 k rest) (sym is) refl
+pub number_stands : (ref : ℕ → Col) (k cast : Kind) (n : ℤ) → k ≡ kind.Int n → cast ≡ kind.Cast (literal_type n) → (rest : Events)
+    → event.Open cast ∷ event.Open (kind.Int n) ∷ event.Close ∷ rest ≡ placed_kind ref 0 k rest
+number_stands ref k cast n is typed rest =
+    ap (λ c. event.Open c ∷ event.Open (kind.Int n) ∷ event.Close ∷ rest) typed ∙ ap (λ k. placed_kind ref 0 k rest) (sym is)
 
 pub truth_stands : (ref : ℕ → Col) (k : Kind) (v : Bool) → k ≡ kind.Bool v → (rest : Events)
     → event.Open (kind.Cast ty.Boolean) ∷ event.Open k ∷ event.Close ∷ rest ≡ placed_kind ref 0 k rest

@@ -9,6 +9,7 @@ ghost use Rattle.tree_events.specs.declared.events.Kind.TheVariants as kind;
 ghost use Rattle.tree_events.specs.declared.events.TreeEvent.TheVariants as event;
 ghost use Rattle.sql_meaning.specs.Placed.{further, placed_at};
 ghost use Rattle.sql_meaning.specs.Template.{let_item};
+ghost use Rattle.away_values.specs.Operators.{literal_type as type_of_literal};
 ghost use Rattle.cte_reads.specs.Entries.{EntryOf, EntriesOf, let_at};
 ghost use Rattle.cte_reads.specs.Placing.{slot_column, slot_column_in, depth_behind, placed_event_put};
 ghost use Rattle.cte_reads.specs.Puts.{expr_put, from_put};
@@ -21,7 +22,7 @@ use crate::parts::{close_lateral, end_of_body, null_of, open_lateral};
 use crate::reading::{Wanted, close, empty, enter, event, leave, name, open};
 use crate::scope::{Ref, Scope, find_all, lookup};
 use away_trees::Col;
-use away_values::{NoMemory, Ty};
+use away_values::{NoMemory, Ty, literal_type};
 use block_forms::Term;
 use sqlite_items::Items;
 use std::alloc::Global;
@@ -102,6 +103,28 @@ fn open_literal(events: &[TreeEvent], at: Option<usize>, ty: Ty, literal: Kind) 
     open(events, at, literal)
 }
 
+/// The cast of a number to its own type.
+fn number_cast(n: i64) -> Kind
+    ensures { result ≡ kind.Cast (type_of_literal n) }
+{
+    Kind::Cast(literal_type(n))
+}
+
+/// A number or a truth under its cast, as a whole.
+fn whole_literal(
+    events: &[TreeEvent],
+    at: Option<usize>,
+    cast: Kind,
+    literal: Kind,
+) -> Option<usize>
+    ensures { Reads (λ rest. event.Open cast ∷ event.Open literal ∷ event.Close
+        ∷ rest) events.now at result }
+{
+    let cast_end = open(events, at, cast);
+    let literal_end = open(events, cast_end, literal);
+    close(events, literal_end)
+}
+
 /// The first event of a node, where a slot is its column and a literal has its cast. Behind a number or a truth the literal's own end follows.
 fn placed_node(
     events: &[TreeEvent],
@@ -116,8 +139,8 @@ fn placed_node(
 {
     match kind {
         Kind::Slot(slot) => open_ref(events, at, slot_ref(slots, refs, slot), depth),
-        Kind::Int(_) => close(events, open_literal(events, at, Ty::Bigint, kind)),
-        Kind::Bool(_) => close(events, open_literal(events, at, Ty::Boolean, kind)),
+        Kind::Int(n) => whole_literal(events, at, number_cast(n), kind),
+        Kind::Bool(_) => whole_literal(events, at, Kind::Cast(Ty::Boolean), kind),
         Kind::Str => open_literal(events, at, Ty::Text, kind),
         _ => open(events, at, kind),
     }

@@ -96,6 +96,22 @@ fn columns_stand_for_slots(rt: HostRuntime) {
     assert_eq!(rt; cast_to(&none), Some(Ty::Text));
 }
 
+/// A literal that 32 bits hold is an integer; a negative one isn't.
+#[test]
+fn literals_have_their_own_types(rt: HostRuntime) {
+    for (value, ty) in [
+        (0, Ty::Integer),
+        (2147483647, Ty::Integer),
+        (2147483648, Ty::Bigint),
+        (-1, Ty::Bigint),
+    ] {
+        let placed = place(rt.alloc(), Ty::Bigint, &Expr::Int(value), &[], OTHER).expect(
+            &rt, "memory",
+        );
+        assert_eq!(rt; cast_to(&placed), Some(ty));
+    }
+}
+
 #[test]
 fn items_of_a_branch_have_aliases(rt: HostRuntime) {
     let go = truth(rt.alloc(), true).expect(&rt, "memory");

@@ -10,11 +10,12 @@ use Rattle.away_trees.specs.declared.schemas.Schema.{Schema}
 use Rattle.away_trees.specs.declared.statements.Function.{Function}
 use Rattle.away_types.specs.declared.slots.Slot.{Slot}
 use Rattle.away_types.specs.CheckedFunctions.{IsChecked}
-use Rattle.away_types.specs.FunctionChecks.{asked_in, function_note, head_note, types_note, body_of, resolved_function, slots_of}
+use Rattle.away_types.specs.FunctionChecks.{around_in, asked_in, function_note, head_note, types_note, body_of, resolved_function, slots_of}
 use Rattle.away_types.specs.StatementTypes.{asking, asked_stmt}
 use Rattle.away_trees.specs.StatementAlgebra.{stmt_of}
+use Rattle.elaboration.specs.Converting.{Around, converted}
 use Rattle.select_into.specs.Entries.{Target, type_of}
-use Rattle.block_forms.specs.Intos.{Into, intos, into_targets}
+use Rattle.block_forms.specs.Intos.{Into, selecting, intos, into_targets}
 use Rattle.block_forms.specs.Laid.{Setting, laid}
 use Rattle.block_forms.specs.Lowered.{numbers_of}
 use Rattle.block_forms.specs.OwnSlots.{named_slots}
@@ -25,6 +26,7 @@ use Rattle.function_facts.proofs.SlotsOfParameters.{of_written}
 use Rattle.away_types.proofs.ClearReports.{Clear, clear_bodies}
 use Rattle.type_soundness.specs.Sorts.{Every}
 use Rattle.cte_types.specs.Linked.{HasLinkedItems}
+use Rattle.cte_types.proofs.IntoMarks.{IsMarked, stmt_marked}
 use Rattle.cte_types.proofs.IntoTargets.{SlotBelow, IntoBelow, stmt_below}
 use Rattle.cte_types.proofs.Positions.{ItemLinked, VariableAt, TargetAt, IntosAt}
 use Rattle.cte_types.proofs.Standing.{Row, row_right, row_left, row_same, SlotAt, slots_stand, type_at}
@@ -33,13 +35,19 @@ pub record Facts (schema : Schema) (f : Function) (slots : List Slot) : Type 0 w
   pub types : Clear (stmt_of asking f.body (asked_in schema slots f.result))
   pub owned : slots ≡ own_slots f
   pub sets : Every (λ x. x < named_slots f) (targets f.body)
+  pub marks : Every (IsMarked (around_in schema slots f.result)) (stmt_of selecting f.body)
 
 written_facts : (s : Schema) (f : Function) → Clear (function_note s f) → Facts s (resolved_function s f) (slots_of s f)
-unfolding asked_stmt
+unfolding asked_stmt converted
 written_facts s f c =
     let body = clear_bodies _ (head_note f) (body_of s f).note (types_note s f) c in
     let own = of_written s f c in
-    record { types = body.1; owned = own.slots_are; sets = own.sets }
+    record {
+      types = body.1;
+      owned = own.slots_are;
+      sets = own.sets;
+      marks = stmt_marked (around_in s (slots_of s f) f.result) (body_of s f).it;
+    }
 
 pub facts : (schema : Schema) (written f : Function) (slots : List Slot) → IsChecked schema written f slots → Facts schema f slots
 facts schema written f slots h =
@@ -121,21 +129,21 @@ module _ (f : Function) (vars : (laid f.body).size.slot ≡ length (variables f.
   hidden_stand : Row HiddenAt 0 (into_targets f.body)
   hidden_stand = hidden_row (into_targets f.body) 0 (λ j. target_slot ((numbers_of f).targets + (0 + j)) j (omega arith))
 
-  module _ (table : List Expr) (s : Setting) (slots_are : s.slots ≡ own_slots f) (targets_are : s.numbers.targets ≡ (numbers_of f).targets) where
-    variable_at : (o : Option ℕ) → SlotBelow (named_slots f) o → VariableAt table s (shown_types f) fors o (type_of (shown_types f) o)
+  module _ (table : List Expr) (s : Setting) (w : Around) (slots_are : s.slots ≡ own_slots f) (targets_are : s.numbers.targets ≡ (numbers_of f).targets) where
+    variable_at : (o : Option ℕ) → SlotBelow (named_slots f) o → VariableAt table s w (shown_types f) fors o (type_of (shown_types f) o)
     variable_at None b = tt
     variable_at (Some x) b = ap (λ xs. type_at xs x) slots_are ∙ named_slot x b
 
-    targets_at : (k : ℕ) (ts : List Target) → Row HiddenAt k ts → Every (λ (t : Target). SlotBelow (named_slots f) t.1) ts → Row (TargetAt table s (shown_types f) fors) k ts
+    targets_at : (k : ℕ) (ts : List Target) → Row HiddenAt k ts → Every (λ (t : Target). SlotBelow (named_slots f) t.1) ts → Row (TargetAt table s w (shown_types f) fors) k ts
     targets_at k [] h b = tt
     targets_at k (t ∷ ts) h b = (((λ i. type_at (slots_are i) (targets_are i + k)) ∙ h.0, variable_at t.1 b.0), targets_at (suc k) ts h.1 b.1)
 
     intos_at : (k : ℕ) (is : List Into) → Row HiddenAt k (flat_map (λ (i : Into). i.targets) is) → Every (IntoBelow (named_slots f)) is
-        → Every (λ (i : Into). Every ItemLinked (out-Select i.query).list) is → IntosAt table s (shown_types f) fors k is
-    intos_at k [] h b l = tt
-    intos_at k (i ∷ is) h b l = (
-      (targets_at k i.targets (row_left HiddenAt k i.targets (flat_map (λ (i : Into). i.targets) is) h) b.0, l.0),
-      intos_at (k + length i.targets) is (row_right HiddenAt k (length i.targets) i.targets (flat_map (λ (i : Into). i.targets) is) refl h) b.1 l.1,
+        → Every (λ (i : Into). Every ItemLinked (out-Select i.query).list) is → Every (IsMarked w) is → IntosAt table s w (shown_types f) fors k is
+    intos_at k [] h b l m = tt
+    intos_at k (i ∷ is) h b l m = (
+      (targets_at k i.targets (row_left HiddenAt k i.targets (flat_map (λ (i : Into). i.targets) is) h) b.0, (l.0, m.0)),
+      intos_at (k + length i.targets) is (row_right HiddenAt k (length i.targets) i.targets (flat_map (λ (i : Into). i.targets) is) refl h) b.1 l.1 m.1,
     )
 
     every_of_each : {A : Type 0} (P : A → Type 0) (xs : List A) → Each P xs → Every P xs
@@ -146,7 +154,8 @@ module _ (f : Function) (vars : (laid f.body).size.slot ≡ length (variables f.
     items_linked [] h = tt
     items_linked (i ∷ is) h = (every_of_each ItemLinked (out-Select i.query).list h.0, items_linked is h.1)
 
-    pub intos_stand : Every (λ x. x < named_slots f) (targets f.body) → Each HasLinkedItems (intos f.body) → IntosAt table s (shown_types f) fors 0 (intos f.body)
+    pub intos_stand : Every (λ x. x < named_slots f) (targets f.body) → Each HasLinkedItems (intos f.body) → Every (IsMarked w) (stmt_of selecting f.body)
+        → IntosAt table s w (shown_types f) fors 0 (intos f.body)
     unfolding targets intos
-    intos_stand sets linked =
-        intos_at 0 (intos f.body) hidden_stand (stmt_below (named_slots f) f.body sets) (items_linked (intos f.body) (every_of_each HasLinkedItems (intos f.body) linked))
+    intos_stand sets linked marks =
+        intos_at 0 (intos f.body) hidden_stand (stmt_below (named_slots f) f.body sets) (items_linked (intos f.body) (every_of_each HasLinkedItems (intos f.body) linked)) marks

@@ -5,6 +5,7 @@ use Rattle.away_values.specs.declared.operators.CmpOp.{CmpOp}
 use Rattle.away_values.specs.declared.operators.CmpOp.TheVariants as cmp
 use Rattle.away_trees.specs.declared.queries.Expr.{Expr}
 use Rattle.away_trees.specs.declared.queries.Expr.TheVariants as expr
+use Rattle.away_trees.specs.declared.queries.Expr.TheViews.{out-Select}
 use Rattle.away_trees.specs.declared.queries.Select.{Select}
 use Rattle.away_trees.specs.Algebra.{expr_of, from_of, query_of as of_query, select_of}
 use Rattle.away_trees.proofs.Equations as eq
@@ -15,8 +16,8 @@ use Rattle.away_typing.specs.Parameters.{Found, finding}
 use Rattle.away_typing.specs.Parameters as params
 use Rattle.plsql_meaning.specs.Sight.{query_of}
 use Rattle.sql_meaning.specs.Trees.{col, item, one}
-use Rattle.select_into.specs.Entries.{Target, check_entries, into_entries, pick_entries, target_types}
-use Rattle.select_into.specs.Wrapped.{as_source, over_source, scalar_over, count_compared, pick, picked}
+use Rattle.select_into.specs.Entries.{Target, cast_at, check_entries, into_entries, pick_entries, pick_entry, target_types, unmarked}
+use Rattle.select_into.specs.Wrapped.{as_source, over_source, scalar_over, count_compared, pick, pick_as, picked}
 use Rattle.select_into.proofs.Casts.{picked_as}
 use Rattle.type_soundness.specs.Sorts.{Every}
 use Rattle.type_soundness.proofs.Lists.{every_append}
@@ -88,12 +89,17 @@ compared_calm op s n h =
     subst (λ (t : Term). Calm t.uses) (sym (eq.of_compare using_ op (scalar_over expr.CountRows None s) (expr.Int n)))
     (either_calm (expr_of using_ (scalar_over expr.CountRows None s)).uses unused count unused_calm)
 
-pub pick_calm : (s : Select) (j : ℕ) → Allowed (select_of using_ s).uses → Calm (expr_of using_ (pick s j)).uses
+pick_calm : (s : Select) (j : ℕ) → Allowed (select_of using_ s).uses → Calm (expr_of using_ (pick s j)).uses
 unfolding of_column unused either
 pick_calm s j h = scalar_calm (col 0 0 j) (Some (expr.Int (pos 1))) s (over_allowed (col 0 0 j) (Some (expr.Int (pos 1))) s h (record { misused = refl; limited = refl }) refl unused_calm refl)
 
+-- under a cast or none
+pub pick_as_calm : (c : Option Ty) (s : Select) (j : ℕ) → Allowed (select_of using_ s).uses → Calm (expr_of using_ (pick_as c s j)).uses
+pick_as_calm None s j h = pick_calm s j h
+pick_as_calm (Some t) s j h = subst (λ (u : Term). Calm u.uses) (sym (eq.of_cast using_ (pick s j) t)) (pick_calm s j h)
+
 pub picked_allowed : (ts : List Ty) (s : Select) → Allowed (select_of using_ s).uses → Allowed (select_of using_ (picked ts s)).uses
-picked_allowed ts s h = subst (λ (t : Term). Allowed t.uses) (sym (picked_as using_ (λ t. refl) ts s)) h
+picked_allowed ts s h = subst (λ (t : Term). Allowed t.uses) (sym (picked_as using_ (λ t. refl) (λ x alias. refl) ts s)) h
 
 -- ---- parameters
 
@@ -115,15 +121,23 @@ compared_quiet op s n h =
 pick_quiet : (s : Select) (j : ℕ) → Quiet (select_of finding s) → Quiet (expr_of finding (pick s j))
 pick_quiet s j h = scalar_quiet (col 0 0 j) (Some (expr.Int (pos 1))) s (over_quiet (col 0 0 j) (Some (expr.Int (pos 1))) s h (λ p. refl) (λ p. refl))
 
-inner_quiet : (s : Select) → Quiet (expr_of finding (query_of s)) → Quiet (select_of finding s)
-inner_quiet s h = subst Quiet (eq.of_scalar finding (one s) ∙ eq.of_query finding (s ∷ [])) h
+-- the select as a whole expression
+pub whole_found : (s : Select) → expr_of finding (query_of s) ≡ select_of finding s
+whole_found s = eq.of_scalar finding (one s) ∙ eq.of_query finding (s ∷ [])
+
+pub inner_quiet : (s : Select) → Quiet (expr_of finding (query_of s)) → Quiet (select_of finding s)
+inner_quiet s h = subst Quiet (whole_found s) h
 
 abbrev pub IsQuiet : Expr → Type 0
 IsQuiet e = Quiet (expr_of finding e)
 
-picks_quiet : (s : Select) → Quiet (select_of finding s) → (places : List ℕ) → Every IsQuiet (map (λ place. pick s place) places)
-picks_quiet s h [] = tt
-picks_quiet s h (place ∷ places) = (pick_quiet s place h, picks_quiet s h places)
+pick_as_quiet : (c : Option Ty) (s : Select) (j : ℕ) → Quiet (select_of finding s) → Quiet (expr_of finding (pick_as c s j))
+pick_as_quiet None s j h = pick_quiet s j h
+pick_as_quiet (Some t) s j h = quiet_is _ _ (eq.of_cast finding (pick s j) t) (pick_quiet s j h)
+
+picks_quiet : (ts : List Ty) (s : Select) → Quiet (select_of finding (picked ts s)) → (places : List ℕ) → Every IsQuiet (map (pick_entry ts s) places)
+picks_quiet ts s h [] = tt
+picks_quiet ts s h (place ∷ places) = (pick_as_quiet (cast_at ts (out-Select s).list place) (picked ts s) place h, picks_quiet ts s h places)
 
 checks_quiet : (strict : Bool) (s : Select) → Quiet (select_of finding s) → Every IsQuiet (check_entries strict s)
 checks_quiet true s h = (compared_quiet cmp.Eq s (pos 0) h, (compared_quiet cmp.Gt s (pos 1) h, tt))
@@ -133,5 +147,7 @@ pub entries_quiet : (types : List Ty) (strict : Bool) (targets : List Target) (s
 entries_quiet types strict targets s h =
     let ts = target_types types targets in
     let whole = inner_quiet s h in
-    every_append IsQuiet (check_entries strict s) (pick_entries ts s) (checks_quiet strict s whole)
-    (picks_quiet (picked ts s) (subst Quiet (sym (picked_as finding (λ t. refl) ts s)) whole) _)
+    every_append IsQuiet (check_entries strict (unmarked s)) (pick_entries ts s) (checks_quiet strict (unmarked s) (as_before [] whole)) (picks_quiet ts s (as_before ts whole) _)
+  where
+    as_before : (ts : List Ty) → Quiet (select_of finding s) → Quiet (select_of finding (picked ts s))
+    as_before ts = subst Quiet (sym (picked_as finding (λ t. refl) (λ x alias. refl) ts s))

@@ -3,12 +3,13 @@ use Rattle.std.proofs.Common.{◌≡◌, refl, ap, sym, ◌∙◌, subst, ℕ, z
 use Rattle.std.proofs.lemmas.Option.{same_Some}
 use Rattle.away_values.specs.declared.types.Ty.{Ty}
 use Rattle.away_values.specs.declared.types.Ty.TheVariants as ty
+use Rattle.away_values.specs.Operators.{literal_type}
 use Rattle.away_trees.specs.declared.queries.Expr.{Expr}
 use Rattle.away_trees.specs.declared.queries.Expr.TheVariants as expr
 use Rattle.away_trees.specs.declared.queries.Expr.TheBlock as b
 use Rattle.away_types.specs.declared.slots.Slot.{Slot}
 use Rattle.away_typing.specs.Aggregates.{outside, unused, either, of_slot}
-use Rattle.away_typing.specs.Kinds.{fits, same, only_if, meet, of_type, is_right}
+use Rattle.away_typing.specs.Kinds.{fits, same, only_if, meet, meet_types, is_number, are_integers, is_right}
 use Rattle.away_typing.specs.Typing.{kind_at, pair, passed, cast_kind, castable}
 use Rattle.away_typing.specs.Trees.{kind_of, uses_of}
 use Rattle.sql_meaning.specs.Reads.{slots_of}
@@ -17,7 +18,7 @@ use Rattle.block_forms.specs.declared.fixed_list.Fixed.TheVariants as fix
 use Rattle.block_forms.specs.FixedList.{fixed_list, position, in_range_entry, past_end_entry, next_entry}
 use Rattle.block_forms.specs.Patterns.{entry_term, null_of, is_null, not_positive, one, copy, in_range, leaves_range, moved}
 use Rattle.block_forms.specs.Places.{EachPair}
-use Rattle.cte_types.specs.Typed.{HasKind, HasTypeBy}
+use Rattle.cte_types.specs.Typed.{HasTypeBy}
 use Rattle.cte_types.proofs.PartTypes.{Has}
 use Rattle.cte_types.proofs.Standing.{type_at, get_behind}
 
@@ -45,47 +46,47 @@ abbrev numbers : List Ty
 numbers = ty.Bigint ∷ ty.Bigint ∷ []
 
 module _ (tables : List (List Ty)) where
-  null_typed : (t : Ty) → HasKind t → Entry tables (fix.Null t) no_slot [] t
-  unfolding b.hidden-the_row-Expr-0 denote.Hole.Carrier.hidden kind_of uses_of outside unused fits same of_type cast_kind
-  null_typed ty.Bigint h = record { reads = refl; kind = refl; limited = refl; outside_list = refl }
-  null_typed ty.Boolean h = record { reads = refl; kind = refl; limited = refl; outside_list = refl }
-  null_typed ty.Text h = record { reads = refl; kind = refl; limited = refl; outside_list = refl }
-  null_typed ty.Integer h = absurd h
+  null_typed : (t : Ty) → Entry tables (fix.Null t) no_slot [] t
+  unfolding b.hidden-the_row-Expr-0 denote.Hole.Carrier.hidden kind_of uses_of outside unused fits same cast_kind
+  null_typed ty.Bigint = record { reads = refl; kind = refl; limited = refl; outside_list = refl }
+  null_typed ty.Boolean = record { reads = refl; kind = refl; limited = refl; outside_list = refl }
+  null_typed ty.Text = record { reads = refl; kind = refl; limited = refl; outside_list = refl }
+  null_typed ty.Integer = record { reads = refl; kind = refl; limited = refl; outside_list = refl }
 
-  test_typed : (t : Ty) → HasKind t → Entry tables (fix.IsNull t) a_alone (t ∷ []) ty.Boolean
-  unfolding b.hidden-the_row-Expr-0 denote.Hole.Carrier.hidden kind_of uses_of outside unused of_slot fits same of_type kind_at passed is_right only_if
-  test_typed ty.Bigint h = record { reads = refl; kind = refl; limited = refl; outside_list = refl }
-  test_typed ty.Boolean h = record { reads = refl; kind = refl; limited = refl; outside_list = refl }
-  test_typed ty.Text h = record { reads = refl; kind = refl; limited = refl; outside_list = refl }
-  test_typed ty.Integer h = absurd h
+  test_typed : (t : Ty) → Entry tables (fix.IsNull t) a_alone (t ∷ []) ty.Boolean
+  unfolding b.hidden-the_row-Expr-0 denote.Hole.Carrier.hidden kind_of uses_of outside unused of_slot fits same kind_at passed is_right only_if
+  test_typed ty.Bigint = record { reads = refl; kind = refl; limited = refl; outside_list = refl }
+  test_typed ty.Boolean = record { reads = refl; kind = refl; limited = refl; outside_list = refl }
+  test_typed ty.Text = record { reads = refl; kind = refl; limited = refl; outside_list = refl }
+  test_typed ty.Integer = record { reads = refl; kind = refl; limited = refl; outside_list = refl }
 
   positive_typed : Entry tables fix.NotPositive a_alone (ty.Bigint ∷ []) ty.Boolean
-  unfolding b.hidden-the_row-Expr-0 denote.Hole.Carrier.hidden kind_of uses_of outside unused either of_slot fits same of_type kind_at is_right only_if meet
+  unfolding b.hidden-the_row-Expr-0 denote.Hole.Carrier.hidden kind_of uses_of outside unused either of_slot fits same kind_at is_right only_if meet meet_types literal_type
   positive_typed = record { reads = refl; kind = refl; limited = refl; outside_list = refl }
 
   one_typed : Entry tables fix.One no_slot [] ty.Bigint
-  unfolding b.hidden-the_row-Expr-0 denote.Hole.Carrier.hidden kind_of uses_of outside unused fits same of_type cast_kind castable only_if
+  unfolding b.hidden-the_row-Expr-0 denote.Hole.Carrier.hidden kind_of uses_of outside unused fits same cast_kind castable only_if literal_type
   one_typed = record { reads = refl; kind = refl; limited = refl; outside_list = refl }
 
-  copy_typed : (t : Ty) → HasKind t → Entry tables fix.Copy a_alone (t ∷ []) t
-  unfolding b.hidden-the_row-Expr-0 denote.Hole.Carrier.hidden kind_of uses_of outside unused of_slot fits same of_type kind_at
-  copy_typed ty.Bigint h = record { reads = refl; kind = refl; limited = refl; outside_list = refl }
-  copy_typed ty.Boolean h = record { reads = refl; kind = refl; limited = refl; outside_list = refl }
-  copy_typed ty.Text h = record { reads = refl; kind = refl; limited = refl; outside_list = refl }
-  copy_typed ty.Integer h = absurd h
+  copy_typed : (t : Ty) → Entry tables fix.Copy a_alone (t ∷ []) t
+  unfolding b.hidden-the_row-Expr-0 denote.Hole.Carrier.hidden kind_of uses_of outside unused of_slot fits same kind_at
+  copy_typed ty.Bigint = record { reads = refl; kind = refl; limited = refl; outside_list = refl }
+  copy_typed ty.Boolean = record { reads = refl; kind = refl; limited = refl; outside_list = refl }
+  copy_typed ty.Text = record { reads = refl; kind = refl; limited = refl; outside_list = refl }
+  copy_typed ty.Integer = record { reads = refl; kind = refl; limited = refl; outside_list = refl }
 
   range_typed : (reverse : Bool) → Entry tables (in_range_entry reverse) a_and_b numbers ty.Boolean
-  unfolding b.hidden-the_row-Expr-0 denote.Hole.Carrier.hidden kind_of uses_of outside unused either of_slot fits same of_type kind_at is_right only_if meet
+  unfolding b.hidden-the_row-Expr-0 denote.Hole.Carrier.hidden kind_of uses_of outside unused either of_slot fits same kind_at is_right only_if meet meet_types literal_type
   range_typed true = record { reads = refl; kind = refl; limited = refl; outside_list = refl }
   range_typed false = record { reads = refl; kind = refl; limited = refl; outside_list = refl }
 
   end_typed : (reverse : Bool) → Entry tables (past_end_entry reverse) a_and_b numbers ty.Boolean
-  unfolding b.hidden-the_row-Expr-0 b.hidden-the_row-Expr-Chain-1-2-1 denote.Hole.Carrier.hidden kind_of uses_of outside unused either of_slot fits same of_type kind_at is_right only_if meet pair
+  unfolding b.hidden-the_row-Expr-0 b.hidden-the_row-Expr-Chain-1-2-1 denote.Hole.Carrier.hidden kind_of uses_of outside unused either of_slot fits same kind_at is_right only_if meet meet_types pair is_number are_integers literal_type
   end_typed true = record { reads = refl; kind = refl; limited = refl; outside_list = refl }
   end_typed false = record { reads = refl; kind = refl; limited = refl; outside_list = refl }
 
   move_typed : (reverse : Bool) → Entry tables (next_entry reverse) a_and_b numbers ty.Bigint
-  unfolding b.hidden-the_row-Expr-0 b.hidden-the_row-Expr-Chain-1-2-1 denote.Hole.Carrier.hidden kind_of uses_of outside unused either of_slot fits same of_type kind_at is_right only_if meet pair
+  unfolding b.hidden-the_row-Expr-0 b.hidden-the_row-Expr-Chain-1-2-1 denote.Hole.Carrier.hidden kind_of uses_of outside unused either of_slot fits same kind_at is_right only_if meet meet_types pair is_number are_integers literal_type
   move_typed true = record { reads = refl; kind = refl; limited = refl; outside_list = refl }
   move_typed false = record { reads = refl; kind = refl; limited = refl; outside_list = refl }
 
@@ -128,11 +129,11 @@ module _ (tables : List (List Ty)) (es : List Expr) (slots : List Slot) (result 
 -- ---- all of them
 
 pub record FixedHave (tables : List (List Ty)) (table : List Expr) (slots : List Slot) (result : Ty) (S : ℕ) : Type 0 where
-  pub nulls : (t : Ty) → HasKind t → Has tables table slots result t (null_of S t)
-  pub null_tests : (t : Ty) (x : ℕ) → HasKind t → type_at slots x ≡ t → Has tables table slots result ty.Boolean (is_null S t x)
+  pub nulls : (t : Ty) → Has tables table slots result t (null_of S t)
+  pub null_tests : (t : Ty) (x : ℕ) → type_at slots x ≡ t → Has tables table slots result ty.Boolean (is_null S t x)
   pub positives : (x : ℕ) → type_at slots x ≡ ty.Bigint → Has tables table slots result ty.Boolean (not_positive S x)
   pub ones : Has tables table slots result ty.Bigint (one S)
-  pub copies : (t : Ty) (x : ℕ) → HasKind t → type_at slots x ≡ t → Has tables table slots result t (copy S x)
+  pub copies : (t : Ty) (x : ℕ) → type_at slots x ≡ t → Has tables table slots result t (copy S x)
   pub ranges : (reverse : Bool) (x y : ℕ) → type_at slots x ≡ ty.Bigint → type_at slots y ≡ ty.Bigint
       → Has tables table slots result ty.Boolean (in_range S reverse x y)
   pub ends : (reverse : Bool) (x y : ℕ) → type_at slots x ≡ ty.Bigint → type_at slots y ≡ ty.Bigint
@@ -142,13 +143,13 @@ pub record FixedHave (tables : List (List Ty)) (table : List Expr) (slots : List
 
 pub fixed_have : (tables : List (List Ty)) (es : List Expr) (slots : List Slot) (result : Ty) → FixedHave tables (es ++ fixed_list) slots result (length es)
 fixed_have tables es slots result = record {
-  nulls = λ t h. entry_has tables es slots result (fix.Null t) no_slot [] t [] (null_typed tables t h) (beside_none tables es slots result []);
-  null_tests = λ t x h e. entry_has tables es slots result (fix.IsNull t) a_alone (t ∷ []) ty.Boolean (x ∷ []) (test_typed tables t h)
+  nulls = λ t. entry_has tables es slots result (fix.Null t) no_slot [] t [] (null_typed tables t) (beside_none tables es slots result []);
+  null_tests = λ t x e. entry_has tables es slots result (fix.IsNull t) a_alone (t ∷ []) ty.Boolean (x ∷ []) (test_typed tables t)
       (beside_one tables es slots result t x e);
   positives = λ x e. entry_has tables es slots result fix.NotPositive a_alone (ty.Bigint ∷ []) ty.Boolean (x ∷ []) (positive_typed tables)
       (beside_one tables es slots result ty.Bigint x e);
   ones = entry_has tables es slots result fix.One no_slot [] ty.Bigint [] (one_typed tables) (beside_none tables es slots result []);
-  copies = λ t x h e. entry_has tables es slots result fix.Copy a_alone (t ∷ []) t (x ∷ []) (copy_typed tables t h)
+  copies = λ t x e. entry_has tables es slots result fix.Copy a_alone (t ∷ []) t (x ∷ []) (copy_typed tables t)
       (beside_one tables es slots result t x e);
   ranges = λ reverse x y d e. entry_has tables es slots result (in_range_entry reverse) a_and_b numbers ty.Boolean (x ∷ y ∷ []) (range_typed tables reverse)
       (beside_two tables es slots result x y d e);

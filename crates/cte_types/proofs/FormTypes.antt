@@ -8,6 +8,7 @@ use Rattle.away_trees.specs.declared.schemas.Schema.{Schema}
 use Rattle.away_trees.specs.declared.statements.Function.{Function}
 use Rattle.away_types.specs.declared.slots.Slot.{Slot}
 use Rattle.away_typing.specs.Wholes.{column_types}
+use Rattle.elaboration.specs.Converting.{Around}
 use Rattle.block_forms.specs.declared.forms.End.{End}
 use Rattle.block_forms.specs.declared.forms.End.TheVariants as jump
 use Rattle.block_forms.specs.declared.forms.Goto.{Goto}
@@ -31,10 +32,10 @@ use Rattle.call_forms.specs.Called.{Called, EndCalled}
 use Rattle.call_forms.specs.Columned.{type_of_slot, type_at as type_of_option}
 use Rattle.call_forms.specs.Templated.{types_of, type_or_bigint}
 use Rattle.cte_types.specs.Linked.{HasLinkedItems}
-use Rattle.cte_types.specs.Typed.{HasTypeBy, TermHasType, SetHasType, EndHasType, BlockHasTypes, NoIntegers}
+use Rattle.cte_types.specs.Typed.{HasTypeBy, TermHasType, SetHasType, EndHasType, BlockHasTypes}
 use Rattle.cte_types.proofs.CheckedFacts.{Facts, params_stand, variables_stand, for_slot, intos_stand}
 use Rattle.cte_types.proofs.FixedTypes.{FixedHave, fixed_have}
-use Rattle.cte_types.proofs.PartTypes.{Has, SetHas, EndHas, BlockHas, AllHave, have_both, has_at}
+use Rattle.cte_types.proofs.PartTypes.{around, Has, SetHas, EndHas, BlockHas, AllHave, have_both, has_at}
 use Rattle.cte_types.proofs.ExitMaps.{inside, element_there, exit_owned}
 use Rattle.cte_types.proofs.PieceTypes.{ForAt}
 use Rattle.cte_types.proofs.Positions.{Stand}
@@ -43,7 +44,7 @@ use Rattle.cte_types.proofs.StatementTypes.{StatementHas, statement_has}
 
 -- ---- the goto form
 
-module _ (schema : Schema) (f : Function) (slots : List Slot) (known : Facts schema f slots) (plain : NoIntegers slots f.result)
+module _ (schema : Schema) (f : Function) (slots : List Slot) (known : Facts schema f slots)
     (linked : Each HasLinkedItems (intos f.body)) (g : Goto) (low : Lowered f slots g) where
   abbrev tables : List (List Ty)
   tables = column_types schema
@@ -56,6 +57,9 @@ module _ (schema : Schema) (f : Function) (slots : List Slot) (known : Facts sch
 
   abbrev FixedAt : ℕ → Type 0
   FixedAt = FixedHave tables table slots f.result
+
+  abbrev w : Around
+  w = around tables table slots f.result
 
   abbrev texts : List Expr
   texts = source_expressions f
@@ -76,9 +80,9 @@ module _ (schema : Schema) (f : Function) (slots : List Slot) (known : Facts sch
   no_for : (k : ℕ) → k < 0 → ForAt counting k
   no_for k lt = absurd (omega (arith, lt))
 
-  counted : StatementHas tables table f.result counting shown 0 text_fixed plain no_for (laid f.body) texts (variables f.body) (intos f.body)
+  counted : StatementHas tables table f.result counting shown 0 text_fixed no_for (laid f.body) texts (variables f.body) (intos f.body)
   unfolding laid sources variables intos
-  counted = statement_has tables table f.result counting shown 0 text_fixed plain no_for f.body known.types
+  counted = statement_has tables table f.result counting shown 0 text_fixed no_for f.body known.types
 
   fixed : FixedAt s.numbers.fixed
   fixed = subst FixedAt (sym counted.count.exprs) text_fixed
@@ -93,23 +97,23 @@ module _ (schema : Schema) (f : Function) (slots : List Slot) (known : Facts sch
     step = own_for (s.numbers.counters + 3 * k + 2) (3 * k + 2) (omega arith) (omega (arith, lt));
   }
 
-  body_stand : Stand table s shown fors (body_place f) (laid f.body).size texts (variables f.body) (intos f.body)
+  body_stand : Stand table s w shown fors (body_place f) (laid f.body).size texts (variables f.body) (intos f.body)
   body_stand = record {
     exprs = sources_stand texts fixed_list;
     slots = subst (λ xs. Row (SlotAt xs) (length f.params) (variables f.body)) (sym known.owned) (variables_stand f);
     room = omega arith;
-    intos = intos_stand f counted.count.slots table s known.owned refl known.sets linked;
+    intos = intos_stand f counted.count.slots table s w known.owned refl known.sets linked known.marks;
   }
 
   body_have : AllHave tables table slots f.result ((laid f.body).parts s (body_place f) [] g.finish)
   unfolding laid sources variables intos
-  body_have = (statement_has tables table f.result s shown fors fixed plain hidden f.body known.types).goes (body_place f) [] g.finish body_stand
+  body_have = (statement_has tables table f.result s shown fors fixed hidden f.body known.types).goes (body_place f) [] g.finish body_stand
 
   param_has : (strict : Bool) (i : ℕ) (t : Ty) → SlotAt slots i (slot t) → AllHave tables table slots f.result (param_parts s strict f.result i t)
   param_has false i t at = (tt, tt)
   param_has true i t at = (
-    (tt, fixed.null_tests t i (plain.slots_are i (slot t) at) (ap (λ o. type_or_bigint (type_of_slot o)) at)),
-    ((tt, fixed.nulls f.result plain.result_is), tt),
+    (tt, fixed.null_tests t i (ap (λ o. type_or_bigint (type_of_slot o)) at)),
+    ((tt, fixed.nulls f.result), tt),
   )
 
   params_have : (strict : Bool) (ps : List (List ℕ × Ty)) (i : ℕ) → Row (SlotAt slots) i (map (λ (p : List ℕ × Ty). slot p.1) ps)

@@ -1,5 +1,5 @@
 -- The query of typed forms breaks no rule.
-use Rattle.std.proofs.Common.{◌≡◌, refl, ap, sym, ◌∙◌, subst, ℕ, zero, suc, ◌<◌, ◌^◌, List, [], ◌∷◌, map, length, get_or, Option, Some, None}
+use Rattle.std.proofs.Common.{◌≡◌, refl, ap, sym, ◌∙◌, subst, ℕ, zero, suc, ◌<◌, ◌^◌, true, List, [], ◌∷◌, map, length, get_or, Option, Some, None}
 use Rattle.std.specs.Prelude.{slice_get}
 use Rattle.std.proofs.lemmas.Option.{get_or_from_slice_get}
 use Rattle.away_names.specs.declared.rule.Rule.TheVariants as rule
@@ -28,21 +28,21 @@ use Rattle.call_forms.specs.declared.forms.Anf.{Anf}
 use Rattle.call_forms.specs.declared.forms.Tail.{Tail}
 use Rattle.call_forms.specs.Bodies.{body_of}
 use Rattle.call_forms.specs.Called.{Among}
-use Rattle.call_forms.specs.Columned.{Columned, type_at, type_of_slot}
+use Rattle.call_forms.specs.Columned.{Columned}
 use Rattle.call_forms.specs.Forms.{label_of, params_of}
 use Rattle.call_forms.specs.Template.{entry_place}
 use Rattle.call_forms.specs.TailRuns.{label_or}
-use Rattle.call_forms.specs.Templated.{HasTree, types_of, type_or_bigint}
+use Rattle.call_forms.specs.Templated.{HasTree, types_of}
 use Rattle.call_law.proofs.Labels.{place_found, placed}
 use Rattle.cte_template.specs.Making.{Making, making_of}
 use Rattle.cte_template.specs.Tree.{tree}
 use Rattle.cte_template.specs.Walks.{keys_of}
-use Rattle.cte_types.specs.Typed.{HasKind, NoIntegers, BlockHasTypes, BlockKeepsTypes}
+use Rattle.elaboration.specs.Whole.{typed_whole}
+use Rattle.cte_types.specs.Typed.{BlockHasTypes, BlockKeepsTypes}
 use Rattle.cte_types.specs.TreeLaws.{HasNoParameter}
 use Rattle.cte_types.specs.Linked.{IsLinked}
 use Rattle.cte_types.proofs.BodyTypes.{FillsCells, LabelFits, at_label_fits, own_cells, body_typed}
-use Rattle.type_soundness.specs.Sorts.{Every}
-use Rattle.cte_types.proofs.JudgedTree.{judged_clean}
+use Rattle.cte_types.proofs.JudgedTree.{judged_clean, tree_typed}
 use Rattle.cte_types.proofs.TreeTypes.{IsLabel}
 use Rattle.cte_types.proofs.Values.{IsEntry}
 use Rattle.cte_types.proofs.WalkTypes.{IsSound}
@@ -50,8 +50,6 @@ use Rattle.cte_types.proofs.WalkTypes.{IsSound}
 -- what the forms of a function have
 pub record AreTyped (schema : Schema) (f : Function) (slots : List Slot) (g : Goto) (z : Ssa) (a : Anf) (r : Tail) : Type 0 where
   pub few : length schema.tables < 2 ^ 64
-  pub types : NoIntegers slots f.result
-  pub columns : Each HasKind r.columns
   pub linked : Each IsLinked (expressions f)
   pub parameters : Each HasNoParameter (expressions f)
   pub columned : Columned slots z a r
@@ -81,19 +79,6 @@ entries_of xs l n i = by (slice_get xs i) refl
     by None h = subst IsEntry (sym (missed xs i h)) null_entry
     by (Some e) h = subst IsEntry (sym (get_or_from_slice_get xs i e expr.Null h)) (entry_of e (l i e h) (n i e h))
 
-every_of : (ts : List Ty) → Each HasKind ts → Every HasKind ts
-every_of [] h = tt
-every_of (t ∷ ts) h = (h 0 t refl, every_of ts (λ i u e. h (suc i) u e))
-
-slot_type : (slots : List Slot) → Each (λ (s : Slot). HasKind s.ty) slots → (i : ℕ) (o : Option Slot) → slice_get slots i ≡ o
-    → HasKind (type_or_bigint (type_of_slot o))
-slot_type slots h i None e = tt
-slot_type slots h i (Some s) e = h i s e
-
-name_type : (slots : List Slot) → Each (λ (s : Slot). HasKind s.ty) slots → (o : Option ℕ) → HasKind (type_or_bigint (type_at slots o))
-name_type slots h None = tt
-name_type slots h (Some i) = slot_type slots h i (slice_get slots i) refl
-
 as_many : (f : TableSchema → List Ty) (ts : List TableSchema) → length ts ≡ length (map f ts)
 as_many f [] = refl
 as_many f (t ∷ ts) = ap suc (as_many f ts)
@@ -103,12 +88,7 @@ module _ (schema : Schema) (f : Function) (slots : List Slot) (g : Goto) (z : Ss
   m = making_of f slots z a r
 
   sound : IsSound m
-  sound = record {
-    entries = entries_of (expressions f) h.linked h.parameters;
-    named = λ n. name_type slots h.types.slots_are (slice_get z.names n);
-    result = h.types.result_is;
-    columns = every_of r.columns h.columns;
-  }
+  sound = record { entries = entries_of (expressions f) h.linked h.parameters }
 
   fits : (l b : ℕ) → slice_get r.labels l ≡ Some b → LabelFits slots z a r (column_types schema) (expressions f) f.result h.columned h.terms h.calls
       (params_of (slice_get a.blocks b)) (get_or r.places l [])
@@ -154,3 +134,8 @@ module _ (schema : Schema) (f : Function) (slots : List Slot) (g : Goto) (z : Ss
       (λ i. (note_of names.note (same i) (first i) (second i)).least)
       ∙ (ap (λ n. (note_of names.note (tree m g.entry n) Never Once).least) size
       ∙ judged_clean schema m sound small labels g.entry h.entry fills names.note unbroken)
+
+  pub typed : typed_whole schema Never (tree m g.entry (length schema.tables)) ≡ true
+  typed =
+      let small : length (column_types schema) < 2 ^ 64 = subst (λ n. n < 2 ^ 64) size h.few in
+      ap (λ n. typed_whole schema Never (tree m g.entry n)) size ∙ tree_typed schema m sound small labels g.entry h.entry fills

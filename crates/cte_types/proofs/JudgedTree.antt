@@ -1,5 +1,5 @@
 -- The query of a function breaks no rule of types, aggregates, recursion and parameters.
-use Rattle.std.proofs.Common.{◌≡◌, refl, ap, ◌∙◌, ℕ, ◌<◌, ◌^◌, Bool, true, false, not, ◌&&◌, if◌then◌else◌, List, [], ◌∷◌, map, length, Option, Some, None, is_some, arith}
+use Rattle.std.proofs.Common.{◌≡◌, refl, ap, ◌∙◌, ℕ, ◌<◌, ◌^◌, Bool, true, false, not, ◌&&◌, if◌then◌else◌, List, [], ◌∷◌, map, length, Option, Some, None, option_map, is_some, arith}
 use Rattle.std.specs.Prelude.{slice_get, ◌==◌}
 use Rattle.std.specs.List.{list_any}
 use Rattle.std.proofs.lemmas.Bool.{eq-eqb}
@@ -13,7 +13,7 @@ use Rattle.away_trees.specs.declared.queries.Recursive.{Recursive}
 use Rattle.away_trees.specs.declared.queries.Select.{Select}
 use Rattle.away_trees.specs.declared.queries.Query.{Query}
 use Rattle.away_trees.specs.declared.queries.Expr.TheOpen.{Select-F, Recursive-F, Query-F}
-use Rattle.away_trees.specs.declared.queries.Expr.TheViews.{out-Query, out-FromItem, out-roll-Query, out-roll-Recursive, out-roll-Select}
+use Rattle.away_trees.specs.declared.queries.Expr.TheViews.{out-Query, out-Recursive, out-FromItem, out-roll-Query, out-roll-Recursive, out-roll-Select}
 use Rattle.away_trees.specs.Algebra.{select_of, query_of}
 use Rattle.away_trees.proofs.Equations as eq
 use Rattle.away_names.specs.declared.rule.Rule.{Rule}
@@ -24,10 +24,11 @@ use Rattle.away_names.specs.declared.note.Times.TheVariants.{Never, Once}
 use Rattle.away_names.specs.Lookups.{Name}
 use Rattle.away_names.specs.Notes.{joined, breaks}
 use Rattle.away_typing.specs.declared.kind.Kind.{Kind}
+use Rattle.away_typing.specs.declared.kind.Kind.TheVariants.{Of}
 use Rattle.away_typing.specs.declared.params.Params.{Params}
 use Rattle.away_typing.specs.declared.wholes.Recursion.{Recursion}
 use Rattle.away_typing.specs.Aggregates.{using_, Term, is_some_of}
-use Rattle.away_typing.specs.Kinds.{same, fits, of_type}
+use Rattle.away_typing.specs.Kinds.{same, fits}
 use Rattle.away_typing.specs.Parameters.{finding, no_params}
 use Rattle.away_typing.specs.ParameterLists.{params_of, with_query}
 use Rattle.away_typing.specs.Trees.{uses_of_query, uses_of_select, kinds_of_select}
@@ -43,14 +44,16 @@ use Rattle.cte_template.specs.Tree as t
 use Rattle.cte_template.specs.Walks.{all_columns}
 use Rattle.cte_parts.specs.Names.{table_name, row_names}
 use Rattle.cte_parts.specs.Trees.{working}
-use Rattle.cte_types.specs.Typed.{HasKind}
+use Rattle.elaboration.specs.Elaborating.{MadeSelect, union_made}
+use Rattle.elaboration.specs.Whole.{all_typed, first_made, tables_behind, typed_at, typed_by, typed_whole}
+use Rattle.elaboration_law.proofs.Marked.{typed_select_is_marked}
 use Rattle.cte_types.proofs.BodyTypes.{FillsCells}
 use Rattle.type_soundness.specs.Sorts.{Every}
 use Rattle.cte_types.proofs.Fine.{Calm, calm_is, either_calm, all_calm, apart_calm, type_fits, type_back}
 use Rattle.cte_types.proofs.Rows.{Good, kinds_of}
 use Rattle.cte_types.proofs.StartTypes.{AreOfNames, start_kinds, start_calm, start_adds}
 use Rattle.cte_types.proofs.TreeTypes.{IsLabel, step_good, last_good}
-use Rattle.cte_types.proofs.WalkTypes.{IsSound, row_types, rows_have, row_names_size}
+use Rattle.cte_types.proofs.WalkTypes.{IsSound, row_types, row_names_size}
 use Rattle.cte_template.specs.Walks.{keys_of}
 use Rattle.call_forms.specs.Template.{entry_place}
 use Rattle.call_forms.specs.Forms.{params_of as params_of_block}
@@ -79,21 +82,21 @@ padded_is [] (t ∷ ts) h = absurd (omega (arith, h))
 padded_is (n ∷ names) [] h = absurd (omega (arith, h))
 padded_is (n ∷ names) (t ∷ ts) h = ap (λ ts. t ∷ ts) (padded_is names ts (omega (arith, h)))
 
-all_fitting : (ts : List Ty) → Every HasKind ts → all_fit ts (kinds_of ts) ≡ true
-all_fitting [] h = refl
-all_fitting (t ∷ ts) h = both_true (fits t (of_type t)) (all_fit ts (kinds_of ts)) (type_fits t h.0) (all_fitting ts h.1)
+all_fitting : (ts : List Ty) → all_fit ts (kinds_of ts) ≡ true
+all_fitting [] = refl
+all_fitting (t ∷ ts) = both_true (fits t (Of t)) (all_fit ts (kinds_of ts)) (type_fits t) (all_fitting ts)
 
 -- one select alone
 one_union : (p : Places) (s : Select) (ks : Option (List Kind)) → kinds_of_select s p ≡ ks → union_in p (s ∷ []) ≡ ks
 unfolding further or_none
 one_union p s ks h = h
 
-shape_back : (ts : List Ty) → Every HasKind ts → shape_of (Some (kinds_of ts)) ≡ Some ts
-shape_back ts h = ap (λ ts. Some ts) (back ts h)
+shape_back : (ts : List Ty) → shape_of (Some (kinds_of ts)) ≡ Some ts
+shape_back ts = ap (λ ts. Some ts) (back ts)
   where
-    back : (ts : List Ty) → Every HasKind ts → types_of (kinds_of ts) ≡ ts
-    back [] h = refl
-    back (t ∷ ts) h = λ i. type_back t h.0 i ∷ back ts h.1 i
+    back : (ts : List Ty) → types_of (kinds_of ts) ≡ ts
+    back [] = refl
+    back (t ∷ ts) = λ i. type_back t i ∷ back ts i
 
 module _ (schema : Schema) (m : Making) (sound : IsSound m) (small : length (column_types schema) < 2 ^ 64)
     (labels : (j b : ℕ) → slice_get m.tail.labels j ≡ Some b → IsLabel m (column_types schema) sound j b)
@@ -105,9 +108,6 @@ module _ (schema : Schema) (m : Making) (sound : IsSound m) (small : length (col
 
   abbrev Rows : List Ty
   Rows = row_types m.tail.columns m.result
-
-  abbrev have : Every HasKind Rows
-  have = rows_have m tables sound
 
   abbrev names : List Name
   names = row_names (t.width m)
@@ -161,7 +161,7 @@ module _ (schema : Schema) (m : Making) (sound : IsSound m) (small : length (col
   shape_is =
       ap shape_of (one_union (over_tables (with_table schema (padded names []))) first (Some (kinds_of Rows))
       (start_kinds m tables sound entry fills (over_tables (with_table schema (padded names [])))))
-      ∙ shape_back Rows have
+      ∙ shape_back Rows
 
   tables_are : tables_by fields (Some Rows) ≡ with_table schema Rows
   unfolding recursive_types is_never types_or_none
@@ -201,7 +201,7 @@ module _ (schema : Schema) (m : Making) (sound : IsSound m) (small : length (col
   recursive_is : is_recursion_by fields (Some Rows) (Some (kinds_of Rows)) ≡ true
   unfolding is_never is_once types_or_none fits_shape
   recursive_is =
-      both_true _ _ own_from (both_true _ _ plain (both_true _ _ (eq-eqb (length names) (length Rows) names_are) (all_fitting Rows have)))
+      both_true _ _ own_from (both_true _ _ plain (both_true _ _ (eq-eqb (length names) (length Rows) names_are) (all_fitting Rows)))
 
   note_clean : (note_by fields (Some Rows) (Some (kinds_of Rows))).least ≡ None
   note_clean =
@@ -263,7 +263,7 @@ module _ (schema : Schema) (m : Making) (sound : IsSound m) (small : length (col
       ap (λ (x : Wholes). shape_of (union_in (over_tables (found x).tables) x.selects)) (out-roll-Query whole)
       ∙ (ap (λ ts. shape_of (union_in (over_tables ts) (final ∷ []))) recursion_tables
       ∙ (ap shape_of (one_union (over_tables (with_table schema Rows)) final (Some (kinds_of (m.result ∷ ty.Text ∷ []))) final_good.kinds)
-      ∙ shape_back (m.result ∷ ty.Text ∷ []) (sound.result, (tt, tt))))
+      ∙ shape_back (m.result ∷ ty.Text ∷ [])))
 
   answer_clean : (shape : Shape) → shape ≡ Some (m.result ∷ ty.Text ∷ []) → (answer_note shape).least ≡ None
   unfolding is_answer same
@@ -284,3 +284,29 @@ module _ (schema : Schema) (m : Making) (sound : IsSound m) (small : length (col
       joined_least _ _ (joined_least note (uses_note tree) h uses_clean)
       (joined_least _ _ (breaks_least rule.Types (params_of tree).clash no_clash)
       (joined_least _ _ (ap (λ (x : Wholes). (found x).note.least) (out-roll-Query whole) ∙ recursion_note) (answer_clean _ shape_final)))
+
+  -- ---- each select has types
+
+  abbrev first_places : Places
+  first_places = over_tables (with_table schema (padded names []))
+
+  first_typed : select_of typing first first_places ≡ Some (kinds_of Rows)
+  first_typed = start_kinds m tables sound entry fills first_places
+
+  made_kinds : (first_made schema fields).kinds ≡ Some (kinds_of Rows)
+  unfolding further or_none
+  made_kinds = ap (λ (x : MadeSelect). union_made (x ∷ [])) (typed_select_is_marked first first_places (ap is_some first_typed)) ∙ first_typed
+
+  tables_behind_are : tables_behind schema Never fields (first_made schema fields) ≡ with_table schema Rows
+  tables_behind_are = ap (λ ks. tables_by fields (shape_of ks)) made_kinds ∙ (ap (tables_by fields) (shape_back Rows) ∙ tables_are)
+
+  parts_typed : typed_by schema Never (Some fields) (final ∷ []) ≡ true
+  parts_typed =
+      ap (λ ts. all_typed first_places (first ∷ []) && (typed_at (over_tables ts) second && all_typed (over_tables ts) (final ∷ []))) tables_behind_are
+      ∙ both_true _ _ (both_true (typed_at first_places first) true (ap is_some first_typed) refl)
+      (both_true _ _ (ap is_some second_good.kinds) (both_true (typed_at (over_tables (with_table schema Rows)) final) true (ap is_some final_good.kinds) refl))
+
+  pub tree_typed : typed_whole schema Never tree ≡ true
+  tree_typed =
+      ap (λ (x : Wholes). typed_by schema Never (option_map (λ (r : Recursive). out-Recursive r) x.recursive) x.selects) (out-roll-Query whole)
+      ∙ (ap (λ (x : Fields). typed_by schema Never (Some x) (final ∷ [])) (out-roll-Recursive fields) ∙ parts_typed)

@@ -1,5 +1,5 @@
 -- Kinds that are kept: what has a type has the same one, and of what has none nothing is said. Each operator keeps them.
-use Rattle.std.proofs.Common.{◌≡◌, refl, ap, sym, subst, Bool, true, false, ◌&&◌, ◌||◌, List, [], ◌∷◌, fold, Option, Some, None}
+use Rattle.std.proofs.Common.{◌≡◌, refl, ap, sym, subst, Bool, true, false, not, ◌&&◌, ◌||◌, List, [], ◌∷◌, fold, Option, Some, None}
 use Rattle.away_values.specs.declared.types.Ty.{Ty}
 use Rattle.away_values.specs.declared.types.Ty.TheVariants as ty
 use Rattle.away_values.specs.declared.operators.ChainOp.{ChainOp}
@@ -10,8 +10,8 @@ use Rattle.away_names.specs.declared.function.Known.{Known}
 use Rattle.away_names.specs.declared.function.Known.TheVariants as known
 use Rattle.away_typing.specs.declared.kind.Kind.{Kind}
 use Rattle.away_typing.specs.declared.kind.Kind.TheVariants.{Null, Of, Sum, Wrong}
-use Rattle.away_typing.specs.Kinds.{only_if, meet, fits, is_right, settled, common}
-use Rattle.away_typing.specs.Typing.{Shape, pair, passed, cast_kind, call_kind, called, is_ordered, scalar_kind, exists_kind}
+use Rattle.away_typing.specs.Kinds.{same, only_if, meet, fits, is_right, is_number, is_integer, are_integers, sum_kind, settled, common}
+use Rattle.away_typing.specs.Typing.{Shape, pair, passed, cast_kind, castable, call_kind, called, is_ordered, scalar_kind, exists_kind}
 use Rattle.sql_meaning.proofs.Lists.{Zipped}
 
 -- what has a type has the same one there
@@ -113,14 +113,49 @@ meets_kept a b _ _ h k = absurd k
 pub common_kept : (xs ys : List Kind) → Zipped Keeps xs ys → Keeps (common xs) (common ys)
 common_kept xs ys h = meets_kept Null Null xs ys refl h
 
+number_wrong : is_number Wrong ≡ false
+unfolding is_number
+number_wrong = refl
+
+integers_wrong : (k : Kind) → are_integers Wrong k ≡ false
+unfolding are_integers
+integers_wrong k = refl
+
+wrong_integers : (k : Kind) → are_integers k Wrong ≡ false
+unfolding are_integers
+wrong_integers Null = refl
+wrong_integers (Of ty.Bigint) = refl
+wrong_integers (Of ty.Boolean) = refl
+wrong_integers (Of ty.Text) = refl
+wrong_integers (Of ty.Integer) = refl
+wrong_integers Sum = refl
+wrong_integers Wrong = refl
+
+pub number_kept : (a b : Kind) → Keeps a b → is_number a ≡ true → is_number b ≡ true
+unfolding is_number
+number_kept Wrong b h k = cc
+number_kept Null b h k = subst (λ x. is_number x ≡ true) (sym h) k
+number_kept (Of u) b h k = subst (λ x. is_number x ≡ true) (sym h) k
+number_kept Sum b h k = cc
+
+pub minus_kept : (a b : Kind) → Keeps a b
+    → Keeps (only_if (is_number a && not (is_integer a)) (Of ty.Bigint)) (only_if (is_number b && not (is_integer b)) (Of ty.Bigint))
+minus_kept =
+    kept_under (λ x. only_if (is_number x && not (is_integer x)) (Of ty.Bigint))
+    (if_wrong (is_number Wrong && not (is_integer Wrong)) (Of ty.Bigint) (ap (λ b. b && not (is_integer Wrong)) number_wrong))
+
+pub small_minus_kept : (a b : Kind) → Keeps a b → Keeps (only_if (is_integer a) (Of ty.Integer)) (only_if (is_integer b) (Of ty.Integer))
+unfolding is_integer
+small_minus_kept = kept_under (λ x. only_if (is_integer x) (Of ty.Integer)) (if_wrong (is_integer Wrong) (Of ty.Integer) refl)
+
 pair_wrong : (op : ChainOp) (k : Kind) → pair op Wrong k ≡ Wrong
-unfolding pair only_if fits is_right
+unfolding pair only_if fits is_right is_number
 pair_wrong chain.Or k = refl
 pair_wrong chain.And k = refl
 pair_wrong chain.Concat k = if_wrong ((fits ty.Text Wrong || fits ty.Text k) && (is_right Wrong && is_right k)) (Of ty.Text)
     (and_false (fits ty.Text Wrong || fits ty.Text k) (is_right Wrong && is_right k) refl)
 pair_wrong (chain.Int op) k = refl
-pair_wrong (chain.Small op) k = refl
+pair_wrong (chain.Small op) k = if_wrong (are_integers Wrong k) (Of ty.Integer) (integers_wrong k)
 
 wrong_paired : (op : ChainOp) (k : Kind) → pair op k Wrong ≡ Wrong
 unfolding pair fits is_right
@@ -129,8 +164,10 @@ wrong_paired chain.And k = if_wrong (fits ty.Boolean k && fits ty.Boolean Wrong)
 wrong_paired chain.Concat k =
     if_wrong ((fits ty.Text k || fits ty.Text Wrong) && (is_right k && is_right Wrong)) (Of ty.Text)
     (and_false (fits ty.Text k || fits ty.Text Wrong) (is_right k && is_right Wrong) (and_false (is_right k) (is_right Wrong) refl))
-wrong_paired (chain.Int op) k = if_wrong (fits ty.Bigint k && fits ty.Bigint Wrong) (Of ty.Bigint) (and_false (fits ty.Bigint k) (fits ty.Bigint Wrong) refl)
-wrong_paired (chain.Small op) k = refl
+wrong_paired (chain.Int op) k =
+    if_wrong (is_number k && (is_number Wrong && not (are_integers k Wrong))) (Of ty.Bigint)
+    (and_false (is_number k) (is_number Wrong && not (are_integers k Wrong)) (ap (λ b. b && not (are_integers k Wrong)) number_wrong))
+wrong_paired (chain.Small op) k = if_wrong (are_integers k Wrong) (Of ty.Integer) (wrong_integers k)
 
 pub pair_kept : (op : ChainOp) (a b c d : Kind) → Keeps a c → Keeps b d → Keeps (pair op a b) (pair op c d)
 pair_kept op = kept_under_two (pair op) (pair_wrong op) (wrong_paired op)
@@ -153,6 +190,14 @@ cast_wrong ty.Integer = refl
 
 pub cast_kept : (t : Ty) (a b : Kind) → Keeps a b → Keeps (cast_kind t a) (cast_kind t b)
 cast_kept t = kept_under (cast_kind t) (cast_wrong t)
+
+-- a literal under the cast to its own type
+pub literal_kept : (t : Ty) → Keeps (Of t) (cast_kind t (Of t))
+unfolding cast_kind only_if castable same
+literal_kept ty.Bigint = refl
+literal_kept ty.Integer = refl
+literal_kept ty.Boolean = refl
+literal_kept ty.Text = refl
 
 settled_wrong : settled Wrong ≡ Wrong
 unfolding settled
@@ -177,9 +222,9 @@ one_kept f g none one more w (a ∷ xs) [] h = absurd h
 substr_kept : (xs ys : List Kind) → Zipped Keeps xs ys → Keeps (call_kind known.Substr xs) (call_kind known.Substr ys)
 unfolding call_kind
 substr_kept (a ∷ b ∷ c ∷ []) (x ∷ y ∷ z ∷ []) h =
-    only_if_kept (fits ty.Text a && (fits ty.Bigint b && fits ty.Bigint c)) (fits ty.Text x && (fits ty.Bigint y && fits ty.Bigint z)) (Of ty.Text) (Of ty.Text)
-    (λ t. three (fits ty.Text a) (fits ty.Bigint b) (fits ty.Bigint c) (fits ty.Text x) (fits ty.Bigint y) (fits ty.Bigint z)
-    (fits_kept ty.Text a x h.0) (fits_kept ty.Bigint b y h.1.0) (fits_kept ty.Bigint c z h.1.1.0) t)
+    only_if_kept (fits ty.Text a && (is_number b && is_number c)) (fits ty.Text x && (is_number y && is_number z)) (Of ty.Text) (Of ty.Text)
+    (λ t. three (fits ty.Text a) (is_number b) (is_number c) (fits ty.Text x) (is_number y) (is_number z)
+    (fits_kept ty.Text a x h.0) (number_kept b y h.1.0) (number_kept c z h.1.1.0) t)
     refl
   where
     three : (a b c x y z : Bool) → (a ≡ true → x ≡ true) → (b ≡ true → y ≡ true) → (c ≡ true → z ≡ true) → (a && (b && c)) ≡ true → (x && (y && z)) ≡ true
@@ -207,13 +252,13 @@ extreme_wrong : only_if (is_ordered Wrong) (settled Wrong) ≡ Wrong
 extreme_wrong = if_wrong (is_ordered Wrong) (settled Wrong) ordered_wrong
 
 call_kept : (f : Known) (xs ys : List Kind) → Zipped Keeps xs ys → Keeps (call_kind f xs) (call_kind f ys)
-unfolding call_kind
+unfolding call_kind sum_kind
 call_kept known.Coalesce xs ys h = least_kept xs ys h
 call_kept known.Greatest xs ys h = least_kept xs ys h
 call_kept known.Least xs ys h = least_kept xs ys h
 call_kept known.Length xs ys h =
-    one_kept (call_kind known.Length) (λ a. only_if (fits ty.Text a) (Of ty.Bigint)) refl (λ a. refl) (λ a b ks. refl)
-    (if_wrong _ (Of ty.Bigint) (fits_wrong ty.Text)) xs ys h
+    one_kept (call_kind known.Length) (λ a. only_if (fits ty.Text a) (Of ty.Integer)) refl (λ a. refl) (λ a b ks. refl)
+    (if_wrong _ (Of ty.Integer) (fits_wrong ty.Text)) xs ys h
 call_kept known.Substr xs ys h = substr_kept xs ys h
 call_kept known.Count xs ys h =
     one_kept (call_kind known.Count) (λ a. only_if (is_right a) (Of ty.Bigint)) refl (λ a. refl) (λ a b ks. refl) (if_wrong _ (Of ty.Bigint) right_wrong) xs
@@ -229,7 +274,7 @@ call_kept known.Min xs ys h =
 call_kept known.Max xs ys h =
     one_kept (call_kind known.Max) (λ a. only_if (is_ordered a) (settled a)) refl (λ a. refl) (λ a b ks. refl) extreme_wrong xs ys h
 call_kept known.Sum xs ys h =
-    one_kept (call_kind known.Sum) (λ a. only_if (fits ty.Bigint a) Sum) refl (λ a. refl) (λ a b ks. refl) (if_wrong _ Sum (fits_wrong ty.Bigint)) xs ys h
+    one_kept (call_kind known.Sum) sum_kind refl (λ a. refl) (λ a b ks. refl) refl xs ys h
 
 pub called_kept : (f : Option Known) (xs ys : List Kind) → Zipped Keeps xs ys → Keeps (called f xs) (called f ys)
 unfolding called

@@ -8,10 +8,10 @@ use Rattle.away_typing.specs.declared.kind.Kind.{Kind}
 use Rattle.away_typing.specs.declared.kind.Kind.TheVariants.{Null, Of, Sum, Wrong}
 use Rattle.away_typing.specs.Kinds.{is_right}
 use Rattle.away_typing.specs.Typing as typing
-use Rattle.away_typing.specs.Typing.{Places, Frame, Shape, framed, maybe_fits, select_kinds, both, further, or_none, union, shape_of}
+use Rattle.away_typing.specs.Typing.{Places, Frame, Shape, framed, maybe_fits, maybe_number, select_kinds, both, further, or_none, union, shape_of}
 use Rattle.sql_meaning.proofs.Lists.{Zipped, ZippedOption}
 use Rattle.sql_meaning.proofs.Uses.{and_first, and_second, both_true}
-use Rattle.cte_types.proofs.KeptKinds.{Keeps, KeepsSome, fits_kept, some_under, some_then}
+use Rattle.cte_types.proofs.KeptKinds.{Keeps, KeepsSome, fits_kept, number_kept, some_under, some_then}
 
 -- ---- FROM
 
@@ -51,8 +51,14 @@ maybe_fits_kept t None None h r = refl
 maybe_fits_kept t (Some a) (Some b) h r = fits_kept t a b h r
 maybe_fits_kept t _ _ h r = absurd h
 
+maybe_number_kept : (a b : Option Kind) → ZippedOption Keeps a b → maybe_number a ≡ true → maybe_number b ≡ true
+unfolding maybe_number
+maybe_number_kept None None h r = refl
+maybe_number_kept (Some a) (Some b) h r = number_kept a b h r
+maybe_number_kept _ _ h r = absurd h
+
 abbrev chosen : Option Kind → List Kind → List Kind → Option Kind → Bool
-chosen filter list order limit = maybe_fits ty.Boolean filter && (list_all is_right list && (list_all is_right order && maybe_fits ty.Bigint limit))
+chosen filter list order limit = maybe_fits ty.Boolean filter && (list_all is_right list && (list_all is_right order && maybe_number limit))
 
 pub select_kinds_kept : (l k : List Kind) (w v : Option Kind) (o n : List Kind) (m j : Option Kind)
     → Zipped Keeps l k → ZippedOption Keeps w v → Zipped Keeps o n → ZippedOption Keeps m j → KeepsSome (select_kinds l w o m) (select_kinds k v n j)
@@ -70,7 +76,7 @@ select_kinds_kept l k w v o n m j lr wr or mr = by (chosen w l o m) refl
         = both_true (maybe_fits ty.Boolean v) _ (maybe_fits_kept ty.Boolean w v wr (and_first (maybe_fits ty.Boolean w) _ e))
         (both_true (list_all is_right k) _ (ap (list_all is_right) list ∙ and_first (list_all is_right l) _ more)
         (both_true (list_all is_right n) _ (ap (list_all is_right) order ∙ and_first (list_all is_right o) _ most)
-        (maybe_fits_kept ty.Bigint m j mr (and_second (list_all is_right o) _ most))))
+        (maybe_number_kept m j mr (and_second (list_all is_right o) _ most))))
         in
         ap (λ t. if t then Some k else None) all ∙ ap (λ ks. Some ks) list
 

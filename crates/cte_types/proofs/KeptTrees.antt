@@ -1,9 +1,10 @@
 -- A placed expression has the kind of the expression, where each slot that it reads has the kind of its column.
 use Rattle.std.proofs.Common.{◌≡◌, refl, sym, subst, ℕ, zero, suc, ◌+◌, Bool, true, ◌&&◌, List, [], ◌∷◌, ◌++◌, map, fold, Option, Some, None, option_map, slice_index_or, arith}
-use Rattle.std.specs.Prelude.{option_and_then, slice_get}
+use Rattle.std.specs.Prelude.{option_and_then, slice_get, is_some, if◌then◌else◌}
 use Rattle.std.specs.List.{list_all, flat_map}
 use Rattle.std.specs.Str.Parse.{digits_value}
 use Rattle.away_values.specs.declared.types.Ty.TheVariants as ty
+use Rattle.away_values.specs.Operators.{literal_type}
 use Rattle.away_values.specs.declared.operators.ChainOp.{ChainOp}
 use Rattle.away_trees.specs.declared.queries.Col.{Col}
 use Rattle.away_trees.specs.declared.queries.Expr.{Expr}
@@ -14,14 +15,15 @@ use Rattle.away_trees.specs.declared.queries.Source.TheVariants as source
 use Rattle.away_trees.specs.declared.queries.FromItem.{FromItem}
 use Rattle.away_trees.specs.declared.queries.Item.{Item}
 use Rattle.away_trees.specs.declared.queries.Key.{Key}
+use Rattle.away_trees.specs.declared.queries.Recursive.{Recursive}
 use Rattle.away_trees.specs.declared.queries.Select.{Select}
 use Rattle.away_trees.specs.declared.queries.Query.{Query}
-use Rattle.away_trees.specs.Algebra.{expr_of, item_of, key_of, source_of, from_of, select_of, query_of}
+use Rattle.away_trees.specs.Algebra.{expr_of, item_of, key_of, source_of, from_of, select_of, recursive_of, query_of}
 use Rattle.away_trees.proofs.Equations as eq
 use Rattle.away_names.specs.Functions.{function}
 use Rattle.away_typing.specs.declared.kind.Kind.{Kind}
 use Rattle.away_typing.specs.declared.kind.Kind.TheVariants.{Of}
-use Rattle.away_typing.specs.Kinds.{fits, meet, common, only_if, same, of_type}
+use Rattle.away_typing.specs.Kinds.{fits, meet, common}
 use Rattle.away_typing.specs.Typing as typing
 use Rattle.away_typing.specs.Typing.{Places, Frame, Shape, inside, before, column, kind_at, table_shape, listed, pair, kind, kinds, chained, tested, chosen, other_kind, kind_or_null, framed, select_kinds, listing, cast_kind, castable}
 use Rattle.sql_meaning.specs.Placed.{Deep, replacing, column_of, further, with_cast, placed, select_in_place}
@@ -29,7 +31,7 @@ use Rattle.sql_meaning.specs.Reads.{Read, Reads, SourceReads, reading, reads, of
 use Rattle.sql_meaning.proofs.Lists.{Zipped, ZippedOption}
 use Rattle.sql_meaning.proofs.Related.{Alike, AlikeOption, AlikeLink, AlikeArm, Relation, IsKept, expr_related}
 use Rattle.sql_meaning.proofs.Uses.{and_first, and_second, both_true, left, right, zipped, zipped_option, under, under_option}
-use Rattle.cte_types.proofs.KeptKinds.{Keeps, KeepsSome, kept_itself, asked_kept, right_kept, only_if_kept, fits_kept, meet_kept, common_kept, pair_kept, is_kept, cast_kept, settled_kept, called_kept, scalar_kept, exists_kept, some_under}
+use Rattle.cte_types.proofs.KeptKinds.{Keeps, KeepsSome, kept_itself, literal_kept, asked_kept, minus_kept, small_minus_kept, right_kept, only_if_kept, fits_kept, meet_kept, common_kept, pair_kept, is_kept, cast_kept, settled_kept, called_kept, scalar_kept, exists_kept, some_under}
 use Rattle.cte_types.proofs.SlotsRead.{reads_slots}
 use Rattle.cte_types.proofs.KeptSelects.{PartKept, ListingKept, framed_kept, select_kinds_kept, union_kept}
 
@@ -323,19 +325,13 @@ module _ (ref : ℕ → Col) (wanted : ℕ → Bool) where
           (kinds_zipped P Q o₁ order (keys e P Q here o₁ o₂ o₃ kr (left ok (of_list e o₂) _ t₃)))
           (option_zipped P Q m₁ limit (option e P Q here m₁ m₂ m₃ mr (right ok (of_list e o₂) _ t₃))))
 
-  -- ---- literals under their casts
+  -- ---- a query, which has no shape where it has a recursive part
 
-  bigint_kept : Keeps (Of ty.Bigint) (cast_kind ty.Bigint (Of ty.Bigint))
-  unfolding cast_kind only_if castable same of_type
-  bigint_kept = refl
-
-  text_kept : Keeps (Of ty.Text) (cast_kind ty.Text (Of ty.Text))
-  unfolding cast_kind only_if castable same of_type
-  text_kept = refl
-
-  boolean_kept : Keeps (Of ty.Boolean) (cast_kind ty.Boolean (Of ty.Boolean))
-  unfolding cast_kind only_if castable same of_type
-  boolean_kept = refl
+  unless_recursive : {A : Type 0} (d : ℕ) (x : Option typing.Terms) (u : Option A) (z : Option (Deep Recursive)) → AlikeOption (λ x u z. Unit {0}) x u z → (a b : Shape) → KeepsSome a b
+      → KeepsSome (if is_some x then None else a) (if is_some (option_map (λ r. recursive_of typing.typing r) (option_map (λ z. z d) z)) then None else b)
+  unless_recursive d None None None k a b h = h
+  unless_recursive d (Some x) (Some u) (Some z) k a b h = tt
+  unless_recursive d _ _ _ k a b h = absurd k
 
   -- ---- all steps
 
@@ -344,17 +340,17 @@ module _ (ref : ℕ → Col) (wanted : ℕ → Bool) where
   steps = record {
     no_expr = λ d p q h t. tt;
     no_query = λ d p q h t. tt;
-    int = λ n d p q h t. node (Of ty.Bigint) q _ _ (eq.of_cast typing.typing (expr.Int n) ty.Bigint) (bigint_kept);
-    str = λ s d p q h t. node (Of ty.Text) q _ _ (eq.of_cast typing.typing (expr.Str s) ty.Text) (text_kept);
-    bool = λ v d p q h t. node (Of ty.Boolean) q _ _ (eq.of_cast typing.typing (expr.Bool v) ty.Boolean) (boolean_kept);
+    int = λ n d p q h t. node (Of (literal_type n)) q _ _ (eq.of_cast typing.typing (expr.Int n) (literal_type n)) (literal_kept (literal_type n));
+    str = λ s d p q h t. node (Of ty.Text) q _ _ (eq.of_cast typing.typing (expr.Str s) ty.Text) (literal_kept ty.Text);
+    bool = λ v d p q h t. node (Of ty.Boolean) q _ _ (eq.of_cast typing.typing (expr.Bool v) ty.Boolean) (literal_kept ty.Boolean);
     null = λ d p q h t. refl;
     named = λ n d p q h t. tt;
     qualified = λ a n d p q h t. tt;
     slot = λ i d p q h t. h.slots i (and_first (wanted i) true t);
     column = λ c d p q h t. h.columns c;
-    param = λ i ty d p q h t. kept_itself _;
-    neg = λ x u z k d p q h t. node _ q _ _ (eq.of_neg typing.typing (z d)) (asked_kept ty.Bigint (Of ty.Bigint) (x p) (E (z d) q) (k d p q h t));
-    neg_small = λ x u z k d p q h t. tt;
+    param = λ i ty d p q h t. refl;
+    neg = λ x u z k d p q h t. node _ q _ _ (eq.of_neg typing.typing (z d)) (minus_kept (x p) (E (z d) q) (k d p q h t));
+    neg_small = λ x u z k d p q h t. node _ q _ _ (eq.of_negsmall typing.typing (z d)) (small_minus_kept (x p) (E (z d) q) (k d p q h t));
     not = λ x u z k d p q h t. node _ q _ _ (eq.of_not typing.typing (z d)) (asked_kept ty.Boolean (Of ty.Boolean) (x p) (E (z d) q) (k d p q h t));
     is = λ x u z test v k d p q h t. node _ q _ _ (eq.of_is typing.typing (z d) test v) (is_kept test (x p) (E (z d) q) (k d p q h t));
     chain = chain;
@@ -380,9 +376,9 @@ module _ (ref : ℕ → Col) (wanted : ℕ → Bool) where
     select = select;
     recursive = λ name columns xs us zs x u z r k. tt;
     query = λ x u z xs us zs k r d p q h t.
-        subst (λ (w : typing.Whole). KeepsSome (typing.shape_of (typing.union xs p)) (w q))
+        subst (λ (w : typing.Whole). KeepsSome (if is_some x then None else typing.shape_of (typing.union xs p)) (w q))
         (sym (eq.query_roll typing.typing (option_map (λ z. z d) z) (map (λ z. z d) zs)))
-        (union_kept p q xs _ (selects d p q h xs us zs r t));
+        (unless_recursive d x u z k _ _ (union_kept p q xs _ (selects d p q h xs us zs r t)));
   }
 
   pub placed_kept : (e : Expr) (p q : Places) → Placement 0 p q → list_all ok (reads e) ≡ true → Keeps (E e p) (E (placed ref e) q)

@@ -5,6 +5,7 @@ pub mod PieceTypes
 pub mod Positions
 pub mod EntryTypes
 pub mod EntryUses
+pub mod IntoMarks
 pub mod IntoParts
 pub mod StatementTypes
 pub mod IntoTargets
@@ -23,6 +24,7 @@ pub mod Fine
 pub mod PlacedKinds
 pub mod Rows
 pub mod NoParameters
+pub mod CheckedParameters
 pub mod BodyTypes
 pub mod Seen
 pub mod Values

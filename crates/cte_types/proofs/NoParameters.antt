@@ -1,19 +1,15 @@
 -- The expressions of a checked function have no parameters.
-use Rattle.std.proofs.Common.{◌≡◌, subst, refl, ◌∙◌, ℕ, zero, suc, Bool, true, false, List, [], ◌∷◌, ◌++◌, map, fold, Option, Some, None, option_map}
+use Rattle.std.proofs.Common.{◌≡◌, refl, ◌∙◌, ℕ, Bool, true, false, List, [], ◌∷◌, map, fold, Option, Some, None, option_map}
 use Rattle.std.specs.Prelude.{is_some}
-use Rattle.std.proofs.lemmas.Option.{same_Some}
 use Rattle.away_values.specs.declared.types.Ty.{Ty}
 use Rattle.away_values.specs.declared.operators.ChainOp.{ChainOp}
 use Rattle.away_trees.specs.declared.queries.Expr.{Expr}
-use Rattle.away_trees.specs.declared.queries.Expr.TheBlock as b
 use Rattle.away_trees.specs.declared.queries.Expr.TheVariants as expr
 use Rattle.away_trees.specs.declared.queries.Item.{Item}
 use Rattle.away_trees.specs.declared.queries.FromItem.{FromItem}
 use Rattle.away_trees.specs.declared.queries.Key.{Key}
 use Rattle.away_trees.specs.declared.queries.Select.{Select}
-use Rattle.away_trees.specs.declared.schemas.Schema.{Schema}
-use Rattle.away_trees.specs.declared.statements.Function.{Function}
-use Rattle.away_trees.specs.Algebra.{expr_of, source_of, from_of, item_of, key_of, select_of, query_of}
+use Rattle.away_trees.specs.Algebra.{expr_of, source_of, from_of, item_of, key_of, select_of, query_of as found_query}
 use Rattle.away_trees.proofs.Equations as eq
 use Rattle.away_names.specs.declared.rule.Rule.TheVariants as rule
 use Rattle.away_names.specs.declared.note.Noted.{Noted}
@@ -27,25 +23,15 @@ use Rattle.away_names.specs.Lookups.{Name, Level, Scope, inside, column_named, c
 use Rattle.away_names.specs.Naming as n
 use Rattle.away_names.specs.Naming.{naming}
 use Rattle.away_names.specs.Trees.{named_expr}
-use Rattle.away_types.specs.declared.slots.Slot.{Slot}
-use Rattle.away_types.specs.CheckedFunctions.{IsChecked}
 use Rattle.away_typing.specs.Parameters.{Found, finding}
 use Rattle.away_typing.specs.Parameters as params
-use Rattle.select_into.specs.Entries.{into_entries}
-use Rattle.block_forms.specs.Expressions.{Sources, sources, whole_select, source_expressions, expressions}
-use Rattle.block_forms.specs.declared.fixed_list.Fixed.{Fixed}
-use Rattle.block_forms.specs.declared.fixed_list.Fixed.TheVariants as fix
-use Rattle.block_forms.specs.FixedList.{expression, entries, fixed_list}
-use Rattle.block_forms.specs.Places.{Each}
-use Rattle.block_forms.specs.Slots.{shown_types}
-use Rattle.cte_names.proofs.Sources.{IsResolved, checked_sources}
 use Rattle.sql_meaning.proofs.Related.{AlikeOption, AlikeLink, AlikeArm, Relation, IsKept, expr_related}
 use Rattle.type_soundness.proofs.CleanNotes.{Clean, clean_parts, not_broken}
-use Rattle.function_facts.proofs.Entries.{stmt_entries}
 use Rattle.function_facts.proofs.Names.{every_each}
 use Rattle.function_facts.proofs.TreesInSight.{firsts}
 use Rattle.type_soundness.specs.Sorts.{Every}
-use Rattle.cte_types.proofs.EntryUses.{IsQuiet, entries_quiet}
+use Rattle.type_soundness.proofs.Lists.{every_append}
+use Rattle.cte_types.proofs.EntryUses.{IsQuiet}
 use Rattle.cte_types.proofs.Fine.{Quiet, quiet_is, quiet_all}
 
 -- ---- what holds of each kind of node
@@ -67,7 +53,7 @@ abbrev Keys : n.Sort → Type 0
 Keys k = (aliases : List (Option Name)) (s : Scope) → s.in_function ≡ true → Clean (k aliases s).note → Quiet (key_of finding (k aliases s).it)
 
 abbrev Queries : n.Whole → Type 0
-Queries w = (s : Scope) → s.in_function ≡ true → Clean (w s).note → Quiet (query_of finding (w s).it.it)
+Queries w = (s : Scope) → s.in_function ≡ true → Clean (w s).note → Quiet (found_query finding (w s).it.it)
 
 abbrev Selects : n.Listing → Type 0
 Selects l = (s : Scope) → s.in_function ≡ true → Clean (l s).note → Quiet (select_of finding (l s).it.it)
@@ -85,10 +71,6 @@ relation = record {
 }
 
 -- ---- lists of parts
-
-every_append : {A : Type 0} (P : A → Type 0) (xs ys : List A) → Every P xs → Every P ys → Every P (xs ++ ys)
-every_append P [] ys h k = k
-every_append P (x ∷ xs) ys h k = (h.0, every_append P xs ys h.1 k)
 
 quiet_of : {A : Type 0} (part : A → Found) (xs : List A) → Every (λ x. Quiet (part x)) xs → Every Quiet (map part xs)
 quiet_of part [] h = tt
@@ -257,7 +239,7 @@ param_quiet i t true h c = absurd (not_broken rule.Names c)
 param_quiet i t false h c = cc
 
 whole_quiet : (q : List n.Listing) → Every Selects q → (with_ : Bool) (s : Scope) → s.in_function ≡ true → Clean (joined (breaks rule.Types with_) (n.united q s).note)
-    → Quiet (query_of finding (n.query_with (n.united q s).it).it)
+    → Quiet (found_query finding (n.query_with (n.united q s).it).it)
 whole_quiet q h with_ s w c =
     quiet_is _ _ (eq.of_query finding (n.united q s).it.it)
     (quiet_each (λ x. select_of finding x) (n.united q s).it.it (selects_quiet s w q h n.no_select (λ c. tt)
@@ -350,47 +332,3 @@ steps = record {
 pub named_quiet : (e : Expr) (s : Scope) → s.in_function ≡ true → Clean (named_expr e s).note → IsQuiet (named_expr e s).it
 unfolding named_expr
 named_quiet e s w c = expr_related naming naming naming relation steps e s w c
-
--- ---- a checked function
-
-resolved_quiet : (schema : Schema) (e : Expr) → IsResolved schema e → IsQuiet e
-resolved_quiet schema e h = subst IsQuiet h.resolved (named_quiet h.written h.scope h.plain.in_function h.clean)
-
-sources_quiet : (schema : Schema) (es : Sources) → Every (IsResolved schema) es → Every IsQuiet es
-sources_quiet schema [] h = tt
-sources_quiet schema (e ∷ es) h = (resolved_quiet schema e h.0, sources_quiet schema es h.1)
-
-entry_quiet : (x : Fixed) → IsQuiet (expression x)
-unfolding b.hidden-the_row-Expr-0 b.hidden-the_row-Expr-Chain-1-2-1 denote.Hole.Carrier.hidden
-entry_quiet (fix.Null t) = λ p. refl
-entry_quiet (fix.IsNull t) = λ p. refl
-entry_quiet fix.NotPositive = λ p. refl
-entry_quiet fix.AtMost = λ p. refl
-entry_quiet fix.AtLeast = λ p. refl
-entry_quiet fix.PastGreatest = λ p. refl
-entry_quiet fix.PastLeast = λ p. refl
-entry_quiet fix.Sum = λ p. refl
-entry_quiet fix.Difference = λ p. refl
-entry_quiet fix.One = λ p. refl
-entry_quiet fix.Copy = λ p. refl
-
-fixed_are_quiet : (xs : List Fixed) → Every IsQuiet (map expression xs)
-fixed_are_quiet [] = tt
-fixed_are_quiet (x ∷ xs) = (entry_quiet x, fixed_are_quiet xs)
-
-fixed_quiet : Every IsQuiet fixed_list
-fixed_quiet = fixed_are_quiet entries
-
-each_of_every : (es : List Expr) → Every IsQuiet es → Each IsQuiet es
-each_of_every [] h i x e = cc
-each_of_every (y ∷ es) h zero x e = subst IsQuiet (same_Some y x e) h.0
-each_of_every (y ∷ es) h (suc i) x e = each_of_every es h.1 i x e
-
-text_quiet : (f : Function) → Every IsQuiet (sources whole_select f.body) → Every IsQuiet (source_expressions f)
-unfolding sources
-text_quiet f h = stmt_entries IsQuiet (into_entries (shown_types f)) (λ strict ts q h. entries_quiet (shown_types f) strict ts q h) f.body h
-
-pub checked_quiet : (schema : Schema) (written f : Function) (slots : List Slot) → IsChecked schema written f slots → Each IsQuiet (expressions f)
-checked_quiet schema written f slots h =
-    each_of_every (expressions f)
-    (every_append IsQuiet (source_expressions f) fixed_list (text_quiet f (sources_quiet schema (sources whole_select f.body) (checked_sources schema written f slots h))) fixed_quiet)

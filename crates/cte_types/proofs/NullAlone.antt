@@ -1,5 +1,5 @@
 -- The literal NULL alone has the kind of NULL.
-use Rattle.std.proofs.Common.{◌≡◌, refl, ap, sym, subst, Bool, true, false, List, [], ◌∷◌, Option, Some, None}
+use Rattle.std.proofs.Common.{◌≡◌, refl, ap, sym, subst, Bool, true, false, ◌||◌, List, [], ◌∷◌, Option, Some, None}
 use Rattle.away_values.specs.declared.types.Ty.{Ty}
 use Rattle.away_values.specs.declared.types.Ty.TheVariants as ty
 use Rattle.away_values.specs.declared.operators.ChainOp.{ChainOp}
@@ -12,9 +12,10 @@ use Rattle.away_names.specs.declared.function.Known.TheVariants as known
 use Rattle.away_names.specs.Functions.{function}
 use Rattle.away_typing.specs.declared.kind.Kind.{Kind}
 use Rattle.away_typing.specs.declared.kind.Kind.TheVariants.{Null, Of, Sum, Wrong}
-use Rattle.away_typing.specs.Kinds.{same, only_if, fits, of_type, settled}
+use Rattle.away_typing.specs.Kinds.{same, only_if, fits, sum_kind, settled}
 use Rattle.away_typing.specs.Typing as typing
 use Rattle.away_typing.specs.Typing.{Places, Shape, kind_at, column, pair, chained, cast_kind, castable, call_kind, called, scalar_kind, exists_kind}
+use Rattle.elaboration.specs.Converting.{assignable, converts}
 use Rattle.cte_types.specs.Linked.{AreLinks, IsLinked}
 
 -- whether it is the literal NULL
@@ -34,8 +35,7 @@ unfolding only_if
 only_not true k h n = h n
 only_not false k h n = n
 
-type_not : (t : Ty) → IsNull (of_type t) → ⊥
-unfolding of_type
+type_not : (t : Ty) → IsNull (Of t) → ⊥
 type_not ty.Bigint n = n
 type_not ty.Boolean n = n
 type_not ty.Text n = n
@@ -52,7 +52,7 @@ pair_not chain.Or j k n = only_not _ (Of ty.Boolean) (λ n. n) n
 pair_not chain.And j k n = only_not _ (Of ty.Boolean) (λ n. n) n
 pair_not chain.Concat j k n = only_not _ (Of ty.Text) (λ n. n) n
 pair_not (chain.Int op) j k n = only_not _ (Of ty.Bigint) (λ n. n) n
-pair_not (chain.Small op) j k n = n
+pair_not (chain.Small op) j k n = only_not _ (Of ty.Integer) (λ n. n) n
 
 chained_not : (p : Places) (ls : List (ChainOp × typing.Term)) (k : Kind) → (IsNull k → ⊥) → IsNull (chained p ls k) → ⊥
 chained_not p [] k h n = h n
@@ -66,7 +66,7 @@ cast_not ty.Boolean Sum n = n
 cast_not ty.Text Sum n = n
 cast_not ty.Integer Sum n = n
 cast_not t Wrong n = n
-cast_not t (Of u) n = only_not (castable u t) (of_type t) (type_not t) n
+cast_not t (Of u) n = only_not (castable u t) (Of t) (type_not t) n
 
 settled_not : (k : Kind) → IsNull (settled k) → ⊥
 unfolding settled
@@ -89,19 +89,29 @@ substr_not (j ∷ k ∷ []) n = n
 substr_not (j ∷ k ∷ l ∷ []) n = only_not _ (Of ty.Text) (λ n. n) n
 substr_not (j ∷ k ∷ l ∷ m ∷ ks) n = n
 
+sum_not : (k : Kind) → IsNull (sum_kind k) → ⊥
+unfolding sum_kind
+sum_not Null n = n
+sum_not (Of ty.Bigint) n = n
+sum_not (Of ty.Integer) n = n
+sum_not (Of ty.Boolean) n = n
+sum_not (Of ty.Text) n = n
+sum_not Sum n = n
+sum_not Wrong n = n
+
 call_not : (f : Known) (ks : List Kind) → IsNull (call_kind f ks) → ⊥
 unfolding call_kind
 call_not known.Coalesce ks n = settled_not _ n
 call_not known.Greatest ks n = settled_not _ n
 call_not known.Least ks n = settled_not _ n
-call_not known.Length ks n = one_not (call_kind known.Length) (λ n. n) (λ j n. only_not _ (Of ty.Bigint) (λ n. n) n) (λ j k ks n. n) ks n
+call_not known.Length ks n = one_not (call_kind known.Length) (λ n. n) (λ j n. only_not _ (Of ty.Integer) (λ n. n) n) (λ j k ks n. n) ks n
 call_not known.Substr ks n = substr_not ks n
 call_not known.Count ks n = one_not (call_kind known.Count) (λ n. n) (λ j n. only_not _ (Of ty.Bigint) (λ n. n) n) (λ j k ks n. n) ks n
 call_not known.BoolAnd ks n = one_not (call_kind known.BoolAnd) (λ n. n) (λ j n. only_not _ (Of ty.Boolean) (λ n. n) n) (λ j k ks n. n) ks n
 call_not known.BoolOr ks n = one_not (call_kind known.BoolOr) (λ n. n) (λ j n. only_not _ (Of ty.Boolean) (λ n. n) n) (λ j k ks n. n) ks n
 call_not known.Min ks n = one_not (call_kind known.Min) (λ n. n) (λ j n. only_not _ (settled j) (settled_not j) n) (λ j k ks n. n) ks n
 call_not known.Max ks n = one_not (call_kind known.Max) (λ n. n) (λ j n. only_not _ (settled j) (settled_not j) n) (λ j k ks n. n) ks n
-call_not known.Sum ks n = one_not (call_kind known.Sum) (λ n. n) (λ j n. only_not _ Sum (λ n. n) n) (λ j k ks n. n) ks n
+call_not known.Sum ks n = one_not (call_kind known.Sum) (λ n. n) sum_not (λ j k ks n. n) ks n
 
 called_not : (o : Option Known) (ks : List Kind) → IsNull (called o ks) → ⊥
 unfolding called
@@ -136,7 +146,7 @@ not_null (b.Slot i) p l e n = place_not _ n
 not_null (b.Column c) p l e n = place_not _ n
 not_null (b.Param i t) p l e n = type_not t n
 not_null (b.Neg' s x) p l e n = only_not _ (Of ty.Bigint) (λ n. n) n
-not_null (b.NegSmall' s x) p l e n = n
+not_null (b.NegSmall' s x) p l e n = only_not _ (Of ty.Integer) (λ n. n) n
 not_null (b.Not' s x) p l e n = only_not _ (Of ty.Boolean) (λ n. n) n
 not_null (b.Is' s x test v) p l e n = only_not _ (Of ty.Boolean) (λ n. n) n
 not_null (b.Chain' s x t links) p l e n = links_not p _ links l n
@@ -169,3 +179,60 @@ fitting t Wrong h f = cc
 pub kind_exact : (e : Expr) (p : Places) (t : Ty) → IsLinked e → is_null e ≡ false → fits t (expr_of typing.typing e p) ≡ true
     → expr_of typing.typing e p ≡ Of t
 kind_exact e p t l n f = fitting t (expr_of typing.typing e p) (not_null e p l n) f
+
+-- ---- what stands for the other type of numbers too
+
+-- the type of a kind; the literal NULL has that which is asked for
+abbrev pub own_type : Ty → Kind → Ty
+own_type t (Of u) = u
+own_type t _ = t
+
+owning : (t : Ty) (k : Kind) → (IsNull k → ⊥) → assignable t k ≡ true → k ≡ Of (own_type t k)
+unfolding assignable converts fits
+owning t Null h f = absurd (h tt)
+owning t (Of u) h f = refl
+owning ty.Bigint Sum h f = cc
+owning ty.Boolean Sum h f = cc
+owning ty.Text Sum h f = cc
+owning ty.Integer Sum h f = cc
+owning ty.Bigint Wrong h f = cc
+owning ty.Boolean Wrong h f = cc
+owning ty.Text Wrong h f = cc
+owning ty.Integer Wrong h f = cc
+
+-- what is assignable and isn't the literal NULL is of its own type
+pub kind_own : (e : Expr) (p : Places) (t : Ty) → IsLinked e → is_null e ≡ false → assignable t (expr_of typing.typing e p) ≡ true
+    → expr_of typing.typing e p ≡ Of (own_type t (expr_of typing.typing e p))
+kind_own e p t l n f = owning t (expr_of typing.typing e p) (not_null e p l n) f
+
+left_if : (a b : Bool) → (a || b) ≡ true → b ≡ false → a ≡ true
+left_if true b h k = refl
+left_if false b h k = cc
+
+-- what is not converted is of the type
+pub own_fits : (t : Ty) (k : Kind) → assignable t k ≡ true → converts t k ≡ false → own_type t k ≡ t
+unfolding assignable fits
+own_fits t Null h c = refl
+own_fits t Sum h c = refl
+own_fits t Wrong h c = refl
+own_fits t (Of u) h c = same_is t u (left_if (same t u) (converts t (Of u)) h c)
+
+-- what is converted is of the type under a cast
+pub own_cast : (t : Ty) (k : Kind) → converts t k ≡ true → cast_kind t (Of (own_type t k)) ≡ Of t
+unfolding converts cast_kind castable only_if same
+own_cast ty.Integer (Of ty.Bigint) h = refl
+own_cast ty.Bigint (Of ty.Integer) h = refl
+own_cast ty.Integer (Of ty.Integer) h = cc
+own_cast ty.Integer (Of ty.Boolean) h = cc
+own_cast ty.Integer (Of ty.Text) h = cc
+own_cast ty.Integer Null h = cc
+own_cast ty.Integer Sum h = cc
+own_cast ty.Integer Wrong h = cc
+own_cast ty.Bigint (Of ty.Bigint) h = cc
+own_cast ty.Bigint (Of ty.Boolean) h = cc
+own_cast ty.Bigint (Of ty.Text) h = cc
+own_cast ty.Bigint Null h = cc
+own_cast ty.Bigint Sum h = cc
+own_cast ty.Bigint Wrong h = cc
+own_cast ty.Boolean k h = cc
+own_cast ty.Text k h = cc

@@ -17,6 +17,7 @@ use Rattle.away_typing.specs.Aggregates.{using_, outside}
 use Rattle.away_typing.specs.Kinds.{fits}
 use Rattle.away_typing.specs.Trees.{kind_of, uses_of}
 use Rattle.away_typing.specs.Typing.{typing}
+use Rattle.elaboration.specs.Converting.{Around}
 use Rattle.sql_meaning.specs.Reads.{slots_of}
 use Rattle.select_into.specs.Wrapped.{select_slots}
 use Rattle.block_forms.specs.declared.forms.Block.{Block}
@@ -44,6 +45,10 @@ module _ (tables : List (List Ty)) (table : List Expr) (slots : List Slot) (resu
   -- what the function's statements ask types by
   abbrev pub places : Asked
   places = record { places = record { slots = slot_types slots; frames = []; tables = tables }; result = result }
+
+  -- and what they were converted by
+  abbrev pub around : Around
+  around = record { places = places.places; result = result; counter = ty.Bigint }
 
   -- a term over slots has the type
   abbrev pub Has : Ty → Term → Type 0

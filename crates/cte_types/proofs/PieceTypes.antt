@@ -24,7 +24,6 @@ use Rattle.call_forms.specs.Columned.{type_of_slot}
 use Rattle.call_forms.specs.Templated.{type_or_bigint}
 use Rattle.block_forms.proofs.Exits.{exit_either}
 use Rattle.type_soundness.proofs.CleanNotes.{Clean, clean_parts, not_broken}
-use Rattle.cte_types.specs.Typed.{HasKind, NoIntegers}
 use Rattle.cte_types.proofs.FixedTypes.{FixedHave}
 use Rattle.cte_types.proofs.PartTypes.{places, Has, AllHave, have_both, source_has}
 use Rattle.cte_types.proofs.Standing.{Row, row_same, Entry, SlotAt, type_at}
@@ -41,7 +40,7 @@ pub record ForAt (s : Setting) (f : ℕ) : Type 0 where
   pub step : type_at s.slots (s.numbers.counters + 3 * f + 2) ≡ ty.Bigint
 
 module _ (tables : List (List Ty)) (table : List Expr) (result : Ty) (s : Setting) (fors : ℕ)
-    (fixed : FixedHave tables table s.slots result s.numbers.fixed) (plain : NoIntegers s.slots result)
+    (fixed : FixedHave tables table s.slots result s.numbers.fixed)
     (hidden : (f : ℕ) → f < fors → ForAt s f) where
   abbrev Have : List Part → Type 0
   Have = AllHave tables table s.slots result
@@ -69,14 +68,14 @@ module _ (tables : List (List Ty)) (table : List Expr) (result : Ty) (s : Settin
 
   -- ---- setting a slot, and leaving
 
-  set_has : (strict : Bool) (t : Ty) (c x next : ℕ) (e : Term) → HasKind t → of_slot x ≡ t → HasIt (of_slot x) e
+  set_has : (strict : Bool) (t : Ty) (c x next : ℕ) (e : Term) → of_slot x ≡ t → HasIt (of_slot x) e
       → Have (set_parts s.goto s.numbers strict t c x e next)
-  set_has false t c x next e k at h = ((h, tt), tt)
-  set_has true t c x next e k at h = ((h, tt), ((tt, fixed.null_tests t x k at), ((tt, tt), tt)))
+  set_has false t c x next e at h = ((h, tt), tt)
+  set_has true t c x next e at h = ((h, tt), ((tt, fixed.null_tests t x at), ((tt, tt), tt)))
 
   pub slot_has : (o : Option Slot) (c x next : ℕ) (e : Term) → slice_get s.slots x ≡ o → HasIt (of_slot x) e → Have (slot_parts s.goto s.numbers o c x e next)
-  slot_has None c x next e at h = set_has false ty.Bigint c x next e tt (ap (λ o. type_or_bigint (type_of_slot o)) at) h
-  slot_has (Some d) c x next e at h = set_has d.not_null d.ty c x next e (plain.slots_are x d at) (ap (λ o. type_or_bigint (type_of_slot o)) at) h
+  slot_has None c x next e at h = set_has false ty.Bigint c x next e (ap (λ o. type_or_bigint (type_of_slot o)) at) h
+  slot_has (Some d) c x next e at h = set_has d.not_null d.ty c x next e (ap (λ o. type_or_bigint (type_of_slot o)) at) h
 
   pub leave_has : (when : Option Expr) (k c to next : ℕ) → At k (if_there when) → Clean (maybe_asked a ty.Boolean when)
       → Have (leave_parts s.goto s.numbers when k c to next)
@@ -89,19 +88,19 @@ module _ (tables : List (List Ty)) (table : List Expr) (result : Ty) (s : Settin
 
   -- what a declaration gives
 
-  default_has : (o : Option Expr) (t : Ty) (k x : ℕ) → of_slot x ≡ t → HasKind t → At k (if_there o) → Clean (maybe_asked a t o)
+  default_has : (o : Option Expr) (t : Ty) (k x : ℕ) → of_slot x ≡ t → At k (if_there o) → Clean (maybe_asked a t o)
       → HasIt (of_slot x) (default_term s o t k)
-  default_has o t k x at plain h n = subst (λ u. HasIt u (default_term s o t k)) (sym at) (by o h n)
+  default_has o t k x at h n = subst (λ u. HasIt u (default_term s o t k)) (sym at) (by o h n)
     where
       by : (o : Option Expr) → At k (if_there o) → Clean (maybe_asked a t o) → HasIt t (default_term s o t k)
-      by None h n = fixed.nulls t plain
+      by None h n = fixed.nulls t
       by (Some e) h n = source k t e h.0 n
 
   pub decl_has : (d : Decl) (p : Position) (next : ℕ) → At p.expr (if_there d.default) → SlotAt s.slots p.slot (slot_of d)
       → Clean (maybe_asked a d.ty d.default) → Have (decl_parts s d p next)
   decl_has d p next h at n =
       slot_has (slice_get s.slots p.slot) (node s.goto p.node) p.slot next (default_term s d.default d.ty p.expr) refl
-      (default_has d.default d.ty p.expr p.slot (ap (λ o. type_or_bigint (type_of_slot o)) at) (plain.slots_are p.slot (slot_of d) at) h n)
+      (default_has d.default d.ty p.expr p.slot (ap (λ o. type_or_bigint (type_of_slot o)) at) h n)
 
   -- ---- what is assigned
 
@@ -121,7 +120,7 @@ module _ (tables : List (List Ty)) (table : List Expr) (result : Ty) (s : Settin
   -- ---- loops
 
   bound_has : (c x next : ℕ) (e : Term) → of_slot x ≡ ty.Bigint → HasIt ty.Bigint e → Have (bound_parts s.goto s.numbers c x e next)
-  bound_has c x next e at h = ((subst (λ t. HasIt t e) (sym at) h, tt), ((tt, fixed.null_tests ty.Bigint x tt at), ((tt, tt), tt)))
+  bound_has c x next e at h = ((subst (λ t. HasIt t e) (sym at) h, tt), ((tt, fixed.null_tests ty.Bigint x at), ((tt, tt), tt)))
 
   step_has : (by : Option Expr) (k c step head : ℕ) → of_slot step ≡ ty.Bigint → At k (if_there by) → Clean (maybe_asked a ty.Bigint by)
       → Have (step_parts s.goto s.numbers by k c step head)
@@ -137,7 +136,7 @@ module _ (tables : List (List Ty)) (table : List Expr) (result : Ty) (s : Settin
       → of_slot step ≡ ty.Bigint
       → Have (turn_parts s.goto s.numbers reverse var cur last step head test body next)
   turn_has reverse var cur last step head test body next v c l b =
-      let start = subst (λ t. HasIt t (copy s.numbers.fixed cur)) (sym v) (fixed.copies ty.Bigint cur tt c) in
+      let start = subst (λ t. HasIt t (copy s.numbers.fixed cur)) (sym v) (fixed.copies ty.Bigint cur c) in
       let further = subst (λ t. HasIt t (moved s.numbers.fixed reverse cur step)) (sym c) (fixed.moves reverse cur step c b) in
       ((tt, fixed.ranges reverse cur last c l), ((start, tt), ((tt, fixed.ends reverse step cur b c), ((further, tt), tt))))
 

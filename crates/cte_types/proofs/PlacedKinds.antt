@@ -1,5 +1,5 @@
 -- The whole expression of a place that asks for a type has this type where it is placed, and uses and parameters as before.
-use Rattle.std.proofs.Common.{◌≡◌, refl, ap, sym, ◌∙◌, subst, ℕ, zero, suc, ◌+◌, ◌≤◌, true, false, List, [], ◌∷◌, ◌++◌, arith}
+use Rattle.std.proofs.Common.{◌≡◌, refl, ap, ◌∙◌, subst, ℕ, zero, suc, ◌+◌, ◌≤◌, true, false, List, [], ◌∷◌, ◌++◌, arith}
 use Rattle.std.specs.Prelude.{slice_get}
 use Rattle.away_trees.specs.declared.queries.Col.{Col}
 use Rattle.away_trees.specs.declared.queries.Expr.{Expr}
@@ -9,13 +9,12 @@ use Rattle.away_trees.specs.Algebra.{expr_of}
 use Rattle.away_trees.proofs.Equations as eq
 use Rattle.away_typing.specs.declared.kind.Kind.TheVariants.{Of}
 use Rattle.away_typing.specs.Aggregates.{using_}
-use Rattle.away_typing.specs.Kinds.{fits, of_type}
+use Rattle.away_typing.specs.Kinds.{fits}
 use Rattle.away_typing.specs.Parameters.{finding}
 use Rattle.away_typing.specs.Typing.{Places, Frame, typing, column, kind_at}
 use Rattle.away_values.specs.declared.types.Ty.{Ty}
 use Rattle.sql_meaning.specs.Placed.{further, placed, placed_at}
 use Rattle.sql_meaning.specs.Reads.{slots_of}
-use Rattle.cte_types.specs.Typed.{HasKind}
 use Rattle.cte_types.specs.Linked.{IsLinked}
 use Rattle.cte_types.proofs.KeptKinds.{Keeps, KeepsSome, kept_same}
 use Rattle.cte_types.proofs.KeptTrees.{Placement, placed_kept}
@@ -23,7 +22,7 @@ use Rattle.cte_types.proofs.PlacedUses.{placed_uses}
 use Rattle.cte_types.proofs.PlacedParameters.{placed_params}
 use Rattle.cte_types.proofs.NullAlone.{is_null, kind_exact}
 use Rattle.cte_types.proofs.SlotsRead.{is_in, reads_its_slots}
-use Rattle.cte_types.proofs.Fine.{type_has, null_fine}
+use Rattle.cte_types.proofs.Fine.{null_fine}
 
 still_there : {A : Type 0} (xs ys : List A) (k : ℕ) → KeepsSome (slice_get xs k) (slice_get (xs ++ ys) k)
 still_there [] ys k = tt
@@ -31,7 +30,7 @@ still_there (x ∷ xs) ys zero = refl
 still_there (x ∷ xs) ys (suc k) = still_there xs ys k
 
 -- over more tables, where each slot that is read has the type of its column
-module _ (e : Expr) (ref : ℕ → Col) (slots : List Ty) (frames : List Frame) (tables more : List (List Ty)) (t : Ty) (have : HasKind t)
+module _ (e : Expr) (ref : ℕ → Col) (slots : List Ty) (frames : List Frame) (tables more : List (List Ty)) (t : Ty)
     (columns : (i : ℕ) → is_in (slots_of e) i ≡ true → column frames (ref i) ≡ kind_at (slice_get slots i)) where
   abbrev there : Places
   there = record { slots = slots; frames = []; tables = tables }
@@ -56,17 +55,17 @@ module _ (e : Expr) (ref : ℕ → Col) (slots : List Ty) (frames : List Frame) 
   kept : Keeps (expr_of typing e there) (expr_of typing (placed ref e) here)
   kept = placed_kept ref (is_in (slots_of e)) e there here stands (reads_its_slots e)
 
-  exact : IsLinked e → is_null e ≡ false → fits t (expr_of typing e there) ≡ true → expr_of typing (placed ref e) here ≡ of_type t
+  exact : IsLinked e → is_null e ≡ false → fits t (expr_of typing e there) ≡ true → expr_of typing (placed ref e) here ≡ Of t
   exact l n f =
       let k : expr_of typing e there ≡ Of t = kind_exact e there t l n f in
-      subst (λ k. Keeps k (expr_of typing (placed ref e) here)) k kept ∙ sym (type_has t have)
+      subst (λ k. Keeps k (expr_of typing (placed ref e) here)) k kept
 
-pub kind_at_place : (e : Expr) (ref : ℕ → Col) (slots : List Ty) (frames : List Frame) (tables more : List (List Ty)) (t : Ty) → HasKind t
+pub kind_at_place : (e : Expr) (ref : ℕ → Col) (slots : List Ty) (frames : List Frame) (tables more : List (List Ty)) (t : Ty)
     → ((i : ℕ) → is_in (slots_of e) i ≡ true → column frames (ref i) ≡ kind_at (slice_get slots i)) → IsLinked e
     → fits t (expr_of typing e (record { slots = slots; frames = []; tables = tables })) ≡ true
-    → expr_of typing (placed_at t ref e) (record { slots = []; frames = frames; tables = tables ++ more }) ≡ of_type t
-kind_at_place b.Null ref slots frames tables more t have columns l f = (null_fine (record { slots = []; frames = frames; tables = tables ++ more }) t).kind
-kind_at_place e ref slots frames tables more t have columns l f = exact e ref slots frames tables more t have columns l refl f
+    → expr_of typing (placed_at t ref e) (record { slots = []; frames = frames; tables = tables ++ more }) ≡ Of t
+kind_at_place b.Null ref slots frames tables more t columns l f = (null_fine (record { slots = []; frames = frames; tables = tables ++ more }) t).kind
+kind_at_place e ref slots frames tables more t columns l f = exact e ref slots frames tables more t columns l refl f
 
 pub uses_at_place : (e : Expr) (ref : ℕ → Col) (t : Ty) → ((i : ℕ) → 1 ≤ (ref i).level) → (expr_of using_ (placed_at t ref e)).uses ≡ (expr_of using_ e).uses
 uses_at_place b.Null ref t outer = ap (λ f. f.uses) (eq.of_cast using_ expr.Null t)

@@ -1,6 +1,7 @@
 -- A placed expression has the parameters of the expression.
 use Rattle.std.proofs.Common.{◌≡◌, refl, ◌∙◌, ℕ, suc, List, [], ◌∷◌, map, Option, Some, None, option_map}
 use Rattle.away_values.specs.declared.types.Ty.TheVariants as ty
+use Rattle.away_values.specs.Operators.{literal_type}
 use Rattle.away_values.specs.declared.operators.ChainOp.{ChainOp}
 use Rattle.away_trees.specs.declared.queries.Col.{Col}
 use Rattle.away_trees.specs.declared.queries.Expr.{Expr}
@@ -81,7 +82,7 @@ module _ (ref : ℕ → Col) where
   steps = record {
     no_expr = λ d. refl;
     no_query = λ d. eq.of_query finding [];
-    int = λ n d. eq.of_cast finding (expr.Int n) ty.Bigint;
+    int = λ n d. eq.of_cast finding (expr.Int n) (literal_type n);
     str = λ t d. eq.of_cast finding (expr.Str t) ty.Text;
     bool = λ v d. eq.of_cast finding (expr.Bool v) ty.Boolean;
     null = λ d. refl;

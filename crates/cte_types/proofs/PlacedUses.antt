@@ -4,6 +4,7 @@ use Rattle.std.specs.Prelude.{◌==◌, nat_lt}
 use Rattle.std.specs.List.{list_any}
 use Rattle.std.proofs.lemmas.Bool.{eqb-true, ltb-false}
 use Rattle.away_values.specs.declared.types.Ty.TheVariants as ty
+use Rattle.away_values.specs.Operators.{literal_type}
 use Rattle.away_values.specs.declared.operators.ChainOp.{ChainOp}
 use Rattle.away_trees.specs.declared.queries.Col.{Col}
 use Rattle.away_trees.specs.declared.queries.Expr.{Expr}
@@ -249,7 +250,7 @@ module _ (ref : ℕ → Col) (outer : (i : ℕ) → 1 ≤ (ref i).level) where
   steps = record {
     no_expr = λ d. itself d (bare unused);
     no_query = λ d. node (suc d) using_.no_query _ _ (eq.of_query using_ []) (no_query_same (suc d));
-    int = λ n d. node d (bare unused) _ _ (eq.of_cast using_ (expr.Int n) ty.Bigint) (itself d (bare unused));
+    int = λ n d. node d (bare unused) _ _ (eq.of_cast using_ (expr.Int n) (literal_type n)) (itself d (bare unused));
     str = λ t d. node d (bare unused) _ _ (eq.of_cast using_ (expr.Str t) ty.Text) (itself d (bare unused));
     bool = λ v d. node d (bare unused) _ _ (eq.of_cast using_ (expr.Bool v) ty.Boolean) (itself d (bare unused));
     null = λ d. itself d (bare unused);

@@ -5,6 +5,7 @@ use Rattle.away_trees.specs.declared.queries.Expr.{Expr}
 use Rattle.away_trees.specs.declared.queries.Expr.TheViews.{out-Item, out-Select}
 use Rattle.away_trees.specs.declared.queries.Item.{Item}
 use Rattle.away_types.specs.declared.slots.Slot.{Slot}
+use Rattle.elaboration.specs.Converting.{Around}
 use Rattle.select_into.specs.Entries.{Target, type_of}
 use Rattle.block_forms.specs.declared.places.Position.{Position}
 use Rattle.block_forms.specs.Expressions.{Sources}
@@ -12,6 +13,7 @@ use Rattle.block_forms.specs.Intos.{Into}
 use Rattle.block_forms.specs.Laid.{Setting, after}
 use Rattle.type_soundness.specs.Sorts.{Every}
 use Rattle.cte_types.specs.Linked.{IsLinked}
+use Rattle.cte_types.proofs.IntoMarks.{IsMarked}
 use Rattle.cte_types.proofs.Standing.{Row, row_left, row_right, row_same, Entry, SlotAt, type_at}
 
 -- ---- how many there are
@@ -40,7 +42,7 @@ counted_both n m es fs ds cs is js h k = record {
 abbrev pub ItemLinked : Item → Type 0
 ItemLinked i = IsLinked (out-Item i).expr
 
-module _ (table : List Expr) (s : Setting) (shown : List Ty) (fors : ℕ) where
+module _ (table : List Expr) (s : Setting) (w : Around) (shown : List Ty) (fors : ℕ) where
   -- ---- targets
 
   -- the variable of a target has the type
@@ -54,7 +56,7 @@ module _ (table : List Expr) (s : Setting) (shown : List Ty) (fors : ℕ) where
 
   abbrev pub IntosAt : ℕ → List Into → Type 0
   IntosAt k [] = Unit {0}
-  IntosAt k (i ∷ is) = (Row TargetAt k i.targets × Every ItemLinked (out-Select i.query).list) × IntosAt (k + length i.targets) is
+  IntosAt k (i ∷ is) = (Row TargetAt k i.targets × (Every ItemLinked (out-Select i.query).list × IsMarked w i)) × IntosAt (k + length i.targets) is
 
   pub intos_same : (j k : ℕ) (is : List Into) → j ≡ k → IntosAt j is → IntosAt k is
   intos_same j k is e h = subst (λ n. IntosAt n is) e h

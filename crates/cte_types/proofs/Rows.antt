@@ -13,8 +13,9 @@ use Rattle.away_trees.specs.declared.queries.Expr.TheViews.{roll-Query}
 use Rattle.away_trees.specs.Algebra.{expr_of, item_of, from_of, select_of, query_of}
 use Rattle.away_trees.proofs.Equations as eq
 use Rattle.away_typing.specs.declared.kind.Kind.{Kind}
+use Rattle.away_typing.specs.declared.kind.Kind.TheVariants.{Of}
 use Rattle.away_typing.specs.Aggregates.{using_, Term, maybe}
-use Rattle.away_typing.specs.Kinds.{is_right, meet, fits, of_type}
+use Rattle.away_typing.specs.Kinds.{is_right, meet, fits}
 use Rattle.away_typing.specs.Parameters.{Found, finding}
 use Rattle.away_typing.specs.Parameters as params
 use Rattle.away_typing.specs.Typing as typing
@@ -24,15 +25,14 @@ use Rattle.sql_meaning.proofs.Lists.{Zipped}
 use Rattle.cte_parts.specs.Names.{alias_name, only_name}
 use Rattle.cte_parts.specs.Trees.{lateral_as, only_as}
 use Rattle.type_soundness.specs.Sorts.{Every}
-use Rattle.cte_types.specs.Typed.{HasKind}
 use Rattle.cte_types.proofs.Fine.{type_right, type_met, type_back, type_fits, Calm, unused_calm, either_calm, all_calm, outside_calm, apart_calm, select_calm, calm_is, Quiet, quiet_is, quiet_all, Fine}
 
 abbrev pub kinds_of : List Ty → List Kind
-kinds_of ts = map of_type ts
+kinds_of ts = map (λ t. Of t) ts
 
 -- its kind and what it uses
 pub record IsOfType (p : Places) (e : Expr) (t : Ty) : Type 0 where
-  pub kind : expr_of typing.typing e p ≡ of_type t
+  pub kind : expr_of typing.typing e p ≡ Of t
   pub calm : Calm (expr_of using_ e).uses
 
 pub of_types : (p : Places) (es : List Expr) (ts : List Ty) → Zipped (Fine p) es ts → Zipped (IsOfType p) es ts
@@ -83,9 +83,9 @@ one_more p fs f frame ts h k = framed_more p fs f [] frame ts h k.shape
 
 -- ---- a select
 
-all_right : (ts : List Ty) → Every HasKind ts → list_all is_right (kinds_of ts) ≡ true
-all_right [] h = refl
-all_right (t ∷ ts) h = λ i. type_right t h.0 i && all_right ts h.1 i
+all_right : (ts : List Ty) → list_all is_right (kinds_of ts) ≡ true
+all_right [] = refl
+all_right (t ∷ ts) = λ i. type_right t i && all_right ts i
 
 list_kinds : (p : Places) (es : List Expr) (ts : List Ty) → Zipped (IsOfType p) es ts → kinds p (map (λ x. item_of typing.typing x) (map item es)) ≡ kinds_of ts
 list_kinds p [] [] h = refl
@@ -119,7 +119,7 @@ filter_fits : (p : Places) (o : Option Expr) → FilterFine p o
     → maybe_fits ty.Boolean (option_map (λ (t : typing.Term). t p) (option_map (λ e. expr_of typing.typing e) o)) ≡ true
 unfolding maybe_fits
 filter_fits p None h = refl
-filter_fits p (Some c) h = ap (fits ty.Boolean) h.kind ∙ type_fits ty.Boolean tt
+filter_fits p (Some c) h = ap (fits ty.Boolean) h.kind ∙ type_fits ty.Boolean
 
 filter_calm : (p : Places) (o : Option Expr) → FilterFine p o → Calm (maybe (option_map (λ e. expr_of using_ e) o)).uses
 filter_calm p None h = unused_calm
@@ -130,7 +130,7 @@ filter_quiet p None h q = refl
 filter_quiet p (Some c) h q = h.quiet q
 
 chosen : (ks : List Kind) (w : Option Kind) → list_all is_right ks ≡ true → maybe_fits ty.Boolean w ≡ true → select_kinds ks w [] None ≡ Some ks
-unfolding select_kinds maybe_fits
+unfolding select_kinds maybe_fits typing.maybe_number
 chosen ks w h g = λ i. if g i && (h i && (true && true)) then Some ks else None
 
 pub select_calm_of : (es : List Expr) (fs : List FromItem) (c : Option Expr)
@@ -143,7 +143,7 @@ select_calm_of es fs c list from filter =
     (either_calm _ _ (outside_calm _ unused_calm) (outside_calm _ unused_calm)))))
 
 module _ (p : Places) (frame : Frame) (es : List Expr) (fs : List FromItem) (c : Option Expr) (ts : List Ty) (from : framed p (parts fs) [] ≡ Some frame)
-    (filter : FilterFine (inside frame p) c) (have : Every HasKind ts) where
+    (filter : FilterFine (inside frame p) c) where
   pub kinds_are : Zipped (IsOfType (inside frame p)) es ts → select_of typing.typing (select es fs c) p ≡ Some (kinds_of ts)
   kinds_are list =
       let q : Places = inside frame p in
@@ -152,7 +152,7 @@ module _ (p : Places) (frame : Frame) (es : List Expr) (fs : List FromItem) (c :
       ∙ (ap (option_and_then (λ frame.
       select_kinds (kinds (inside frame p) (map (λ x. item_of typing.typing x) (map item es)))
       (option_map (λ (t : typing.Term). t (inside frame p)) (option_map (λ e. expr_of typing.typing e) c)) [] None)) from
-      ∙ (ap (λ ks. select_kinds ks w [] None) (list_kinds q es ts list) ∙ chosen (kinds_of ts) w (all_right ts have) (filter_fits q c filter)))
+      ∙ (ap (λ ks. select_kinds ks w [] None) (list_kinds q es ts list) ∙ chosen (kinds_of ts) w (all_right ts) (filter_fits q c filter)))
 
   pub good_select : Zipped (Fine (inside frame p)) es ts → Every IsCalmItem fs → Good p ts (select es fs c)
   good_select list items = record {
@@ -164,30 +164,30 @@ module _ (p : Places) (frame : Frame) (es : List Expr) (fs : List FromItem) (c :
 
 -- ---- UNION ALL
 
-both_same : (done : List Kind) (ts : List Ty) → Every HasKind ts → both_from done (kinds_of ts) (kinds_of ts) ≡ Some (done ++ kinds_of ts)
-both_same done [] h = ap (λ ks. Some ks) (nil done)
+both_same : (done : List Kind) (ts : List Ty) → both_from done (kinds_of ts) (kinds_of ts) ≡ Some (done ++ kinds_of ts)
+both_same done [] = ap (λ ks. Some ks) (nil done)
   where
     nil : (ks : List Kind) → ks ≡ ks ++ []
     nil [] = refl
     nil (k ∷ ks) = ap (λ l. k ∷ l) (nil ks)
-both_same done (t ∷ ts) h =
-    ap (λ b. if b then both_from (done ++ meet (of_type t) (of_type t) ∷ []) (kinds_of ts) (kinds_of ts) else None)
-    (ap is_right (type_met t h.0) ∙ type_right t h.0)
-    ∙ (ap (λ k. both_from (done ++ k ∷ []) (kinds_of ts) (kinds_of ts)) (type_met t h.0)
-    ∙ (both_same (done ++ of_type t ∷ []) ts h.1 ∙ ap (λ ks. Some ks) (append_assoc done (of_type t ∷ []) (kinds_of ts))))
+both_same done (t ∷ ts) =
+    ap (λ b. if b then both_from (done ++ meet (Of t) (Of t) ∷ []) (kinds_of ts) (kinds_of ts) else None)
+    (ap is_right (type_met t) ∙ type_right t)
+    ∙ (ap (λ k. both_from (done ++ k ∷ []) (kinds_of ts) (kinds_of ts)) (type_met t)
+    ∙ (both_same (done ++ Of t ∷ []) ts ∙ ap (λ ks. Some ks) (append_assoc done (Of t ∷ []) (kinds_of ts))))
 
-both_is : (ts : List Ty) → Every HasKind ts → both (Some (kinds_of ts)) (Some (kinds_of ts)) ≡ Some (kinds_of ts)
+both_is : (ts : List Ty) → both (Some (kinds_of ts)) (Some (kinds_of ts)) ≡ Some (kinds_of ts)
 unfolding both
-both_is ts h = both_same [] ts h
+both_is ts = both_same [] ts
 
-module _ (p : Places) (ts : List Ty) (have : Every HasKind ts) where
+module _ (p : Places) (ts : List Ty) where
   united_from : (ss : List Select) → Every (Good p ts) ss
       → fold (λ ks (l : typing.Listing). further ks (l p)) (Some (Some (kinds_of ts))) (map (λ s. select_of typing.typing s) ss) ≡ Some (Some (kinds_of ts))
   unfolding further
   united_from [] h = refl
   united_from (s ∷ ss) h =
       ap (λ o. fold (λ ks (l : typing.Listing). further ks (l p)) (Some o) (map (λ s. select_of typing.typing s) ss))
-      (ap (both (Some (kinds_of ts))) h.0.kinds ∙ both_is ts have)
+      (ap (both (Some (kinds_of ts))) h.0.kinds ∙ both_is ts)
       ∙ united_from ss h.1
 
   pub union_is : (s : Select) (ss : List Select) → Every (Good p ts) (s ∷ ss) → union (map (λ s. select_of typing.typing s) (s ∷ ss)) p ≡ Some (kinds_of ts)
@@ -196,12 +196,12 @@ module _ (p : Places) (ts : List Ty) (have : Every HasKind ts) where
       ap (λ o. or_none (fold (λ ks (l : typing.Listing). further ks (l p)) (Some o) (map (λ s. select_of typing.typing s) ss))) h.0.kinds
       ∙ ap or_none (united_from ss h.1)
 
-  types_back : (ts : List Ty) → Every HasKind ts → types_of (kinds_of ts) ≡ ts
-  types_back [] h = refl
-  types_back (t ∷ ts) h = λ i. type_back t h.0 i ∷ types_back ts h.1 i
+  types_back : (ts : List Ty) → types_of (kinds_of ts) ≡ ts
+  types_back [] = refl
+  types_back (t ∷ ts) = λ i. type_back t i ∷ types_back ts i
 
   pub shape_is : (s : Select) (ss : List Select) → Every (Good p ts) (s ∷ ss) → shape_of (union (map (λ s. select_of typing.typing s) (s ∷ ss)) p) ≡ Some ts
-  shape_is s ss h = ap shape_of (union_is s ss h) ∙ ap (λ ts. Some ts) (types_back ts have)
+  shape_is s ss h = ap shape_of (union_is s ss h) ∙ ap (λ ts. Some ts) (types_back ts)
 
 -- ---- a lateral subquery
 
@@ -227,12 +227,11 @@ query_calm p ts ss h =
     calm_is _ _ (ap (λ (t : Term). t.uses) (eq.of_query using_ ss)) (apart_calm _ (either_calm _ _ unused_calm (all_calm _ (select_uses_of p ts ss h))))
 
 pub lateral_brings : (p : Places) (frame : Frame) (alias : List ℕ) (names : List (List ℕ)) (s : Select) (ss : List Select) (ts : List Ty)
-    → length names ≡ length ts → Every HasKind ts
-    → Every (Good (inside frame p) ts) (s ∷ ss) → Brings p frame (lateral_as alias names (united (s ∷ ss))) ts
-lateral_brings p frame alias names s ss ts size have h = record {
+    → length names ≡ length ts → Every (Good (inside frame p) ts) (s ∷ ss) → Brings p frame (lateral_as alias names (united (s ∷ ss))) ts
+lateral_brings p frame alias names s ss ts size h = record {
   shape =
       ap (λ (f : typing.Origin). f names p frame) (eq.of_sub typing.typing (united (s ∷ ss)) true)
-      ∙ (ap (listed names) (ap (λ (w : typing.Whole). w (inside frame p)) (eq.of_query typing.typing (s ∷ ss)) ∙ shape_is (inside frame p) ts have s ss h)
+      ∙ (ap (listed names) (ap (λ (w : typing.Whole). w (inside frame p)) (eq.of_query typing.typing (s ∷ ss)) ∙ shape_is (inside frame p) ts s ss h)
       ∙ listed_is names ts size);
   item = record {
     calm = calm_is _ _ (ap (λ (t : Term). t.uses) (eq.of_sub using_ (united (s ∷ ss)) true)) (apart_calm _ (query_calm (inside frame p) ts (s ∷ ss) h));
@@ -242,9 +241,9 @@ lateral_brings p frame alias names s ss ts size have h = record {
 }
 
 -- an item of one column
-pub only_brings : (p : Places) (frame : Frame) (k : ℕ) (e : Expr) (c : Option Expr) (t : Ty) → HasKind t → Fine (inside [] (inside frame p)) e t
+pub only_brings : (p : Places) (frame : Frame) (k : ℕ) (e : Expr) (c : Option Expr) (t : Ty) → Fine (inside [] (inside frame p)) e t
     → FilterFine (inside [] (inside frame p)) c
     → Brings p frame (only_as k (select (e ∷ []) [] c)) (t ∷ [])
-only_brings p frame k e c t have fine filter =
-    lateral_brings p frame (alias_name k) (only_name ∷ []) (select (e ∷ []) [] c) [] (t ∷ []) refl (have, tt)
-    (good_select (inside frame p) [] (e ∷ []) [] c (t ∷ []) refl filter (have, tt) (fine, tt) tt, tt)
+only_brings p frame k e c t fine filter =
+    lateral_brings p frame (alias_name k) (only_name ∷ []) (select (e ∷ []) [] c) [] (t ∷ []) refl
+    (good_select (inside frame p) [] (e ∷ []) [] c (t ∷ []) refl filter (fine, tt) tt, tt)

@@ -1,14 +1,12 @@
 -- Elements that stand at numbers in a row, and the types of slots at their numbers.
-use Rattle.std.proofs.Common.{◌≡◌, refl, ap, ◌∙◌, subst, ℕ, zero, suc, ◌+◌, ◌<◌, List, [], ◌∷◌, ◌++◌, length, get_or, slice_get, Option, Some, None, arith}
+use Rattle.std.proofs.Common.{◌≡◌, refl, ap, ◌∙◌, subst, ℕ, zero, suc, ◌+◌, ◌<◌, List, [], ◌∷◌, ◌++◌, length, get_or, slice_get, Some, arith}
 use Rattle.away_values.specs.declared.types.Ty.{Ty}
 use Rattle.away_trees.specs.declared.queries.Expr.{Expr}
 use Rattle.away_trees.specs.declared.queries.Expr.TheVariants as expr
 use Rattle.away_types.specs.declared.slots.Slot.{Slot}
 use Rattle.away_types.specs.FunctionChecks.{slot_types}
-use Rattle.block_forms.specs.Places.{Each}
 use Rattle.call_forms.specs.Columned.{type_of_slot}
 use Rattle.call_forms.specs.Templated.{type_or_bigint}
-use Rattle.cte_types.specs.Typed.{HasKind}
 
 -- ---- in a row
 
@@ -75,11 +73,3 @@ pub type_there : (slots : List Slot) (i : ℕ) → i < length slots → slice_ge
 type_there [] i lt = absurd (omega (arith, lt))
 type_there (x ∷ xs) zero lt = refl
 type_there (x ∷ xs) (suc i) lt = type_there xs i (omega (arith, lt))
-
--- each has a type that expressions have
-pub slot_kind : (slots : List Slot) → Each (λ (d : Slot). HasKind d.ty) slots → (x : ℕ) → HasKind (type_at slots x)
-slot_kind slots plain x = by (slice_get slots x) refl
-  where
-    by : (o : Option Slot) → slice_get slots x ≡ o → HasKind (type_or_bigint (type_of_slot o))
-    by None e = tt
-    by (Some d) e = plain x d e

@@ -5,9 +5,10 @@ use Rattle.std.proofs.lemmas.Bool.{eqb-true}
 use Rattle.away_trees.specs.declared.queries.Expr.{Expr}
 use Rattle.away_trees.specs.Algebra.{expr_of, item_of, select_of}
 use Rattle.away_trees.proofs.Equations as eq
+use Rattle.away_typing.specs.declared.kind.Kind.TheVariants.{Of}
 use Rattle.away_typing.specs.declared.params.Params.{Params}
 use Rattle.away_typing.specs.Aggregates.{using_}
-use Rattle.away_typing.specs.Kinds.{same, of_type}
+use Rattle.away_typing.specs.Kinds.{same}
 use Rattle.away_typing.specs.Parameters.{Found, finding, inserted, clashes, taken}
 use Rattle.away_typing.specs.Typing.{Places, typing, inside}
 use Rattle.away_values.specs.declared.types.Ty.{Ty}
@@ -24,7 +25,7 @@ use Rattle.cte_types.proofs.BodyTypes.{FillsCells}
 use Rattle.type_soundness.specs.Sorts.{Every}
 use Rattle.cte_types.proofs.Fine.{Calm, unused_calm, Quiet, number_fine, truth_fine, null_fine}
 use Rattle.cte_types.proofs.Rows.{IsOfType, kinds_of, of_types, list_uses, kinds_are, select_calm_of}
-use Rattle.cte_types.proofs.WalkTypes.{IsSound, row_types, from_zero, zipped_append, rows_have}
+use Rattle.cte_types.proofs.WalkTypes.{IsSound, row_types, from_zero, zipped_append}
 
 -- ---- parameters with one type each
 
@@ -111,7 +112,7 @@ module _ (m : Making) (tables : List (List Ty)) (sound : IsSound m) (entry : ℕ
   module _ (fills : FillsCells tables m.table m.types m.result m.tail.columns keys params) where
     argument_typed : (p : Places) (t : Ty) (o : Option ℕ) → ((n : ℕ) → o ≡ Some n → m.types n ≡ t) → IsOfType p (argument m t o) t
     argument_typed p t None h = let fine = null_fine p t in record { kind = fine.kind; calm = fine.calm }
-    argument_typed p t (Some n) h = record { kind = ap of_type (h n refl); calm = unused_calm }
+    argument_typed p t (Some n) h = record { kind = ap (λ t. Of t) (h n refl); calm = unused_calm }
 
     arguments_typed : (p : Places) (i : ℕ) (ts : List Ty) → ((j : ℕ) (t : Ty) → slice_get ts j ≡ Some t → slice_get m.tail.columns (i + j) ≡ Some t)
         → Zipped (IsOfType p) (arguments_at m i keys params ts) ts
@@ -135,7 +136,7 @@ module _ (m : Making) (tables : List (List Ty)) (sound : IsSound m) (entry : ℕ
     )
 
     pub start_kinds : (p : Places) → select_of typing (t.start m entry) p ≡ Some (kinds_of (row_types m.tail.columns m.result))
-    start_kinds p = kinds_are p [] list [] None (row_types m.tail.columns m.result) refl tt (rows_have m tables sound) (list_typed (inside [] p))
+    start_kinds p = kinds_are p [] list [] None (row_types m.tail.columns m.result) refl tt (list_typed (inside [] p))
 
     pub start_calm : (p : Places) → Calm (select_of using_ (t.start m entry)).uses
     start_calm p = select_calm_of list [] None (list_uses p list (row_types m.tail.columns m.result) (list_typed p)) tt unused_calm

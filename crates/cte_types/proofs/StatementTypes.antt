@@ -18,6 +18,7 @@ use Rattle.away_types.specs.Findings.{own, nothing, followed}
 use Rattle.away_types.specs.declared.slots.Slot.{Slot}
 use Rattle.away_types.specs.StatementTypes as checks
 use Rattle.away_types.specs.StatementTypes.{Asked, asked, maybe_asked, asked_of_slot, head_asked}
+use Rattle.elaboration.specs.Converting as C
 use Rattle.plsql_meaning.specs.Outcomes.{Label, case_not_found}
 use Rattle.select_into.specs.Entries.{Target, into_entries}
 use Rattle.block_forms.specs.declared.forms.Term.{Term}
@@ -31,16 +32,15 @@ use Rattle.block_forms.specs.Slots as slot
 use Rattle.block_forms.specs.Slots.{slot_of, joined as in_row, declaring}
 use Rattle.away_types.proofs.ClearReports.{Clear, clear_own, clear_parts, clear_within, clear_branches}
 use Rattle.type_soundness.proofs.CleanNotes.{Clean, clean_parts}
-use Rattle.cte_types.specs.Typed.{NoIntegers}
 use Rattle.cte_types.proofs.FixedTypes.{FixedHave}
 use Rattle.cte_types.proofs.IntoParts.{entries_many, into_has}
-use Rattle.cte_types.proofs.PartTypes.{places, Has, AllHave, have_both, source_has}
+use Rattle.cte_types.proofs.PartTypes.{places, around, Has, AllHave, have_both, source_has}
 use Rattle.cte_types.proofs.PieceTypes.{ForAt, leave_has, exit_has, decl_has, assigned_has, kind_has}
 use Rattle.cte_types.proofs.Positions.{Counted, counted_both, Stand, stand_left, stand_right, stand_at, intos_same}
 use Rattle.cte_types.proofs.Standing.{row_same, Entry, SlotAt}
 
 module _ (tables : List (List Ty)) (table : List Expr) (result : Ty) (s : Setting) (shown : List Ty) (fors : ℕ)
-    (fixed : FixedHave tables table s.slots result s.numbers.fixed) (plain : NoIntegers s.slots result)
+    (fixed : FixedHave tables table s.slots result s.numbers.fixed)
     (hidden : (f : ℕ) → f < fors → ForAt s f) where
   abbrev Have : List Part → Type 0
   Have = AllHave tables table s.slots result
@@ -51,8 +51,11 @@ module _ (tables : List (List Ty)) (table : List Expr) (result : Ty) (s : Settin
   abbrev a : Asked
   a = places tables table s.slots result
 
+  abbrev w : C.Around
+  w = around tables table s.slots result
+
   abbrev Stands : Position → Position → Sources → List Slot → List Into → Type 0
-  Stands = Stand table s shown fors
+  Stands = Stand table s w shown fors
 
   abbrev of_texts : StatementAlgebra
   of_texts = sourcing (into_entries shown)
@@ -83,15 +86,15 @@ module _ (tables : List (List Ty)) (table : List Expr) (result : Ty) (s : Settin
         → Have (else_parts s x without p around next c)
 
   left : (p n m : Position) (es fs : Sources) (ds cs : List Slot) (is js : List Into) → Stands p (after n m) (es ++ fs) (ds ++ cs) (is ++ js) → Stands p n es ds is
-  left = stand_left table s shown fors
+  left = stand_left table s w shown fors
 
   right : (p n m : Position) (es fs : Sources) (ds cs : List Slot) (is js : List Into) → Counted n es ds is → Stands p (after n m) (es ++ fs) (ds ++ cs) (is ++ js)
       → Stands (after p n) m fs cs js
-  right = stand_right table s shown fors
+  right = stand_right table s w shown fors
 
   at : (p q n m : Position) (es : Sources) (ds : List Slot) (is : List Into) → p.expr ≡ q.expr → p.slot ≡ q.slot → q.fors + m.fors ≤ p.fors + n.fors
       → p.targets ≡ q.targets → Stands p n es ds is → Stands q m es ds is
-  at = stand_at table s shown fors
+  at = stand_at table s w shown fors
 
   no_count : Counted no_size [] [] []
   no_count = record { exprs = refl; slots = refl; targets = refl }
@@ -131,7 +134,7 @@ module _ (tables : List (List Ty)) (table : List Expr) (result : Ty) (s : Settin
           exprs = row_same (Entry table) (suc p.expr) (after p with_expr).expr (in_turn xes) (omega arith) first.exprs.1;
           slots = row_same (SlotAt s.slots) p.slot (after p with_expr).slot (in_row xds) (omega arith) first.slots;
           room = omega (arith, first.room);
-          intos = intos_same table s shown fors p.targets (after p with_expr).targets (row_intos xis) (omega arith) first.intos;
+          intos = intos_same table s w shown fors p.targets (after p with_expr).targets (row_intos xis) (omega arith) first.intos;
         } in (
           tt,
           (
@@ -228,7 +231,7 @@ module _ (tables : List (List Ty)) (table : List Expr) (result : Ty) (s : Settin
       let middle = first_block s (length ds) (p.node + 1) next in
       let first = left p (decl_size x) (decls_size ds) (if_there x.default) (defaults ds) (slot_of x ∷ []) (map slot_of ds) [] [] h in
       both (decl_parts s x p middle) (decls_parts s ds (after p (decl_size x)) next)
-      (decl_has tables table result s fors fixed plain hidden x p middle first.exprs first.slots.0 n.0)
+      (decl_has tables table result s fors fixed hidden x p middle first.exprs first.slots.0 n.0)
       (decls_have ds (after p (decl_size x)) next
       (right p (decl_size x) (decls_size ds) (if_there x.default) (defaults ds) (slot_of x ∷ []) (map slot_of ds) [] [] (decl_count x) h) n.1)
 
@@ -278,7 +281,7 @@ module _ (tables : List (List Ty)) (table : List Expr) (result : Ty) (s : Settin
         let body = first_block s (length x) (p.node + 1) again in
         let head = left p (kind_size k) (row_size x) (of_kind k) (in_turn xes) (slot.of_kind k) (in_row xds) [] (row_intos xis) h in
         both (kind_parts s k p body next) (row_parts s x inside inner again)
-        (kind_has tables table result s fors fixed plain hidden k p body next n head.exprs head.slots head.room)
+        (kind_has tables table result s fors fixed hidden k p body next n head.exprs head.slots head.room)
         (f.goes inside inner again (right p (kind_size k) (row_size x) (of_kind k) (in_turn xes) (slot.of_kind k) (in_row xds) [] (row_intos xis) (kind_count k) h));
   }
 
@@ -296,7 +299,7 @@ module _ (tables : List (List Ty)) (table : List Expr) (result : Ty) (s : Settin
   assign_has name None e n = record { count = with_one e; goes = λ p around next h. ((tt, tt), tt) }
   assign_has name (Some x) e n = record {
     count = with_one e;
-    goes = λ p around next h. assigned_has tables table result s fors fixed plain hidden x e p next h.exprs.0 n;
+    goes = λ p around next h. assigned_has tables table result s fors fixed hidden x e p next h.exprs.0 n;
   }
 
   leave_count : (when : Option Expr) → Counted (place 1 (one_if when) 0 0 0) (if_there when) [] []
@@ -328,19 +331,19 @@ module _ (tables : List (List Ty)) (table : List Expr) (result : Ty) (s : Settin
         loop_whole label kind (stmts_of laying body) (stmts_of of_texts body) (stmts_of declaring body) (stmts_of selecting body) two.0 (row_has body nothing two.1).1
     statement_has (b.Exit label when) n = record {
       count = leave_count when;
-      goes = λ p around next h. exit_has tables table result s fors fixed plain hidden when p.expr (node s.goto p.node)
+      goes = λ p around next h. exit_has tables table result s fors fixed hidden when p.expr (node s.goto p.node)
           (exit_to s.goto.finish around label) next h.exprs (clear_own 1 _ n);
     }
     statement_has (b.Continue label when) n = record {
       count = leave_count when;
-      goes = λ p around next h. leave_has tables table result s fors fixed plain hidden when p.expr (node s.goto p.node)
+      goes = λ p around next h. leave_has tables table result s fors fixed hidden when p.expr (node s.goto p.node)
           (again_to s.goto.finish around label) next h.exprs (clear_own 1 _ n);
     }
     statement_has (b.Return e) n = record { count = with_one e; goes = λ p around next h. ((tt, source p.expr result e h.exprs.0 (clear_own 1 _ n)), tt) }
     statement_has (b.Raise raised) n = record { count = without; goes = λ p around next h. ((tt, tt), tt) }
     statement_has (b.Into strict targets query) n = record {
       count = into_count strict targets query;
-      goes = λ p around next h. into_has tables table result s shown fors fixed plain hidden strict targets query (clear_own _ _ n) p next h.exprs h.intos.0.0 h.intos.0.1;
+      goes = λ p around next h. into_has tables table result s shown fors fixed hidden strict targets query (clear_own _ _ n) p next h.exprs h.intos.0.0 h.intos.0.1.0 h.intos.0.1.1;
     }
     statement_has b.Nothing n = record { count = without; goes = λ p around next h. ((tt, tt), tt) }
 

@@ -28,7 +28,7 @@ use Rattle.type_soundness.specs.Sorts.{Every}
 use Rattle.cte_types.proofs.Fine.{Fine, at_type, unused_calm, column_fine, number_fine, not_fine, compare_fine}
 use Rattle.cte_types.proofs.Rows.{united, Good, Brings, one_more, good_select, lateral_brings}
 use Rattle.cte_types.proofs.Seen.{Sees, none_among}
-use Rattle.cte_types.proofs.WalkTypes.{IsSound, row_types, here, rows_have, row_names_size, columns_fine, walks, walk_good, gate_behind}
+use Rattle.cte_types.proofs.WalkTypes.{IsSound, row_types, here, row_names_size, columns_fine, walks, walk_good, gate_behind}
 
 -- ---- a row
 
@@ -118,7 +118,7 @@ module _ (m : Making) (tables : List (List Ty)) (sound : IsSound m) where
   label_fine : (n : ℕ) → Fine (Here ([] ∷ [] ∷ row_outer)) (t.at_label m n) ty.Boolean
   label_fine n =
       let p : Places = Here ([] ∷ [] ∷ row_outer) in
-      compare_fine p cmp.Eq (col 2 0 1) (number (pos n)) ty.Bigint tt (column_fine p (record { level = 2; item = 0; column = 1 }) ty.Bigint refl)
+      compare_fine p cmp.Eq (col 2 0 1) (number (pos n)) ty.Bigint (column_fine p (record { level = 2; item = 0; column = 1 }) ty.Bigint refl)
       (number_fine p (pos n))
 
   branch_good : (i b : ℕ) → IsLabel i b → Good (Here row_outer) Rows (t.branch m i b)
@@ -154,7 +154,7 @@ module _ (m : Making) (tables : List (List Ty)) (sound : IsSound m) where
         by (b ∷ bs) e =
             subst (λ l. Brings (Here []) (Rows ∷ []) (lateral_as step_name (row_names (t.width m)) (united (t.branches m 0 l))) Rows) (sym e)
             (lateral_brings (Here []) (Rows ∷ []) step_name (row_names (t.width m)) (t.branch m 0 b) (t.branches m 1 bs) Rows
-            (row_names_size m.tail.columns m.result) (rows_have m tables sound)
+            (row_names_size m.tail.columns m.result)
             (branches_good 0 (b ∷ bs) (all_labels (b ∷ bs) e)))
 
     -- ---- the working table
@@ -174,7 +174,7 @@ module _ (m : Making) (tables : List (List Ty)) (sound : IsSound m) where
           let brings = working_brings [] in
           good_select (Here []) (Rows ∷ Rows ∷ []) (all_columns m 1) (table ∷ t.label_rows m ∷ []) (Some (col 0 0 0)) Rows
           (one_more (Here []) (table ∷ []) (t.label_rows m) (Rows ∷ []) Rows (one_more (Here []) [] table [] Rows refl brings) label_rows_bring)
-          (column_fine p (record { level = 0; item = 0; column = 0 }) ty.Boolean refl) (rows_have m tables sound)
+          (column_fine p (record { level = 0; item = 0; column = 0 }) ty.Boolean refl)
           (columns_fine p (Rows ∷ Rows ∷ []) [] m.tail.columns m.result 1 refl refl) (brings.item, (label_rows_bring.item, tt))
 
       pub last_good : Good (Here []) (m.result ∷ ty.Text ∷ []) (t.last m (length tables))
@@ -185,7 +185,7 @@ module _ (m : Making) (tables : List (List Ty)) (sound : IsSound m) where
           good_select (Here []) (Rows ∷ []) (col 0 0 (suc (suc (t.width m))) ∷ col 0 0 (suc (suc (suc (t.width m)))) ∷ []) (table ∷ [])
           (Some (expr.Not (col 0 0 0))) (m.result ∷ ty.Text ∷ [])
           (one_more (Here []) [] table [] Rows refl brings)
-          (not_fine p (col 0 0 0) (column_fine p (record { level = 0; item = 0; column = 0 }) ty.Boolean refl)) (sound.result, (tt, tt)) (
+          (not_fine p (col 0 0 0) (column_fine p (record { level = 0; item = 0; column = 0 }) ty.Boolean refl)) (
             column_fine p (record { level = 0; item = 0; column = suc (suc (t.width m)) }) m.result (result_there m.tail.columns m.result),
             (column_fine p (record { level = 0; item = 0; column = suc (suc (suc (t.width m))) }) ty.Text (fault_there m.tail.columns m.result), tt),
           ) (brings.item, tt)

@@ -15,7 +15,7 @@ use Rattle.call_forms.specs.Called.{Among}
 use Rattle.sql_meaning.specs.Placed.{placed_at}
 use Rattle.sql_meaning.specs.Reads.{slots_of}
 use Rattle.cte_parts.specs.Columns.{column_beside}
-use Rattle.cte_types.specs.Typed.{HasKind, HasTypeBy}
+use Rattle.cte_types.specs.Typed.{HasTypeBy}
 use Rattle.cte_types.specs.Linked.{IsLinked}
 use Rattle.cte_types.proofs.PlacedKinds.{kind_at_place, uses_at_place, params_at_place}
 use Rattle.cte_types.proofs.SlotsRead.{is_in}
@@ -96,12 +96,12 @@ module _ (tables more : List (List Ty)) (types : ℕ → Ty) (at : ℕ → Col) 
   abbrev here : Places
   here = record { slots = []; frames = frames; tables = tables ++ more }
 
-  pub value_fine : (e : Expr) (names : List ℕ) (t : Ty) → HasKind t → HasTypeBy tables types names t e → length names ≡ length (slots_of e)
+  pub value_fine : (e : Expr) (names : List ℕ) (t : Ty) → HasTypeBy tables types names t e → length names ≡ length (slots_of e)
       → ((n : ℕ) → Among names n → at_type frames (at n) ≡ Some (types n)) → IsEntry e → Fine here
       (placed_at t (column_beside (slots_of e) (map at names) other) e) t
   unfolding column kind_of uses_of
-  value_fine e names t have typed size sees entry = record {
-    kind = kind_at_place e ref typed.slots frames tables more t have slot_column entry.linked typed.kind;
+  value_fine e names t typed size sees entry = record {
+    kind = kind_at_place e ref typed.slots frames tables more t slot_column entry.linked typed.kind;
     calm = calm_is _ _ (uses_at_place e ref t (λ i. outer_beside at other outer beyond (slots_of e) names i))
         (calm_of (expr_of using_ e).uses typed.limited typed.outside_list);
     quiet = quiet_is _ _ (params_at_place e ref t) entry.quiet;

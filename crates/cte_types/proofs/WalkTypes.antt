@@ -25,7 +25,7 @@ use Rattle.cte_template.specs.Walks as written
 use Rattle.cte_template.specs.declared.places.ItemColumn.{ItemColumn}
 use Rattle.cte_parts.specs.Names.{alias_name, column_name, row_names, result_name, fault_name}
 use Rattle.cte_parts.specs.Trees.{gate_as, either_as}
-use Rattle.cte_types.specs.Typed.{HasKind, TermHasType}
+use Rattle.cte_types.specs.Typed.{TermHasType}
 use Rattle.cte_types.proofs.BodyTypes.{IsTyped, FillsCells, stands_of}
 use Rattle.type_soundness.specs.Sorts.{Every}
 use Rattle.cte_types.proofs.Fine.{Fine, at_type, column_fine, number_fine, truth_fine, null_fine, text_fine, not_true_fine}
@@ -102,40 +102,34 @@ columns_fine p frame outer columns result j same h =
 
 pub record IsSound (m : Making) : Type 0 where
   pub entries : (i : ℕ) → IsEntry (get_or m.table i expr.Null)
-  pub named : (n : ℕ) → HasKind (m.types n)
-  pub result : HasKind m.result
-  pub columns : Every HasKind m.tail.columns
 
 module _ (m : Making) (tables : List (List Ty)) (sound : IsSound m) where
   abbrev pub rows : List Ty
   rows = row_types m.tail.columns m.result
-
-  pub rows_have : Every HasKind rows
-  rows_have = (tt, (tt, every_append HasKind m.tail.columns (m.result ∷ ty.Text ∷ []) sound.columns (sound.result, (tt, tt))))
 
   abbrev pub here : List Frame → Places
   here frames = record { slots = []; frames = frames; tables = tables ++ rows ∷ [] }
 
   -- ---- items
 
-  term_fine : (frame : Frame) (outer : List Frame) (depth : ℕ) (places : Scope ItemColumn) (names : List ℕ) (t : Ty) (u : Term) → HasKind t
+  term_fine : (frame : Frame) (outer : List Frame) (depth : ℕ) (places : Scope ItemColumn) (names : List ℕ) (t : Ty) (u : Term)
       → Sees frame outer depth m.types places names
       → HasReferences m.table names u → TermHasType tables m.table m.types t u → Fine (here ([] ∷ frame ∷ outer)) (value_at m depth places t u) t
-  term_fine frame outer depth places names t u have sees refs typed =
+  term_fine frame outer depth places names t u sees refs typed =
       value_fine tables (rows ∷ []) m.types (column_at (suc depth) places) (seen (suc depth) nowhere)
       (λ n. let le : (places n).depth ≤ depth = sees.shallow n in omega (arith, le)) (omega arith) ([] ∷ frame ∷ outer)
-      (get_or m.table u.expr expr.Null) u.names t have typed refs.as_many
+      (get_or m.table u.expr expr.Null) u.names t typed refs.as_many
       (λ n k. seen_inside [] frame outer depth (places n) (m.types n) (sees.shallow n) (sees.typed n (refs.known k.place n k.there))) (sound.entries u.expr)
 
-  let_brings : (frame : Frame) (outer : List Frame) (depth : ℕ) (places : Scope ItemColumn) (names : List ℕ) (k : ℕ) (t : Ty) (u : Term) → HasKind t
+  let_brings : (frame : Frame) (outer : List Frame) (depth : ℕ) (places : Scope ItemColumn) (names : List ℕ) (k : ℕ) (t : Ty) (u : Term)
       → Sees frame outer depth m.types places names
       → HasReferences m.table names u → TermHasType tables m.table m.types t u → Brings (here outer) frame (let_at m depth places k t u) (t ∷ [])
-  let_brings frame outer depth places names k t u have sees refs typed =
-      only_brings (here outer) frame k (value_at m depth places t u) None t have (term_fine frame outer depth places names t u have sees refs typed) tt
+  let_brings frame outer depth places names k t u sees refs typed =
+      only_brings (here outer) frame k (value_at m depth places t u) None t (term_fine frame outer depth places names t u sees refs typed) tt
 
   pub gate_brings : (frame : Frame) (outer : List Frame) (k : ℕ) (c : Expr) → Fine (here ([] ∷ frame ∷ outer)) c ty.Boolean
       → Brings (here outer) frame (gate_as k c) (ty.Boolean ∷ [])
-  gate_brings frame outer k c h = only_brings (here outer) frame k (truth true) (Some c) ty.Boolean tt (truth_fine (here ([] ∷ frame ∷ outer)) true) h
+  gate_brings frame outer k c h = only_brings (here outer) frame k (truth true) (Some c) ty.Boolean (truth_fine (here ([] ∷ frame ∷ outer)) true) h
 
   -- ---- lists
 
@@ -187,7 +181,7 @@ module _ (m : Making) (tables : List (List Ty)) (sound : IsSound m) where
   pub walk_good : (outer : List Frame) (w : Walked) → Walks outer w → Good (here outer) rows (selected w)
   walk_good outer w h =
       subst (Good (here outer) rows) (ap (λ l. roll-Select (record { list = l; from = w.items; filter = None; order = []; limit = None })) (sym h.list))
-      (good_select (here outer) h.frame h.exprs w.items None rows h.from tt rows_have h.fine h.items)
+      (good_select (here outer) h.frame h.exprs w.items None rows h.from tt h.fine h.items)
 
   -- behind the items that a walk begins with
   pub record Behind (outer : List Frame) (frame : Frame) (items : List FromItem) : Type 0 where
@@ -219,7 +213,7 @@ module _ (m : Making) (tables : List (List Ty)) (sound : IsSound m) where
       → Sees frame outer depth m.types places names → HasTree m.table names body → IsTyped tables m.table m.types m.result m.tail.columns body
       → Walks outer (walk m depth places items k body)
   walks depth places items k (sets n u x) names frame outer b sees tree typed =
-      let brings = let_brings frame outer depth places names k (m.types n) u (sound.named n) sees tree.0 typed.0 in
+      let brings = let_brings frame outer depth places names k (m.types n) u sees tree.0 typed.0 in
       walks depth (stands n (first_of depth (length items)) places) (items ++ (let_at m depth places k (m.types n) u ∷ [])) (suc k) x (n ∷ names)
       (frame ++ (m.types n ∷ []) ∷ []) outer
       (more_behind outer frame items (let_at m depth places k (m.types n) u) (m.types n ∷ []) b brings)
@@ -233,7 +227,7 @@ module _ (m : Making) (tables : List (List Ty)) (sound : IsSound m) where
       let frame1 : Frame = frame ++ (ty.Boolean ∷ []) ∷ [] in
       let first : Walked = walk m (suc depth) places (gate_as (suc (suc k)) c ∷ []) (suc (suc (suc k))) x in
       let second : Walked = walk m (suc depth) places (gate_as first.next (is_not_true c) ∷ []) (suc first.next) y in
-      let b1 = more_behind outer frame items test (ty.Boolean ∷ []) b (let_brings frame outer depth places names k ty.Boolean u tt sees tree.0 typed.0) in
+      let b1 = more_behind outer frame items test (ty.Boolean ∷ []) b (let_brings frame outer depth places names k ty.Boolean u sees tree.0 typed.0) in
       let column = column_fine (here ([] ∷ [] ∷ frame1 ∷ outer)) (record { level = 2; item = length items; column = 0 }) ty.Boolean
       (new_seen frame outer (ty.Boolean ∷ []) (length items) 0 b.size ty.Boolean refl) in
       let inner = sees_inside ((ty.Boolean ∷ []) ∷ []) frame1 outer depth m.types places names
@@ -244,7 +238,7 @@ module _ (m : Making) (tables : List (List Ty)) (sound : IsSound m) where
       (gate_behind (frame1 ∷ outer) first.next (is_not_true c) (not_true_fine (here ([] ∷ [] ∷ frame1 ∷ outer)) c column)) inner tree.2 typed.2 in
       let either = either_as (suc k) (length m.tail.columns) (selected first) (selected second) in
       let brings = lateral_brings (here outer) frame1 (alias_name (suc k)) (row_names (length m.tail.columns)) (selected first) (selected second ∷ []) rows
-      (row_names_size m.tail.columns m.result) rows_have
+      (row_names_size m.tail.columns m.result)
       (walk_good (frame1 ∷ outer) first yes, (walk_good (frame1 ∷ outer) second no, tt))
       in
       let b2 = more_behind outer frame1 (items ++ test ∷ []) either rows b1 brings in
@@ -259,7 +253,7 @@ module _ (m : Making) (tables : List (List Ty)) (sound : IsSound m) where
       let frame1 : Frame = frame ++ (m.result ∷ []) ∷ [] in
       let p : Places = here (frame1 ∷ outer) in
       ended outer frame1 (items ++ (value ∷ [])) (end_row m (col 0 (length items) 0) (null_of ty.Text)) (suc k)
-      (more_behind outer frame items value (m.result ∷ []) b (let_brings frame outer depth places names k m.result u sound.result sees tree typed))
+      (more_behind outer frame items value (m.result ∷ []) b (let_brings frame outer depth places names k m.result u sees tree typed))
       (end_fine p (col 0 (length items) 0) (null_of ty.Text) (column_fine p (record { level = 0; item = length items; column = 0 }) m.result
       (new_seen frame outer (m.result ∷ []) (length items) 0 b.size m.result refl)) (null_fine p ty.Text))
   walks depth places items k (fails c) names frame outer b sees tree typed =

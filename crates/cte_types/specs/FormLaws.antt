@@ -16,21 +16,23 @@ use Rattle.call_forms.specs.declared.forms.Anf.{Anf}
 use Rattle.call_forms.specs.Called.{Called}
 use Rattle.call_forms.specs.Templated.{types_of}
 use Rattle.cte_types.specs.Linked.{HasLinkedItems}
-use Rattle.cte_types.specs.Typed.{NoIntegers, BlockHasTypes, BlockKeepsTypes}
+use Rattle.cte_types.specs.Typed.{BlockHasTypes, BlockKeepsTypes}
 
 -- In the forms of a checked function each assigned term has the type of its name's slot, each test
--- is boolean, and each returned term has the type of the result. Integers of 32 bits, which no
--- reader makes, have no expressions yet, and an item of a SELECT INTO is no chain without links.
+-- is boolean, and each returned term has the type of the result. An item of a SELECT INTO is no
+-- chain without links, which no reader makes.
 abbrev pub TermsHaveTypes : Type 0
 TermsHaveTypes =
-    (schema : Schema) (written f : Function) (slots : List Slot) (g : Goto) (z : Ssa) (a : Anf) (count params : ℕ)
-    → IsChecked schema written f slots → NoIntegers slots f.result
+    (schema : Schema) (written f : Function) (slots : List Slot) (g : Goto) (z : Ssa) (a : Anf)
+    (count params : ℕ) → IsChecked schema written f slots
     → Each HasLinkedItems (intos f.body) → Lowered f slots g → Named count params g z
     → Called g z a
-    → Each (BlockHasTypes (column_types schema) (expressions f) (types_of slots z) f.result) a.blocks
+    → Each (BlockHasTypes (column_types schema) (expressions f) (types_of slots z) f.result)
+    a.blocks
 
 -- each call passes names of its parameters' types
 abbrev pub CallsKeepTypes : Type 0
 CallsKeepTypes =
-    (slots : List Slot) (g : Goto) (z : Ssa) (a : Anf) (count params : ℕ) → Named count params g z → Called g z a
+    (slots : List Slot) (g : Goto) (z : Ssa) (a : Anf) (count params : ℕ) → Named count params g z
+    → Called g z a
     → Each (BlockKeepsTypes (types_of slots z) a) a.blocks

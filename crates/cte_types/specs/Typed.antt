@@ -5,14 +5,13 @@ use Rattle.away_values.specs.declared.types.Ty.{Ty}
 use Rattle.away_values.specs.declared.types.Ty.TheVariants as ty
 use Rattle.away_trees.specs.declared.queries.Expr.{Expr}
 use Rattle.away_trees.specs.declared.queries.Expr.TheVariants as expr
-use Rattle.away_types.specs.declared.slots.Slot.{Slot}
 use Rattle.away_typing.specs.Aggregates.{outside}
 use Rattle.away_typing.specs.Kinds.{fits}
 use Rattle.away_typing.specs.Trees.{kind_of, uses_of}
 use Rattle.sql_meaning.specs.Reads.{slots_of}
 use Rattle.block_forms.specs.declared.forms.Term.{Term}
 use Rattle.block_forms.specs.Forms.{Assignment}
-use Rattle.block_forms.specs.Places.{Each, EachPair}
+use Rattle.block_forms.specs.Places.{EachPair}
 use Rattle.call_forms.specs.declared.forms.Call.{Call}
 use Rattle.call_forms.specs.declared.forms.CallEnd.{CallEnd}
 use Rattle.call_forms.specs.declared.forms.CallEnd.TheVariants.{Go, Pick, Return, Fail}
@@ -20,26 +19,13 @@ use Rattle.call_forms.specs.declared.forms.AnfBlock.{AnfBlock}
 use Rattle.call_forms.specs.declared.forms.Anf.{Anf}
 use Rattle.call_forms.specs.Forms.{params_of}
 
--- ---- types
-
--- a type that expressions have
-abbrev pub HasKind : Ty → Type 0
-HasKind ty.Bigint = Unit {0}
-HasKind ty.Boolean = Unit {0}
-HasKind ty.Text = Unit {0}
-HasKind ty.Integer = ⊥
-
--- neither a slot nor the result has 32 bits
-pub record NoIntegers (slots : List Slot) (result : Ty) : Type 0 where
-  pub slots_are : Each (λ (s : Slot). HasKind s.ty) slots
-  pub result_is : HasKind result
-
 -- ---- terms
 
 -- The expression has the type where its slots, in the order of their first occurrence, have the
 -- types of the names beside them. It stands over these tables, in no select, and outside of lists,
 -- where no aggregate may stand.
-pub record HasTypeBy (tables : List (List Ty)) (types : ℕ → Ty) (names : List ℕ) (t : Ty) (e : Expr) : Type 0 where
+pub record HasTypeBy (tables : List (List Ty)) (types : ℕ → Ty) (names : List ℕ) (t : Ty) (e : Expr)
+    : Type 0 where
   pub slots : List Ty
   pub beside : EachPair (λ k i n. slice_get slots i ≡ Some (types n)) (slots_of e) names
   pub kind : fits t (kind_of e (record { slots = slots; frames = []; tables = tables })) ≡ true
@@ -71,7 +57,8 @@ module _ (tables : List (List Ty)) (table : List Expr) (types : ℕ → Ty) wher
 module _ (types : ℕ → Ty) (a : Anf) where
   -- each name that it passes has the type of the parameter
   abbrev pub CallKeepsTypes : Call → Type 0
-  CallKeepsTypes c = EachPair (λ i p n. types n ≡ types p) (params_of (slice_get a.blocks c.target)) c.args
+  CallKeepsTypes c =
+      EachPair (λ i p n. types n ≡ types p) (params_of (slice_get a.blocks c.target)) c.args
 
   abbrev pub EndKeepsTypes : CallEnd → Type 0
   EndKeepsTypes (Go c) = CallKeepsTypes c

@@ -1,5 +1,5 @@
 -- The query of a function's forms breaks no rule of types.
-use Rattle.std.specs.Prelude.{◌≡◌, ℕ, ◌<◌, ◌^◌, List, length}
+use Rattle.std.specs.Prelude.{◌≡◌, ℕ, ◌<◌, ◌^◌, true, List, length}
 use Rattle.away_names.specs.declared.note.File.{File}
 use Rattle.away_names.specs.declared.note.Times.TheVariants.{Never, Once}
 use Rattle.away_trees.specs.declared.schemas.Schema.{Schema}
@@ -22,18 +22,27 @@ use Rattle.call_forms.specs.Columned.{Columned}
 use Rattle.call_forms.specs.Merged.{Merged}
 use Rattle.cte_template.specs.Making.{making_of}
 use Rattle.cte_template.specs.Tree.{tree}
-use Rattle.cte_types.specs.Typed.{HasKind, NoIntegers}
 use Rattle.cte_types.specs.Linked.{IsLinked, HasLinkedItems}
+use Rattle.elaboration.specs.Whole.{typed_whole}
 
--- What is asked of a function and its columns beside their relations: no integers of 32 bits and no
--- chain without links, as an expression or an item of a SELECT INTO, which no reader makes, and
--- tables whose number fits a place.
-pub record IsTypable (schema : Schema) (f : Function) (slots : List Slot) (r : Tail) : Type 0 where
+-- What is asked of a function beside the relations of its forms: no chain without links, as an
+-- expression or an item of a SELECT INTO, which no reader makes, and tables whose number fits a
+-- place.
+pub record IsTypable (schema : Schema) (f : Function) : Type 0 where
   pub few : length schema.tables < 2 ^ 64
-  pub types : NoIntegers slots f.result
-  pub columns : Each HasKind r.columns
   pub linked : Each IsLinked (expressions f)
   pub items : Each HasLinkedItems (intos f.body)
+
+-- Each select of the tree of a checked function's forms has types, so that it comes back from the
+-- tree without the marks of its operations.
+abbrev pub TreeHasTypes : Type 0
+TreeHasTypes =
+    (schema : Schema) (written f : Function) (slots : List Slot) (g : Goto) (z : Ssa) (a : Anf)
+    (r : Tail) (count params : ℕ) → IsChecked schema written f slots
+    → Lowered f slots g → Named count params g z → Called g z a → Merged g a r
+    → Columned slots z a r → IsTypable schema f
+    → typed_whole schema Never (tree (making_of f slots z a r) g.entry (length schema.tables))
+    ≡ true
 
 -- A query that is read as the tree of a checked function's forms, with no rule of names broken and
 -- the recursive table named in the second term alone, and there once, breaks no rule.
@@ -41,6 +50,8 @@ abbrev pub TreeBreaksNoRule : Type 0
 TreeBreaksNoRule =
     (schema : Schema) (written f : Function) (slots : List Slot) (g : Goto) (z : Ssa) (a : Anf)
     (r : Tail) (count params : ℕ) → IsChecked schema written f slots
-    → Lowered f slots g → Named count params g z → Called g z a → Merged g a r → Columned slots z a r → IsTypable schema f slots r → (names : File)
-    → names.query ≡ tree (making_of f slots z a r) g.entry (length schema.tables) → IsUnbroken names.note → names.first.refers ≡ Never
+    → Lowered f slots g → Named count params g z → Called g z a → Merged g a r
+    → Columned slots z a r → IsTypable schema f → (names : File)
+    → names.query ≡ tree (making_of f slots z a r) g.entry (length schema.tables)
+    → IsUnbroken names.note → names.first.refers ≡ Never
     → names.second.refers ≡ Once → IsUnbroken (judged schema names).note

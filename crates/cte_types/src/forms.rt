@@ -2,8 +2,8 @@
 
 ghost use Rattle.cte_types.specs.FormLaws.{CallsKeepTypes, TermsHaveTypes};
 
-/// In the forms of a checked function without integers of 32 bits, where no item of a SELECT INTO is a chain without links, each
-/// assigned term has the type of its name's slot, each test is boolean, and each returned term has the type of the result.
+/// In the forms of a checked function, where no item of a SELECT INTO is a chain without links, each assigned term has the type of
+/// its name's slot, each test is boolean, and each returned term has the type of the result.
 pub fn terms_of_forms_have_types()
     ensures { TermsHaveTypes }
 {}

@@ -12,7 +12,7 @@ use Rattle.away_gen.specs.Texts.{IsCase}
 use Rattle.away_gen.specs.Valid.{IsFunctionText, IsSchemaText, IsTableFile}
 use Rattle.away_gen.specs.declared.case.DemoCase.{DemoCase}
 use Rattle.plsql_meaning.specs.Equivalent.{answers}
-use Rattle.plsql_run.specs.Settings.{not_nulls}
+use Rattle.away_types.specs.TypedSlots.{typed_slots}
 use Rattle.sql_eval.specs.Lengths.{IsLength}
 use Rattle.sql_meaning.specs.AtBound.{rows_of_tables}
 use Rattle.sql_meaning.specs.Context.{Rows}
@@ -34,7 +34,7 @@ iterations_for heaviness = (turns + 1) * heaviness + 1
 -- what the function answers within its turns, what the query answers within so many iterations, and
 -- the least bound at which it does
 pub record AreRuns (f : Function) (slots : List Slot) (q : Query) (tables : List Rows) (args : List Value) (most : ℕ) (runs : Runs) : Type 0 where
-  pub function_is : runs.function ≡ answers f (not_nulls slots) tables args turns
+  pub function_is : runs.function ≡ answers f (typed_slots slots) tables args turns
   pub query_is : runs.query ≡ sql q tables args most
   pub iterations_are : IsLength q tables args most runs.iterations
 

@@ -7,6 +7,7 @@ use Rattle.away_trees.specs.declared.schemas.Schema.{Schema}
 use Rattle.away_trees.specs.declared.statements.Function.{Function}
 use Rattle.away_trees.specs.Count.{weight}
 use Rattle.away_trees.specs.Fits.{FitsTable, FitsSchema}
+use Rattle.away_types.specs.TypedSlots.{typed_slots}
 use Rattle.away_types.specs.declared.slots.Slot.{Slot}
 use Rattle.away_values.specs.declared.types.Ty.{Ty}
 use Rattle.away_values.specs.declared.values.Answer.{Answer}
@@ -95,7 +96,7 @@ equivalent s f slots forms q small accepted keeps lockstep laws = record {
 }
   where
     own : (tables : List Rows) (args : List Value) → ℕ → Answer
-    own = answers f (map (λ (x : Slot). x.not_null) slots)
+    own = answers f (typed_slots slots)
 
     runs : (tables : List Rows) (args : List Value) → ℕ → Ran
     runs tables args = ssa_runs (frame_of f (length slots) forms.goto tables) forms.ssa args

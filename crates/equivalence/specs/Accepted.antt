@@ -1,9 +1,10 @@
 -- The relations between a function, the forms that lead to its query and the query, and what all
 -- promise together.
-use Rattle.std.specs.Prelude.{List, length, map}
+use Rattle.std.specs.Prelude.{List, length}
 use Rattle.away_trees.specs.declared.queries.Query.{Query}
 use Rattle.away_trees.specs.declared.schemas.Schema.{Schema}
 use Rattle.away_trees.specs.declared.statements.Function.{Function}
+use Rattle.away_types.specs.TypedSlots.{typed_slots}
 use Rattle.away_types.specs.declared.slots.Slot.{Slot}
 use Rattle.plsql_meaning.specs.Equivalent.{Equivalent}
 use Rattle.block_forms.specs.Lowered.{Lowered as IsLowered}
@@ -49,4 +50,4 @@ module _ (s : Schema) (f : Function) (slots : List Slot) (forms : Forms) (q : Qu
 -- has no answer at n iterations. An answer that the query has at k iterations is the function's
 -- within k turns.
 abbrev pub EquivalentWith : Schema → Function → List Slot → Query → Type 0
-EquivalentWith s f slots q = Equivalent s f (map (λ (x : Slot). x.not_null) slots) q
+EquivalentWith s f slots q = Equivalent s f (typed_slots slots) q

@@ -1,11 +1,12 @@
 -- What holds of the select of each SELECT INTO as one expression holds of its entries, and so of all source expressions.
-use Rattle.std.proofs.Common.{◌≡◌, ap, sym, ◌∙◌, ℕ, ℤ, pos, Bool, true, false, ◌||◌, List, [], ◌∷◌, ◌++◌, map, length, Some, None}
+use Rattle.std.proofs.Common.{◌≡◌, ap, sym, ◌∙◌, ℕ, ℤ, pos, Bool, true, false, ◌||◌, List, [], ◌∷◌, ◌++◌, map, length, Option, Some, None}
 use Rattle.std.specs.List.{list_all}
 use Rattle.away_values.specs.declared.types.Ty.{Ty}
 use Rattle.away_values.specs.declared.operators.CmpOp.{CmpOp}
 use Rattle.away_values.specs.declared.operators.CmpOp.TheVariants as cmp
 use Rattle.away_trees.specs.declared.queries.Expr.{Expr}
 use Rattle.away_trees.specs.declared.queries.Expr.TheVariants as expr
+use Rattle.away_trees.specs.declared.queries.Expr.TheViews.{out-Select}
 use Rattle.away_trees.specs.declared.queries.Select.{Select}
 use Rattle.away_trees.specs.declared.queries.Query.{Query}
 use Rattle.away_trees.specs.declared.statements.Stmt.{Stmt}
@@ -16,11 +17,11 @@ use Rattle.sql_meaning.specs.Meaning.{meaning, has_aggregate}
 use Rattle.sql_meaning.specs.Reads.{allows, reads}
 use Rattle.sql_meaning.specs.Template.{below}
 use Rattle.sql_meaning.specs.Trees.{col, one}
-use Rattle.select_into.specs.Entries.{Target, check_entries, pick_entries, into_entries, target_types}
+use Rattle.select_into.specs.Entries.{Target, check_entries, cast_at, pick_entry, pick_entries, into_entries, target_types, unmarked}
 use Rattle.select_into.specs.Laws.{IsSource}
-use Rattle.select_into.specs.Wrapped.{over_source, pick, picked}
+use Rattle.select_into.specs.Wrapped.{over_source, pick, pick_as, picked}
 use Rattle.select_into.proofs.Casts.{picked_reads}
-use Rattle.select_into.proofs.SourceReads.{no_row_as, more_rows_as, pick_as}
+use Rattle.select_into.proofs.SourceReads.{no_row_as, more_rows_as, pick_read}
 use Rattle.plsql_meaning.specs.Sight.{query_of}
 use Rattle.block_forms.specs.Expressions.{Entries, Sources, sourcing, whole_select, in_turn, defaults, of_kind, of_else}
 use Rattle.type_soundness.specs.Sorts.{Every}
@@ -77,6 +78,9 @@ module _ (P : Expr → Type 0) (entries : Entries) (go : (strict : Bool) (ts : L
 scalar_single : (q : Query) → has_aggregate (expr.Scalar q) ≡ false
 scalar_single q = ap (λ m. m.aggregates) (eq.of_scalar meaning q)
 
+cast_single : (t : Ty) (e : Expr) → has_aggregate (expr.Cast e t) ≡ has_aggregate e
+cast_single t e = ap (λ m. m.aggregates) (eq.of_cast meaning e t)
+
 compared_single : (op : CmpOp) (q : Query) (n : ℤ) → has_aggregate (expr.Compare op (expr.Scalar q) (expr.Int n)) ≡ false
 compared_single op q n = ap (λ m. m.aggregates) (eq.of_compare meaning op (expr.Scalar q) (expr.Int n)) ∙ ap (λ b. b || false) (scalar_single q)
 
@@ -92,24 +96,32 @@ module _ (types : List Ty) (slots : ℕ → Bool) (tables : ℕ) (s : Select) (s
   picked_source : (ts : List Ty) → IsSource slots tables (picked ts s)
   picked_source ts = record { alone = ap (λ rs. list_all (allows slots 0 tables) rs) (typed_reads ts) ∙ source.alone }
 
-  checks_are : (strict : Bool) → Every (IsEntry s) (check_entries strict s)
-  checks_are false = tt
-  checks_are true = (
-    record { reads_same = (no_row_as slots tables s source).same; single = compared_single cmp.Eq (one (over_source expr.CountRows None s)) (pos 0) },
-    (record { reads_same = (more_rows_as slots tables s source).same; single = compared_single cmp.Gt (one (over_source expr.CountRows None s)) (pos 1) }, tt),
-  )
+  -- without its marks
+  plain_checks : (strict : Bool) → Every (IsEntry s) (check_entries strict (unmarked s))
+  plain_checks false = tt
+  plain_checks true =
+      let plain = unmarked s in
+      let own = picked_source [] in (
+        record { reads_same = (no_row_as slots tables plain own).same ∙ typed_reads []; single = compared_single cmp.Eq (one (over_source expr.CountRows None plain)) (pos 0) },
+        (record { reads_same = (more_rows_as slots tables plain own).same ∙ typed_reads []; single = compared_single cmp.Gt (one (over_source expr.CountRows None plain)) (pos 1) }, tt),
+      )
 
-  picks_are : (ts : List Ty) (places : List ℕ) → Every (IsEntry s) (map (λ place. pick (picked ts s) place) places)
+  pick_single : (c : Option Ty) (q : Select) (j : ℕ) → has_aggregate (pick_as c q j) ≡ false
+  pick_single None q j = scalar_single (one (over_source (col 0 0 j) (Some (expr.Int (pos 1))) q))
+  pick_single (Some t) q j = cast_single t (pick q j) ∙ scalar_single (one (over_source (col 0 0 j) (Some (expr.Int (pos 1))) q))
+
+  picks_are : (ts : List Ty) (places : List ℕ) → Every (IsEntry s) (map (pick_entry ts s) places)
   picks_are ts [] = tt
-  picks_are ts (j ∷ places) = (
-    record {
-      reads_same = (pick_as slots tables (picked ts s) (picked_source ts) j).same ∙ typed_reads ts;
-      single = scalar_single (one (over_source (col 0 0 j) (Some (expr.Int (pos 1))) (picked ts s)));
-    },
-    picks_are ts places,
-  )
+  picks_are ts (j ∷ places) =
+      let cast = cast_at ts (out-Select s).list j in (
+        record {
+          reads_same = (pick_read slots tables (picked ts s) (picked_source ts) cast j).same ∙ typed_reads ts;
+          single = pick_single cast (picked ts s) j;
+        },
+        picks_are ts places,
+      )
 
   pub entries_are : (strict : Bool) (targets : List Target) → Every (IsEntry s) (into_entries types strict targets s)
   entries_are strict targets =
       let ts = target_types types targets in
-      every_append (IsEntry s) (check_entries strict s) (pick_entries ts s) (checks_are strict) (picks_are ts (below (length ts)))
+      every_append (IsEntry s) (check_entries strict (unmarked s)) (pick_entries ts s) (plain_checks strict) (picks_are ts (below (length ts)))

@@ -2,8 +2,13 @@ pub mod Names
 pub mod WholeSelects
 pub mod TreesInSight
 pub mod Walks
+pub mod ConvertedStatements
+pub mod ConvertedReads
+pub mod ConvertedSources
+pub mod ConvertedSight
 pub mod StatementsInSight
 pub mod ParametersInSight
+pub mod ConvertedSlots
 pub mod SlotLookups
 pub mod SlotsOfTrees
 pub mod Found

@@ -8,13 +8,14 @@ use Rattle.away_names.specs.Lookups.{Name}
 use Rattle.away_types.specs.declared.parameters.Start.{Start}
 use Rattle.away_types.specs.declared.slots.Slot.{Slot}
 use Rattle.away_types.specs.CheckedFunctions.{IsChecked, IsCheckedOfSome}
-use Rattle.away_types.specs.FunctionChecks.{start, with_param, entry, body_of, function_note, head_note, types_note}
+use Rattle.away_types.specs.FunctionChecks.{start, with_param, entry, around_in, body_of, converted_body, function_note, head_note, slots_of as all_slots, types_note}
 use Rattle.away_types.specs.ResolvedBodies.{resolved_stmt}
 use Rattle.away_trees.specs.StatementAlgebra.{stmt_of}
 use Rattle.type_soundness.specs.Sorts.{Every}
 use Rattle.away_types.proofs.ClearReports.{Clear, clear_bodies}
 use Rattle.function_facts.specs.Sight.{walking}
 use Rattle.function_facts.specs.InSight.{ReadsInSight, AllInSight}
+use Rattle.function_facts.proofs.ConvertedSight.{converted_in_sight}
 use Rattle.function_facts.proofs.Names.{slots_of}
 use Rattle.function_facts.proofs.StatementsInSight.{stmt_good}
 use Rattle.function_facts.proofs.Walks.{shown_push, slots_push}
@@ -41,14 +42,18 @@ all_started (p ∷ ps) k s h = subst (λ j. Started j (fold with_param (with_par
 pub started : (ps : List (Name × Ty)) → Started (length ps) (start ps)
 started ps = subst (λ j. Started j (start ps)) (omega arith) (all_started ps 0 (start []) (record { shown = refl; slots = refl }))
 
-of_written : (s : Schema) (f : Function) → Clear (function_note s f) → Every ReadsInSight (stmt_of walking (body_of s f).it (length f.params) (range_with_len 0 (length f.params))).exprs
+named_in_sight : (s : Schema) (f : Function) → Clear (function_note s f) → Every ReadsInSight (stmt_of walking (body_of s f).it (length f.params) (range_with_len 0 (length f.params))).exprs
 unfolding resolved_stmt
-of_written s f c =
+named_in_sight s f c =
     let first = started f.params in
     let body = clear_bodies (length f.params) (head_note f) (body_of s f).note (types_note s f) c in
     let good = stmt_good f.body (entry s f.params) (start f.params).slots body.0 in
     subst (λ seen. Every ReadsInSight (stmt_of walking (body_of s f).it (length f.params) seen).exprs) first.slots
     (subst (λ k. Every ReadsInSight (stmt_of walking (body_of s f).it k (slots_of (start f.params).variables)).exprs) first.shown good.exprs)
+
+of_written : (s : Schema) (f : Function) → Clear (function_note s f) → Every ReadsInSight (stmt_of walking (converted_body s f) (length f.params) (range_with_len 0 (length f.params))).exprs
+of_written s f c =
+    converted_in_sight (around_in s (all_slots s f) f.result) (body_of s f).it (length f.params) (range_with_len 0 (length f.params)) (named_in_sight s f c)
 
 pub checked_in_sight : (s : Schema) (written checked : Function) (slots : List Slot) → IsChecked s written checked slots → AllInSight checked
 checked_in_sight s written checked slots h = subst AllInSight (sym h.function) (of_written s written h.unbroken)

@@ -3,6 +3,7 @@ use Rattle.std.proofs.Common.{◌≡◌, ℕ, zero, suc, ◌+◌, ◌<◌, ◌^�
 use Rattle.std.specs.List.{list_all, range_with_len}
 use Rattle.std.proofs.lemmas.Bool.{and_parts, false≢true}
 use Rattle.std.proofs.lemmas.Bool.Decides.{nat_tests}
+use Rattle.away_values.specs.declared.types.Ty.{Ty}
 use Rattle.away_values.specs.declared.values.Value.{Value}
 use Rattle.away_trees.specs.declared.queries.Expr.{Expr}
 use Rattle.away_trees.specs.declared.schemas.Schema.{Schema}
@@ -304,12 +305,12 @@ read_in_sight s written f slots c small =
     (every_more (IsOverTables tables) (IsOver tables) (λ e h. h.reads_own) (sources whole_select f.body) (selects_over s written f slots c small))
 
 pub answers_alike : (s : Schema) (written f : Function) (slots : List Slot) → IsChecked s written f slots → length s.tables < 2 ^ 64 → (T : List Rows)
-    → length T ≡ length s.tables → (not_null : List Bool) (args : List Value) (env : Env) (n : ℕ)
-    → Agree (parameters_of f) (begun (over T not_null) f args) env
-    → answer_of ((meaning (over T not_null) f.body).run (length f.params) env n).outcome
-    ≡ answer_of ((meaning (over T not_null) f.body).run (length f.params) (begun (over T not_null) f args) n).outcome
-answers_alike s written f slots c small T many not_null args env n agree =
+    → length T ≡ length s.tables → (typed : List (Ty × Bool)) (args : List Value) (env : Env) (n : ℕ)
+    → Agree (parameters_of f) (begun (over T typed) f args) env
+    → answer_of ((meaning (over T typed) f.body).run (length f.params) env n).outcome
+    ≡ answer_of ((meaning (over T typed) f.body).run (length f.params) (begun (over T typed) f args) n).outcome
+answers_alike s written f slots c small T many typed args env n agree =
     let sees = subst (λ k. reads_in_sight (of_expressions k) f.body (length f.params) (parameters_of f) ≡ true) (sym many) (read_in_sight s written f slots c small) in
     ap answer_of
-    (sym (statement_alike (over T not_null) (of_expressions (length T)) (expressions_are_readers T not_null) f.body (length f.params) (parameters_of f) sees
-    (begun (over T not_null) f args) env n agree).outcome)
+    (sym (statement_alike (over T typed) (of_expressions (length T)) (expressions_are_readers T typed) f.body (length f.params) (parameters_of f) sees
+    (begun (over T typed) f args) env n agree).outcome)

@@ -9,7 +9,7 @@ use Rattle.away_trees.specs.declared.schemas.Schema.{Schema}
 use Rattle.away_trees.specs.declared.statements.Function.{Function}
 use Rattle.away_types.specs.declared.slots.Slot.{Slot}
 use Rattle.away_types.specs.CheckedFunctions.{IsChecked}
-use Rattle.away_types.specs.FunctionChecks.{start, entry, body_of, function_note, head_note, types_note, resolved_function, slots_of, asked_in}
+use Rattle.away_types.specs.FunctionChecks.{start, entry, around_in, body_of, converted_body, function_note, head_note, types_note, resolved_function, slots_of, asked_in}
 use Rattle.away_types.specs.ResolvedBodies.{resolved_stmt}
 use Rattle.sql_meaning.specs.Reads as read
 use Rattle.sql_meaning.specs.Reads.{Read, allows, reads, fits}
@@ -26,10 +26,12 @@ use Rattle.function_facts.proofs.SlotLookups as slot
 use Rattle.function_facts.proofs.SlotsOfParameters.{of_written}
 use Rattle.function_facts.proofs.Taken as taken
 use Rattle.function_facts.specs.OverTables.{IsOverTables}
+use Rattle.elaboration.specs.Converting.{converted}
+use Rattle.function_facts.proofs.ConvertedSources.{ReadsSame, every_beside, sources_read}
 use Rattle.function_facts.proofs.Asked.{AreSingle, asked_single}
 use Rattle.function_facts.proofs.FixedList.{AreOver, fixed_over}
 use Rattle.function_facts.proofs.TableLookups.{IsBelow, tables_below}
-use Rattle.function_facts.proofs.TablesOfStatements.{AllBelow, stmt_fine}
+use Rattle.function_facts.proofs.TablesOfStatements.{AllBelow, SourceBelow, stmt_fine}
 use Rattle.function_facts.proofs.Entries.{IsEntry, entries_are, stmt_entries}
 
 -- ---- an expression
@@ -58,19 +60,28 @@ each_over tables (e ∷ es) h (suc i) x at = each_over tables es h.1 i x at
 
 -- ---- a function
 
-body_below : (s : Schema) (f : Function) → length s.tables < 2 ^ 64 → Clear (body_of s f).note → AllBelow (length s.tables) (sources whole_select (body_of s f).it)
+named_below : (s : Schema) (f : Function) → length s.tables < 2 ^ 64 → Clear (body_of s f).note → AllBelow (length s.tables) (sources whole_select (body_of s f).it)
 unfolding resolved_stmt sources
-body_below s f small c = stmt_fine (length s.tables) f.body (entry s f.params) (start f.params).slots ((λ x. tables_below s small x), refl) c
+named_below s f small c = stmt_fine (length s.tables) f.body (entry s f.params) (start f.params).slots ((λ x. tables_below s small x), refl) c
 
-body_single : (s : Schema) (f : Function) → Clear (types_note s f) → AreSingle (sources whole_select (body_of s f).it)
+body_below : (s : Schema) (f : Function) → length s.tables < 2 ^ 64 → Clear (body_of s f).note → AllBelow (length s.tables) (sources whole_select (converted_body s f))
 unfolding sources
-body_single s f c = asked_single (asked_in s (slots_of s f) f.result) (body_of s f).it c
+body_below s f small c =
+    let tables = length s.tables in
+    let x = (body_of s f).it in
+    let there = around_in s (slots_of s f) f.result in
+    every_beside ReadsSame (SourceBelow tables) (SourceBelow tables) (λ e y same h. subst (Every (IsBelow tables)) (sym same) h)
+    (sources whole_select x) (sources whole_select (converted there x)) (sources_read there x) (named_below s f small c)
+
+body_single : (s : Schema) (f : Function) → Clear (types_note s f) → AreSingle (sources whole_select (converted_body s f))
+unfolding sources
+body_single s f c = asked_single (asked_in s (slots_of s f) f.result) (converted_body s f) c
 
 written_over : (s : Schema) (f : Function) → length s.tables < 2 ^ 64 → Clear (function_note s f)
-    → AreOver (length s.tables) (sources whole_select (body_of s f).it)
+    → AreOver (length s.tables) (sources whole_select (converted_body s f))
 written_over s f small c =
     let body = clear_bodies (length f.params) (head_note f) (body_of s f).note (types_note s f) c in
-    all_over (named_slots (resolved_function s f)) (length s.tables) (sources whole_select (body_of s f).it) (of_written s f c).reads
+    all_over (named_slots (resolved_function s f)) (length s.tables) (sources whole_select (converted_body s f)) (of_written s f c).reads
     (body_below s f small body.0) (body_single s f body.1)
 
 -- each expression, where a SELECT INTO has its whole select

@@ -1,5 +1,6 @@
 -- That a run of a checked function reads slots in sight alone, which have been set.
 use Rattle.std.specs.Prelude.{◌≡◌, ℕ, ◌<◌, ◌^◌, Bool, true, List, length}
+use Rattle.away_values.specs.declared.types.Ty.{Ty}
 use Rattle.away_values.specs.declared.values.Value.{Value}
 use Rattle.away_trees.specs.declared.schemas.Schema.{Schema}
 use Rattle.away_trees.specs.declared.statements.Function.{Function}
@@ -23,7 +24,7 @@ ReadInSight =
 abbrev pub AnswerFromParameters : Type 0
 AnswerFromParameters =
     (s : Schema) (written f : Function) (slots : List Slot) → IsChecked s written f slots → length s.tables < 2 ^ 64 → (T : List Rows)
-    → length T ≡ length s.tables → (not_null : List Bool) (args : List Value) (env : Env) (n : ℕ)
-    → Agree (parameters_of f) (begun (over T not_null) f args) env
-    → answer_of ((meaning (over T not_null) f.body).run (length f.params) env n).outcome
-    ≡ answer_of ((meaning (over T not_null) f.body).run (length f.params) (begun (over T not_null) f args) n).outcome
+    → length T ≡ length s.tables → (typed : List (Ty × Bool)) (args : List Value) (env : Env) (n : ℕ)
+    → Agree (parameters_of f) (begun (over T typed) f args) env
+    → answer_of ((meaning (over T typed) f.body).run (length f.params) env n).outcome
+    ≡ answer_of ((meaning (over T typed) f.body).run (length f.params) (begun (over T typed) f args) n).outcome

@@ -6,26 +6,29 @@ use Rattle.away_values.specs.declared.types.Ty.{Ty}
 use Rattle.away_values.specs.declared.values.Class.{Class}
 use Rattle.away_values.specs.declared.values.Value.{Value}
 use Rattle.away_values.specs.declared.values.Value.TheVariants as val
-use Rattle.away_values.specs.Results.{Or, mapped}
+use Rattle.away_values.specs.Results.{Or, and_then, mapped}
 use Rattle.away_trees.specs.declared.queries.Expr.{Expr}
+use Rattle.away_trees.specs.declared.queries.Expr.TheViews.{out-Select}
 use Rattle.away_trees.specs.declared.queries.Select.{Select}
 use Rattle.sql_meaning.specs.Context.{Rows}
 use Rattle.sql_meaning.specs.Template.{count_from}
 use Rattle.plsql_meaning.specs.Outcomes.{Env, Step, Done, done, faults, no_data_found, too_many_rows}
 use Rattle.plsql_meaning.specs.Sight.{query_of}
-use Rattle.plsql_meaning.specs.Statements.{assign, put_all, choose, into, head_or_null, rest_of}
-use Rattle.select_into.specs.Entries.{Target, checks, target_types, pick_entries, into_entries}
+use Rattle.plsql_meaning.specs.Conversions.{converted_value, converted_row}
+use Rattle.plsql_meaning.specs.Statements.{assign, put_all, choose, head_or_null, rest_of, put_converted, into_as}
+use Rattle.select_into.specs.Entries.{Target, checks, target_types, cast_at, pick_entry, pick_entries, into_entries, unmarked}
 use Rattle.select_into.specs.Laws.{first_row, is_empty, has_two}
-use Rattle.select_into.specs.Wrapped.{more_rows, pick, picked}
+use Rattle.select_into.specs.Wrapped.{more_rows}
 use Rattle.block_forms.specs.Around.{Around}
 use Rattle.block_forms.specs.OwnSlots.{ReadsBelow}
 use Rattle.block_forms.specs.Patterns.{Part, node, onward, check_parts, pick_parts, put_part, after_put, put_parts, puts_of}
 use Rattle.block_forms.specs.Patterns as form
 use Rattle.block_forms.specs.Targets.{one_target, named_targets}
 use Rattle.goto_law.proofs.Assignments.{slot_set}
+use Rattle.goto_law.proofs.Casts.{picked_casts}
 use Rattle.goto_law.proofs.Entries.{entry_at, entries_at}
 use Rattle.goto_law.proofs.Fits.{AllBelow, below_left, below_right}
-use Rattle.goto_law.proofs.Known.{Sides, width, at, GoesIn, AllStandIn, Entries, Known}
+use Rattle.goto_law.proofs.Known.{Sides, width, at, GoesIn, AllStandIn, Entries, Known, value_of}
 use Rattle.goto_law.proofs.Parts.{left, right}
 use Rattle.goto_law.proofs.SelectEntries.{types_long}
 use Rattle.goto_law.proofs.Steps.{at_next, at_fault, heavier, after_path, at_choice, in_order_sparing}
@@ -117,40 +120,77 @@ module _ (s : Sides) (known : Known s) (around : Around) (next : ℕ) where
 
   -- ---- picks
 
-  module _ (q : Select) (types : List Ty) (alone : ReadsBelow (width s) (query_of q)) (env : Env) (wide : length env ≡ width s) (puts h n w : ℕ) where
-    abbrev pick_at : ℕ → Expr
-    pick_at m = pick (picked types q) m
+  -- what the rest of the statement does with the values, or the fault of the first that isn't converted
+  abbrev with_row : (List Value → Done) → Env → ℕ → Or (List Value) → Done
+  with_row f env n (Err c) = done (faults c) env n
+  with_row f env n (Ok ws) = f ws
 
-    picks_go : (rs : Rows) → s.set.rows q env ≡ Ok rs → (ts : List Target) (i k m j : ℕ) (vs : List Value) (hid : Env) (d : Done)
+  one_more : (f : List Value → Done) (env : Env) (n : ℕ) (v : Value) (o : Or (List Value))
+      → with_row (λ ws. f (v ∷ ws)) env n o ≡ with_row f env n (mapped (λ ws. v ∷ ws) o)
+  one_more f env n v (Err c) = refl
+  one_more f env n v (Ok ws) = refl
+
+  module _ (q : Select) (types : List Ty) (alone : ReadsBelow (width s) (query_of q)) (env : Env) (wide : length env ≡ width s) (puts h n w : ℕ) where
+    abbrev casts : ℕ → Option Ty
+    casts m = cast_at types (out-Select q).list m
+
+    -- the casts of so many picks, from a place on
+    abbrev casts_from : ℕ → ℕ → List (Option Ty)
+    casts_from m many = map casts (count_from m many)
+
+    abbrev pick_at : ℕ → Expr
+    pick_at m = pick_entry types q m
+
+    picks_go : (rs : Rows) → s.set.rows q env ≡ Ok rs → (ts : List Target) (i k m j : ℕ) (vs : List Value) (hid : Env) (f : List Value → Done)
         → ((x : ℕ) → at vs x ≡ at (first_row rs) (m + x)) → h ≤ j → Entries s k (map pick_at (count_from m (length ts)))
         → AllStandIn s (pick_parts s.form.goto s.form.numbers ts i k (width s + j) q puts)
-        → GoesIn s around next puts env (filled (length ts) j vs hid) h n w d
-        → GoesIn s around next (onward ts (node s.form.goto i) puts) env hid h n (length ts + w) d
-    picks_go rs e [] i k m j vs hid d holds le entries stand rest = heavier rest (omega arith)
-    picks_go rs e (t ∷ ts) i k m j vs hid d holds le entries stand rest =
-        let b = node s.form.goto i in
-        let to = onward ts (node s.form.goto (i + 1)) puts in
-        let v = head_or_null vs in
-        after_path (back s.frame s.form.goto (width s) b (width s + j) j to (form.select_term k q) env hid (Ok v) wide refl
-        (known.picks types m k q entries.0 alone env hid wide ∙ ap (mapped (λ rows. at (first_row rows) m)) e ∙ ap (λ v. Ok v) value_is) stand.0)
-        (spares_set j env hid v le)
-        (picks_go rs e ts (i + 1) (k + 1) (m + 1) (suc j) (rest_of vs) (slice_set hid j v) d
-        (λ x. let at_x : m + suc x ≡ m + 1 + x = omega arith in rest_is vs x ∙ holds (suc x) ∙ ap (at (first_row rs)) at_x) (omega (arith, le))
-        (moved entries.1) (shifted stand.1) rest)
-        (omega arith) (omega arith)
+        → ((ws : List Value) → converted_row (casts_from m (length ts)) vs ≡ Ok ws → GoesIn s around next puts env (filled (length ts) j ws hid) h n w (f ws))
+        → GoesIn s around next (onward ts (node s.form.goto i) puts) env hid h n (length ts + w)
+        (with_row f env n (converted_row (casts_from m (length ts)) vs))
+    picks_go rs e [] i k m j vs hid f holds le entries stand rest = heavier (rest [] refl) (omega arith)
+    picks_go rs e (t ∷ ts) i k m j vs hid f holds le entries stand rest =
+        by (λ v is.
+        picks_go rs e ts (i + 1) (k + 1) (suc m) (suc j) (rest_of vs) (slice_set hid j v) (λ ws. f (v ∷ ws))
+        (λ x. let at_x : m + suc x ≡ suc m + x = omega arith in rest_is vs x ∙ holds (suc x) ∙ ap (at (first_row rs)) at_x) (omega (arith, le))
+        (moved entries.1) (shifted stand.1)
+        (λ ws row. rest (v ∷ ws) (ap (λ o. and_then o (λ v. mapped (λ ws. v ∷ ws) rest_row)) is ∙ ap (mapped (λ ws. v ∷ ws)) row)))
+        (converted_value (casts m) (head_or_null vs)) refl
       where
+        b : ℕ
+        b = node s.form.goto i
+
+        to : ℕ
+        to = onward ts (node s.form.goto (i + 1)) puts
+
+        rest_row : Or (List Value)
+        rest_row = converted_row (casts_from (suc m) (length ts)) (rest_of vs)
+
         value_is : at (first_row rs) m ≡ head_or_null vs
         value_is = let here : m + 0 ≡ m = omega arith in sym (ap (at (first_row rs)) here) ∙ sym (holds 0) ∙ head_is vs
 
-        moved : Entries s (suc k) (map pick_at (count_from (suc m) (length ts))) → Entries s (k + 1) (map pick_at (count_from (m + 1) (length ts)))
-        moved x =
-            let same : suc k ≡ k + 1 = omega arith in
-            let more : suc m ≡ m + 1 = omega arith in
-            subst (λ m. Entries s (k + 1) (map pick_at (count_from m (length ts)))) more
-            (subst (λ k. Entries s k (map pick_at (count_from (suc m) (length ts)))) same x)
+        -- what the pick gives
+        given : (o : Or Value) → converted_value (casts m) (head_or_null vs) ≡ o → value_of s (form.select_term k q) (env ++ hid) ≡ o
+        given o is =
+            known.picks types m k q entries.0 alone env hid wide
+            ∙ ap (λ o. and_then o (λ rows. converted_value (casts m) (at (first_row rows) m))) e
+            ∙ ap (converted_value (casts m)) value_is ∙ is
+
+        moved : Entries s (suc k) (map pick_at (count_from (suc m) (length ts))) → Entries s (k + 1) (map pick_at (count_from (suc m) (length ts)))
+        moved x = let same : suc k ≡ k + 1 = omega arith in subst (λ k. Entries s k (map pick_at (count_from (suc m) (length ts)))) same x
 
         shifted : AllStandIn s (pick_parts s.form.goto s.form.numbers ts (i + 1) (k + 1) (width s + j + 1) q puts) → AllStandIn s (pick_parts s.form.goto s.form.numbers ts (i + 1) (k + 1) (width s + suc j) q puts)
         shifted x = let same : width s + j + 1 ≡ width s + suc j = omega arith in subst (λ slot. AllStandIn s (pick_parts s.form.goto s.form.numbers ts (i + 1) (k + 1) slot q puts)) same x
+
+        by : ((v : Value) → converted_value (casts m) (head_or_null vs) ≡ Ok v
+            → GoesIn s around next to env (slice_set hid j v) h n (length ts + w) (with_row (λ ws. f (v ∷ ws)) env n rest_row))
+            → (o : Or Value) → converted_value (casts m) (head_or_null vs) ≡ o
+            → GoesIn s around next b env hid h n (suc (length ts) + w) (with_row f env n (and_then o (λ v. mapped (λ ws. v ∷ ws) rest_row)))
+        by others (Err c) is = heavier (at_fault (back s.frame s.form.goto (width s) b (width s + j) j to (form.select_term k q) env hid (Err c) wide refl (given (Err c) is) stand.0)) (omega arith)
+        by others (Ok v) is =
+            after_path (back s.frame s.form.goto (width s) b (width s + j) j to (form.select_term k q) env hid (Ok v) wide refl (given (Ok v) is) stand.0)
+            (spares_set j env hid v le)
+            (subst (λ d. GoesIn s around next to env (slice_set hid j v) h n (length ts + w) d) (one_more f env n v rest_row) (others v is))
+            (omega arith) (omega arith)
 
     -- a class of the select ends the first pick
     picks_end : (c : Class) → s.set.rows q env ≡ Err c → (ts : List Target) (i k j : ℕ) (hid : Env) → 0 < length ts
@@ -161,27 +201,35 @@ module _ (s : Sides) (known : Known s) (around : Around) (next : ℕ) where
     picks_end c e (t ∷ ts) i k j hid lt entries stand =
         heavier (at_fault (back s.frame s.form.goto (width s) (node s.form.goto i) (width s + j) j (onward ts (node s.form.goto (i + 1)) puts)
         (form.select_term k q) env hid (Err c) wide refl
-        (known.picks types 0 k q entries.0 alone env hid wide ∙ ap (mapped (λ rows. at (first_row rows) 0)) e) stand.0)) (omega arith)
+        (known.picks types 0 k q entries.0 alone env hid wide ∙ ap (λ o. and_then o (λ rows. converted_value (casts 0) (at (first_row rows) 0))) e) stand.0)) (omega arith)
 
   -- ---- the whole
 
-  -- from the first row on
-  abbrev from_row : List Target → Or Rows → Step
-  from_row ts (Err c) env n = done (faults c) env n
-  from_row ts (Ok rs) env n = put_all s.set ts (first_row rs) env n
+  -- from the first row on, by the casts of its values
+  abbrev from_row : List (Option Ty) → List Target → Or Rows → Step
+  from_row cs ts (Err c) env n = done (faults c) env n
+  from_row cs ts (Ok rs) env n = with_row (λ ws. put_all s.set ts ws env n) env n (converted_row cs (first_row rs))
 
-  plain_is : (ts : List Target) (o : Or Rows) (env : Env) (n : ℕ) → from_row ts o env n ≡ into s.set false ts o env n
-  plain_is ts (Err c) env n = refl
-  plain_is ts (Ok []) env n = refl
-  plain_is ts (Ok (r ∷ rs)) env n = refl
+  row_is : (cs : List (Option Ty)) (ts : List Target) (vs : List Value) (env : Env) (n : ℕ)
+      → with_row (λ ws. put_all s.set ts ws env n) env n (converted_row cs vs) ≡ put_converted s.set ts (converted_row cs vs) env n
+  row_is cs ts vs env n = by (converted_row cs vs)
+    where
+      by : (o : Or (List Value)) → with_row (λ ws. put_all s.set ts ws env n) env n o ≡ put_converted s.set ts o env n
+      by (Err c) = refl
+      by (Ok ws) = refl
 
-  strict_is : (ts : List Target) (o : Or Rows) (env : Env) (n : ℕ)
+  plain_is : (cs : List (Option Ty)) (ts : List Target) (o : Or Rows) (env : Env) (n : ℕ) → from_row cs ts o env n ≡ into_as s.set false cs ts o env n
+  plain_is cs ts (Err c) env n = refl
+  plain_is cs ts (Ok []) env n = row_is cs ts [] env n
+  plain_is cs ts (Ok (r ∷ rs)) env n = row_is cs ts r env n
+
+  strict_is : (cs : List (Option Ty)) (ts : List Target) (o : Or Rows) (env : Env) (n : ℕ)
       → choose (mapped (λ rows. val.Bool (is_empty rows)) o) (done (faults no_data_found))
-      (choose (mapped (λ rows. val.Bool (has_two rows)) o) (done (faults too_many_rows)) (from_row ts o)) env n ≡ into s.set true ts o env n
-  strict_is ts (Err c) env n = refl
-  strict_is ts (Ok []) env n = refl
-  strict_is ts (Ok (r ∷ [])) env n = refl
-  strict_is ts (Ok (r ∷ q ∷ rs)) env n = refl
+      (choose (mapped (λ rows. val.Bool (has_two rows)) o) (done (faults too_many_rows)) (from_row cs ts o)) env n ≡ into_as s.set true cs ts o env n
+  strict_is cs ts (Err c) env n = refl
+  strict_is cs ts (Ok []) env n = refl
+  strict_is cs ts (Ok (r ∷ [])) env n = row_is cs ts r env n
+  strict_is cs ts (Ok (r ∷ q ∷ rs)) env n = refl
 
   -- its parts by its node, its first entry and its first hidden slot
   abbrev pub parts_from : List Target → Select → ℕ → ℕ → Bool → ℕ → List Part
@@ -194,6 +242,10 @@ module _ (s : Sides) (known : Known s) (around : Around) (next : ℕ) where
       (env hid : Env) (wide : length env ≡ width s) (i k j h n : ℕ) (le : h ≤ j) (room : j + length ts ≤ length hid) where
     abbrev types : List Ty
     types = target_types s.types ts
+
+    -- the casts of the picks
+    abbrev cs : List (Option Ty)
+    cs = picked_casts s.types ts (out-Select q).list
 
     abbrev put : ℕ
     put = puts_of s.form.goto s.form.numbers ts i
@@ -208,43 +260,44 @@ module _ (s : Sides) (known : Known s) (around : Around) (next : ℕ) where
     first = onward ts (node s.form.goto (i + 1)) next
 
     row_goes : (k : ℕ) → Entries s k (pick_entries types q) → AllStandIn s (picks k ++ puts)
-        → GoesIn s around next first env hid h n (length ts + 3 * length ts) (from_row ts (s.set.rows q env) env n)
+        → GoesIn s around next first env hid h n (length ts + 3 * length ts) (from_row cs ts (s.set.rows q env) env n)
     row_goes k entries stand =
-        subst (λ b. GoesIn s around next b env hid h n (length ts + 3 * length ts) (from_row ts (s.set.rows q env) env n))
+        subst (λ b. GoesIn s around next b env hid h n (length ts + 3 * length ts) (from_row cs ts (s.set.rows q env) env n))
         (onward_some ts (node s.form.goto (i + 1)) put next some) (by (s.set.rows q env) refl)
       where
-        there : Entries s k (map (λ place. pick (picked types q) place) (count_from 0 (length ts)))
-        there = subst (λ many. Entries s k (map (λ place. pick (picked types q) place) (count_from 0 many))) (types_long s.types ts) entries
+        there : Entries s k (map (pick_entry types q) (count_from 0 (length ts)))
+        there = subst (λ many. Entries s k (map (pick_entry types q) (count_from 0 many))) (types_long s.types ts) entries
 
         by : (o : Or Rows) → s.set.rows q env ≡ o
-            → GoesIn s around next (onward ts (node s.form.goto (i + 1)) put) env hid h n (length ts + 3 * length ts) (from_row ts o env n)
+            → GoesIn s around next (onward ts (node s.form.goto (i + 1)) put) env hid h n (length ts + 3 * length ts) (from_row cs ts o env n)
         by (Err c) e = picks_end q types alone env wide put h n (3 * length ts) c e ts (i + 1) k j hid some there (left s.form.goto.blocks (picks k) puts stand)
         by (Ok rs) e =
-            picks_go q types alone env wide put h n (3 * length ts) rs e ts (i + 1) k 0 j (first_row rs) hid (put_all s.set ts (first_row rs) env n)
+            picks_go q types alone env wide put h n (3 * length ts) rs e ts (i + 1) k 0 j (first_row rs) hid (λ ws. put_all s.set ts ws env n)
             (λ x. let same : x ≡ 0 + x = omega arith in ap (at (first_row rs)) same) le there (left s.form.goto.blocks (picks k) puts stand)
-            (subst (λ b. GoesIn s around next b env (filled (length ts) j (first_row rs) hid) h n (3 * length ts) (put_all s.set ts (first_row rs) env n))
+            (λ ws row.
+            subst (λ b. GoesIn s around next b env (filled (length ts) j ws hid) h n (3 * length ts) (put_all s.set ts ws env n))
             (onward_here ts put next some)
-            (puts_go ts sets (first_row rs) env (filled (length ts) j (first_row rs) hid) put h n j wide le
-            (λ m lt. filled_at (length ts) j (first_row rs) hid room m lt) (right s.form.goto.blocks (picks k) puts stand)))
+            (puts_go ts sets ws env (filled (length ts) j ws hid) put h n j wide le
+            (λ m lt. filled_at (length ts) j ws hid room m lt) (right s.form.goto.blocks (picks k) puts stand)))
 
     pub into_goes : (strict : Bool) → Entries s k (into_entries s.types strict ts q)
         → AllStandIn s (parts_from ts q i k strict (width s + j))
-        → GoesIn s around next (node s.form.goto i) env hid h n (2 + (length ts + 3 * length ts)) (into s.set strict ts (s.set.rows q env) env n)
+        → GoesIn s around next (node s.form.goto i) env hid h n (2 + (length ts + 3 * length ts)) (into_as s.set strict cs ts (s.set.rows q env) env n)
     into_goes false entries stand =
         let same : k + 0 ≡ k = omega arith in
-        subst (λ d. GoesIn s around next (node s.form.goto i) env hid h n (2 + (length ts + 3 * length ts)) d) (plain_is ts (s.set.rows q env) env n)
-        (subst (λ b. GoesIn s around next b env hid h n (2 + (length ts + 3 * length ts)) (from_row ts (s.set.rows q env) env n)) (sym stand.0)
+        subst (λ d. GoesIn s around next (node s.form.goto i) env hid h n (2 + (length ts + 3 * length ts)) d) (plain_is cs ts (s.set.rows q env) env n)
+        (subst (λ b. GoesIn s around next b env hid h n (2 + (length ts + 3 * length ts)) (from_row cs ts (s.set.rows q env) env n)) (sym stand.0)
         (heavier (row_goes k entries (subst (λ k. AllStandIn s (picks k ++ puts)) same stand.1)) (omega arith)))
     into_goes true entries stand =
         let rows = s.set.rows q env in
         let row = row_goes (k + 2) (entries_at s (suc (suc k)) (k + 2) (pick_entries types q) entries.1.1 (omega arith)) stand.1.1.1.1 in
-        let second = known.more_tests (k + 1) q (entry_at s (suc k) (k + 1) (more_rows q) entries.1.0 (omega arith)) alone env hid wide in
-        subst (λ d. GoesIn s around next (node s.form.goto i) env hid h n (2 + (length ts + 3 * length ts)) d) (strict_is ts rows env n)
+        let second = known.more_tests (k + 1) q (entry_at s (suc k) (k + 1) (more_rows (unmarked q)) entries.1.0 (omega arith)) alone env hid wide in
+        subst (λ d. GoesIn s around next (node s.form.goto i) env hid h n (2 + (length ts + 3 * length ts)) d) (strict_is cs ts rows env n)
         (at_choice {v = 1} {w = 1 + (length ts + 3 * length ts)} (form.select_term k q) (mapped (λ rows. val.Bool (is_empty rows)) rows)
-        (done (faults no_data_found)) (choose (mapped (λ rows. val.Bool (has_two rows)) rows) (done (faults too_many_rows)) (from_row ts rows))
+        (done (faults no_data_found)) (choose (mapped (λ rows. val.Bool (has_two rows)) rows) (done (faults too_many_rows)) (from_row cs ts rows))
         (known.row_tests k q entries.0 alone env hid wide) stand.0
         (at_fault (fails_there stand.1.0))
         (at_choice {v = 1} {w = length ts + 3 * length ts} (form.select_term (k + 1) q) (mapped (λ rows. val.Bool (has_two rows)) rows)
-        (done (faults too_many_rows)) (from_row ts rows)
+        (done (faults too_many_rows)) (from_row cs ts rows)
         second stand.1.1.0 (at_fault (fails_there stand.1.1.1.0)) row (omega (arith, some)) (omega arith))
         (omega (arith, some)) (omega arith))

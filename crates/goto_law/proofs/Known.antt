@@ -1,14 +1,16 @@
 -- The two sides of the simulation, and what it asks of them: that the terms of the form have the values for which they stand, and that slots are
--- NOT NULL on both sides alike.
-use Rattle.std.proofs.Common.{◌≡◌, ℕ, suc, Bool, false, pos, List, [], ◌∷◌, ◌++◌, length, Option, Some, None, Ok}
+-- NOT NULL and of their types on both sides alike.
+use Rattle.std.proofs.Common.{◌≡◌, ℕ, suc, ◌<◌, Bool, false, pos, List, [], ◌∷◌, ◌++◌, length, Option, Some, None, Ok}
 use Rattle.std.specs.Prelude.{slice_get, get_or}
 use Rattle.away_values.specs.declared.operators.CmpOp.TheVariants as cmp
 use Rattle.away_values.specs.declared.types.Ty.{Ty}
+use Rattle.away_values.specs.declared.types.Ty.TheVariants as ty
 use Rattle.away_values.specs.declared.values.Value.{Value}
 use Rattle.away_values.specs.declared.values.Value.TheVariants as val
 use Rattle.away_values.specs.Operators.{compare, is_null}
-use Rattle.away_values.specs.Results.{Or, mapped}
+use Rattle.away_values.specs.Results.{Or, and_then, mapped}
 use Rattle.away_trees.specs.declared.queries.Expr.{Expr}
+use Rattle.away_trees.specs.declared.queries.Expr.TheViews.{out-Select}
 use Rattle.away_trees.specs.declared.queries.Select.{Select}
 use Rattle.away_types.specs.declared.slots.Slot.{Slot}
 use Rattle.sql_meaning.specs.Context.{Rows}
@@ -17,8 +19,10 @@ use Rattle.plsql_meaning.specs.Outcomes.{Env, Done}
 use Rattle.plsql_meaning.specs.Sight.{query_of}
 use Rattle.plsql_meaning.specs.Statements as statements
 use Rattle.plsql_meaning.specs.Statements.{is_not_null}
+use Rattle.select_into.specs.Entries.{cast_at, pick_entry, unmarked}
+use Rattle.plsql_meaning.specs.Conversions.{converted_value}
 use Rattle.select_into.specs.Laws.{is_empty, has_two, first_row}
-use Rattle.select_into.specs.Wrapped.{no_row, more_rows, pick, picked}
+use Rattle.select_into.specs.Wrapped.{no_row, more_rows}
 use Rattle.block_forms.specs.declared.forms.Term.{Term}
 use Rattle.block_forms.specs.Around.{Around}
 use Rattle.block_forms.specs.Expressions.{Sources}
@@ -84,9 +88,13 @@ module _ (s : Sides) where
   pub record Known : Type 0 where
     pub sources : (k : ℕ) (e : Expr) → IsEntry s k e → (env hid : Env) → length env ≡ width s
         → value_of s (form.source_term k e) (env ++ hid) ≡ s.set.value e env
-    pub row_tests : Asks no_row (λ rows. val.Bool (is_empty rows))
-    pub more_tests : Asks more_rows (λ rows. val.Bool (has_two rows))
-    pub picks : (types : List Ty) (place : ℕ) → Asks (λ q. pick (picked types q) place) (λ rows. at (first_row rows) place)
+    pub row_tests : Asks (λ q. no_row (unmarked q)) (λ rows. val.Bool (is_empty rows))
+    pub more_tests : Asks (λ q. more_rows (unmarked q)) (λ rows. val.Bool (has_two rows))
+    -- a pick is the value at its place, converted
+    pub picks : (types : List Ty) (place k : ℕ) (q : Select) → IsEntry s k (pick_entry types q place) → ReadsBelow (width s) (query_of q) → (env hid : Env)
+        → length env ≡ width s
+        → value_of s (form.select_term k q) (env ++ hid)
+        ≡ and_then (s.set.rows q env) (λ rows. converted_value (cast_at types (out-Select q).list place) (at (first_row rows) place))
     pub nulls : (t : Ty) → Fixed (λ n. form.null_of n t) (λ env. Ok val.Null)
     pub null_tests : (t : Ty) (slot : ℕ) → Fixed (λ n. form.is_null n t slot) (λ env. Ok (val.Bool (is_null (at env slot))))
     pub positive_tests : (slot : ℕ) → Fixed (λ n. form.not_positive n slot) (λ env. Ok (compare cmp.Le (at env slot) (val.Int (pos 0))))
@@ -97,4 +105,6 @@ module _ (s : Sides) where
     pub ends : (reverse : Bool) (step cur : ℕ) → Fixed (λ n. form.leaves_range n reverse step cur)
         (λ env. leaves reverse (at env step) (at env cur))
     pub moves : (reverse : Bool) (cur step : ℕ) → Fixed (λ n. form.moved n reverse cur step) (λ env. counted reverse (at env cur) (at env step))
+    -- the types of the slots that the text names
+    pub typed : (slot : ℕ) → slot < width s → slice_get s.set.types slot ≡ Some (get_or s.types slot ty.Bigint)
     pub not_nulls : (slot : ℕ) → is_not_null s.set slot ≡ strict_at (slice_get s.form.slots slot)

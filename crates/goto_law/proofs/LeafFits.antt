@@ -3,11 +3,13 @@ use Rattle.std.proofs.Common.{◌≡◌, ℕ, ◌+◌, ◌-◌, ◌*◌, ◌<◌
 use Rattle.away_values.specs.Results.{Or}
 use Rattle.away_values.specs.declared.values.Value.{Value}
 use Rattle.away_trees.specs.declared.queries.Expr.{Expr}
+use Rattle.away_trees.specs.declared.queries.Expr.TheViews.{out-Select}
 use Rattle.away_trees.specs.declared.queries.Select.{Select}
 use Rattle.away_trees.specs.declared.statements.Raised.{Raised}
 use Rattle.away_trees.specs.declared.statements.Stmt.TheOpen.{Stmt-F, Arm-F}
 use Rattle.away_trees.specs.declared.statements.Stmt.TheOpen as st
 use Rattle.sql_meaning.specs.OneReturn.{returned}
+use Rattle.plsql_meaning.specs.Conversions.{conversions}
 use Rattle.plsql_meaning.specs.Outcomes.{Env, Label, Outcome, normal, exits, continues, returns, done}
 use Rattle.plsql_meaning.specs.Statements.{StatementMeaning, ArmMeaning, jump, give, into, statement}
 use Rattle.block_forms.specs.declared.places.Position.{Position}
@@ -21,6 +23,7 @@ use Rattle.block_forms.specs.Patterns as form
 use Rattle.block_forms.specs.Targets.{Targets, targeting, named_targets}
 use Rattle.block_forms.proofs.Exits.{exit_leaves}
 use Rattle.goto_law.proofs.Assignments.{slot_goes}
+use Rattle.goto_law.proofs.Casts.{picked_casts, row_same, into_same}
 use Rattle.goto_law.proofs.Fits.{Begun, Fits}
 use Rattle.goto_law.proofs.IntoRuns.{parts_from, into_goes}
 use Rattle.goto_law.proofs.Known.{Sides, width, GoesIn, AllStandIn, Entries, Known}
@@ -133,14 +136,18 @@ module _ (s : Sides) where
   into_run : Known s → (strict : Bool) (ts : List Target) (q : Select) (p : Position) (slot : ℕ) (around : Around) (next : ℕ) (env hid : Env) (n : ℕ)
       → Begun s p slot (into_size strict ts) (into_entries s.types strict ts q) (named_targets ts) (record { targets = ts; query = q } ∷ [])
       (into_parts s.form.goto s.form.numbers s.form.slots strict ts q p next) env hid
-      → GoesIn s around next (node s.form.goto p.node) env hid (3 * p.fors) n (15 * (1 + length ts)) (into s.set strict ts (s.set.rows q env) env n)
+      → GoesIn s around next (node s.form.goto p.node) env hid (3 * p.fors) n (15 * (1 + length ts)) (into s.set strict ts q (s.set.rows q env) env n)
   into_run known strict ts q p slot around next env hid n begun =
       let j = s.form.numbers.targets - width s + p.targets in
       let is : s.form.numbers.targets + p.targets ≡ width s + j = omega (arith, begun.has.fors) in
       let own = begun.has.intos.0 in
-      heavier (into_goes s known around next q own.reads ts own.some begun.has.sets env hid begun.wide p.node p.expr j (3 * p.fors) n
+      let items = (out-Select q).list in
+      subst (λ d. GoesIn s around next (node s.form.goto p.node) env hid (3 * p.fors) n (15 * (1 + length ts)) d)
+      (into_same s.set strict (picked_casts s.types ts items) (conversions s.set.types ts items) ts
+      (row_same (width s) s.set.types s.types known.typed ts items begun.has.sets) (s.set.rows q env) env n)
+      (heavier (into_goes s known around next q own.reads ts own.some begun.has.sets env hid begun.wide p.node p.expr j (3 * p.fors) n
       (omega (arith, begun.has.fors)) (omega (arith, begun.has.fors, begun.has.targets, begun.long)) strict begun.has.entries
-      (subst (λ hidden. AllStandIn s (parts_from s known around next ts q p.node p.expr strict hidden)) is begun.stand)) (omega arith)
+      (subst (λ hidden. AllStandIn s (parts_from s known around next ts q p.node p.expr strict hidden)) is begun.stand)) (omega arith))
 
   pub into_fits : (strict : Bool) (targets : List Target) (query : Select)
       → LayerFits (st.Into strict targets query) (st.Into strict targets query) (st.Into strict targets query) (st.Into strict targets query)

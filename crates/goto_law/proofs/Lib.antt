@@ -10,6 +10,7 @@ pub mod Counting
 pub mod Entries
 pub mod ForLoops
 pub mod Fits
+pub mod Casts
 pub mod SelectEntries
 pub mod IntoRuns
 pub mod LeafFits

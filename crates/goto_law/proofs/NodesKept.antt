@@ -23,10 +23,11 @@ use Rattle.away_types.specs.declared.resolved.Resolved.{Resolved}
 use Rattle.away_types.specs.declared.slots.Slot.{Slot}
 use Rattle.away_types.specs.declared.slots.Slots.{Slots}
 use Rattle.away_types.specs.CheckedFunctions.{IsCheckedOfSome}
-use Rattle.away_types.specs.FunctionChecks.{start, entry, body_of, resolved_function}
+use Rattle.away_types.specs.FunctionChecks.{start, entry, around_in, body_of, resolved_function, slots_of}
 use Rattle.away_types.specs.ResolvedBodies.{resolved_stmt}
 use Rattle.away_types.specs.Statements as n
 use Rattle.away_types.specs.Statements.{Spot, By, resolving, with_declared, with_resolved, none_resolved, none_declared, each_resolved, declared_all, assigned, headed, within}
+use Rattle.elaboration_law.proofs.StatementsKept.{nodes_kept}
 use Rattle.goto_law.proofs.Sums.{sum_cons, sum_push}
 
 abbrev of_stmt : Stmt → ℕ
@@ -107,7 +108,7 @@ body_kept s f = kept f.body (entry s f.params) (start f.params).slots
 
 function_kept : (s : Schema) (f : Function) → nodes (resolved_function s f) ≡ nodes f
 unfolding nodes
-function_kept s f = omega (arith, body_kept s f)
+function_kept s f = omega (arith, nodes_kept (around_in s (slots_of s f) f.result) (body_of s f).it, body_kept s f)
 
 pub few_nodes : (f : Function) (slots : List Slot) → IsCheckedOfSome f slots → nodes f ≤ most_nodes
 few_nodes f slots h = omega (arith, ap nodes h.checked_is.function, function_kept h.schema h.written, h.limits.few_nodes)

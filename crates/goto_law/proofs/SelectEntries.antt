@@ -9,9 +9,9 @@ use Rattle.sql_meaning.specs.Reads.{Read, Reads, reading, reads, slot_of, slots_
 use Rattle.sql_meaning.specs.Template.{count_from, below}
 use Rattle.sql_meaning.specs.Trees.{one}
 use Rattle.plsql_meaning.specs.Sight.{query_of}
-use Rattle.select_into.specs.Entries.{Target, checks, type_of, check_entries, target_types, pick_entries, into_entries}
+use Rattle.select_into.specs.Entries.{Target, checks, type_of, check_entries, target_types, pick_entry, pick_entries, into_entries, unmarked}
 use Rattle.select_into.specs.Laws.{AskTheSelect, HaveItsSlots, KeepsRows}
-use Rattle.select_into.specs.Wrapped.{pick, picked, select_slots}
+use Rattle.select_into.specs.Wrapped.{select_slots}
 
 -- what is known of them
 pub record SelectLaws : Type 0 where
@@ -36,7 +36,7 @@ pub entries_long : (types : List Ty) (strict : Bool) (ts : List Target) (q : Sel
     ≡ checks strict + length ts
 entries_long types strict ts q =
     let ty = target_types types ts in
-    omega (arith, length-append (check_entries strict q) (pick_entries ty q), checks_long strict q, length-map (below (length ty)) (λ place. pick (picked ty q) place), counted 0 (length ty), types_long types ts)
+    omega (arith, length-append (check_entries strict (unmarked q)) (pick_entries ty q), checks_long strict (unmarked q), length-map (below (length ty)) (pick_entry ty q), counted 0 (length ty), types_long types ts)
 
 -- ---- what they read
 

@@ -79,7 +79,7 @@ module _ (laws : SelectLaws) (f : Function) (slots : List Slot) (g : Goto) (low 
   fixed_is = fits.exprs
 
   knows : Known s
-  knows = known f slots g tables laws fixed_is
+  knows = known f slots g tables laws fixed_is own.slots_are
 
   -- ---- where the run begins
 

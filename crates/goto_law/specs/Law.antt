@@ -1,11 +1,12 @@
 -- The law: a goto form that is a function's answers what the function answers, within the
 -- function's weight for each turn.
-use Rattle.std.specs.Prelude.{◌≡◌, ℕ, suc, ◌*◌, ◌≤◌, List, length, map}
+use Rattle.std.specs.Prelude.{◌≡◌, ℕ, suc, ◌*◌, ◌≤◌, List, length}
 use Rattle.away_values.specs.declared.values.Value.{Value}
 use Rattle.away_values.specs.declared.values.Answer.{Answer}
 use Rattle.away_values.specs.declared.values.Answer.TheVariants as answer
 use Rattle.away_trees.specs.declared.statements.Function.{Function}
 use Rattle.away_trees.specs.Count.{weight}
+use Rattle.away_types.specs.TypedSlots.{typed_slots}
 use Rattle.away_types.specs.declared.slots.Slot.{Slot}
 use Rattle.sql_meaning.specs.Context.{Rows}
 use Rattle.plsql_meaning.specs.Functions.{function_answer, over}
@@ -20,7 +21,7 @@ use Rattle.block_forms.specs.OwnSlots.{OwnSlots}
 -- so many visits
 module _ (f : Function) (slots : List Slot) (g : Goto) (tables : List Rows) (args : List Value) where
   abbrev pub function_at : ℕ → Answer
-  function_at n = function_answer (over tables (map (λ (s : Slot). s.not_null) slots)) f args n
+  function_at n = function_answer (over tables (typed_slots slots)) f args n
 
   abbrev pub form_at : ℕ → Ran
   form_at k = goto_runs (frame_of f (length slots) g tables) g args k

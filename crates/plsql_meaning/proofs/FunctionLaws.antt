@@ -2,6 +2,7 @@
 use Rattle.std.proofs.Common.{◌≡◌, ◌≢◌, refl, sym, subst, ap, ◌∙◌, ℕ, ◌+◌, ◌-◌, ◌≤◌, Bool, true, false, ◌&&◌, if◌then◌else◌, List, [], ◌∷◌, ◌++◌, length, replicate, Ok, Err, arith}
 use Rattle.std.specs.List.{list_any}
 use Rattle.std.proofs.lemmas.List.{append-nil}
+use Rattle.away_values.specs.declared.types.Ty.{Ty}
 use Rattle.away_values.specs.declared.values.Value.{Value}
 use Rattle.away_values.specs.declared.values.Value.TheVariants as val
 use Rattle.away_values.specs.declared.values.Answer.{Answer}
@@ -79,9 +80,9 @@ answer_has_none set f args n = go (f.strict && list_any is_null args) _
 pub no_shape : (set : Setting) (f : Function) (args : List Value) (n k : ℕ) → function_answer set f args n ≢ answer.Shape k
 no_shape set f args n k is = subst NoShape is (answer_has_none set f args n)
 
-pub no_shape_of_query : (schema : Schema) (f : Function) (not_null : List Bool) (q : Query) → Equivalent schema f not_null q → (T : List Rows) (args : List Value) (n k : ℕ) → FitsSchema schema T → AreTyped (types_of f) args → sql q T args n ≢ answer.Shape k
-no_shape_of_query schema f not_null q same T args n k fits typed is =
-    no_shape (over T not_null) f args n k (same.only T args n fits typed (λ h. subst NotMore (sym is ∙ h) tt) ∙ is)
+pub no_shape_of_query : (schema : Schema) (f : Function) (slots : List (Ty × Bool)) (q : Query) → Equivalent schema f slots q → (T : List Rows) (args : List Value) (n k : ℕ) → FitsSchema schema T → AreTyped (types_of f) args → sql q T args n ≢ answer.Shape k
+no_shape_of_query schema f slots q same T args n k fits typed is =
+    no_shape (over T slots) f args n k (same.only T args n fits typed (λ h. subst NotMore (sym is ∙ h) tt) ∙ is)
 
 -- ---- one RETURN
 
@@ -90,11 +91,11 @@ given : (r : Or Value) (env : Env) (at n : ℕ) (label : Label) → answer_of (c
 given (Ok v) env at n label = refl
 given (Err c) env at n label = refl
 
-pub one_return : (f : Function) (e : Expr) → IsOneReturn f e → (not_null : List Bool) (T : List Rows) (args : List Value) (n : ℕ) → answers f not_null T args n ≡ answer_of_return e T args n
-one_return f e form not_null T args n = subst (λ b. (if b && list_any is_null args then answer.Value val.Null else meant (meaning set f.body)) ≡ returned (value e (body T args))) (sym form.not_strict) by_body
+pub one_return : (f : Function) (e : Expr) → IsOneReturn f e → (slots : List (Ty × Bool)) (T : List Rows) (args : List Value) (n : ℕ) → answers f slots T args n ≡ answer_of_return e T args n
+one_return f e form slots T args n = subst (λ b. (if b && list_any is_null args then answer.Value val.Null else meant (meaning set f.body)) ≡ returned (value e (body T args))) (sym form.not_strict) by_body
   where
     set : Setting
-    set = over T not_null
+    set = over T slots
 
     meant : StatementMeaning → Answer
     meant m = answer_of (m.run (length f.params) (args ++ replicate m.vars val.Null) n).outcome
@@ -106,5 +107,5 @@ one_return f e form not_null T args n = subst (λ b. (if b && list_any is_null a
         ∙ given (value e (body T (args ++ []))) (args ++ []) (length f.params + 0 + 0) n form.label
         ∙ ap (λ env. returned (value e (body T env))) (append-nil args)
 
-pub one_return_equivalent : (schema : Schema) (f : Function) (e : Expr) (q : Query) → IsOneReturn f e → IsEquivalent (FitsSchema schema) (AreTyped (types_of f)) (weight f) (answer_of_return e) q → (not_null : List Bool) → Equivalent schema f not_null q
-one_return_equivalent schema f e q form same not_null = subst (λ a. IsEquivalent (FitsSchema schema) (AreTyped (types_of f)) (weight f) a q) (λ i T args n. sym (one_return f e form not_null T args n) i) same
+pub one_return_equivalent : (schema : Schema) (f : Function) (e : Expr) (q : Query) → IsOneReturn f e → IsEquivalent (FitsSchema schema) (AreTyped (types_of f)) (weight f) (answer_of_return e) q → (slots : List (Ty × Bool)) → Equivalent schema f slots q
+one_return_equivalent schema f e q form same slots = subst (λ a. IsEquivalent (FitsSchema schema) (AreTyped (types_of f)) (weight f) a q) (λ i T args n. sym (one_return f e form slots T args n) i) same

@@ -18,7 +18,10 @@ use Rattle.away_trees.specs.StatementAlgebra.{stmt_of, stmts_of, branches_of, el
 use Rattle.sql_meaning.specs.Context.{Rows, at}
 use Rattle.plsql_meaning.specs.Outcomes.{Env, Label, Outcome, normal, exits, continues, returns, faults, more, Done, done, Step, after, and_then, case_not_found, close, closed_as}
 use Rattle.plsql_meaning.specs.Loops.{Turning, started, Verdict, again, leave, verdict, moved, ended, finished, turns, turning, always, while, going, counts, reaches}
-use Rattle.plsql_meaning.specs.Statements.{Setting, is_not_null, stored, put, assign, initial, declare, pick, choose, jump, give, in_row, in_arms, in_else, row_vars, arms_vars, else_vars, kind_vars, body_at, bounded, with_bound, judged, with_step, loop, put_all, head_or_null, rest_of, into, running}
+use Rattle.away_values.specs.declared.types.Ty.{Ty}
+use Rattle.away_trees.specs.declared.queries.Expr.TheViews.{out-Select}
+use Rattle.plsql_meaning.specs.Conversions.{conversions, converted_row}
+use Rattle.plsql_meaning.specs.Statements.{Setting, is_not_null, stored, put, assign, initial, declare, pick, choose, jump, give, in_row, in_arms, in_else, row_vars, arms_vars, else_vars, kind_vars, body_at, bounded, with_bound, judged, with_step, loop, put_all, put_converted, put_row, head_or_null, rest_of, into_as, into, running}
 use Rattle.plsql_meaning.specs.Sight.{Sight, with_slot, with_slots, Readers, row_slots, row_sees, arms_see, other_slots, other_sees, body_sight, maybe_sees, decls_see, kind_sees, seeing, Agree, AreReaders, EndAlike, Alike}
 
 -- ---- sights
@@ -216,13 +219,20 @@ module _ (set : Setting) where
   put_all_alike (t ∷ ts) vs sight env other n a =
       then_alike sight (assign set t.1 (Ok (head_or_null vs)) env n) (assign set t.1 (Ok (head_or_null vs)) other n) (put_all set ts (rest_of vs)) (assign_alike t.1 (Ok (head_or_null vs)) sight env other n a) (put_all_alike ts (rest_of vs) sight)
 
-  into_alike : (strict : Bool) (ts : List (List ℕ × Option ℕ)) (r : Or Rows) (sight : Sight) → Alike sight (into set strict ts r)
-  into_alike strict ts (Err c) sight env other n a = here sight (faults c) n env other a
-  into_alike true ts (Ok []) sight env other n a = here sight _ n env other a
-  into_alike false ts (Ok []) sight env other n a = put_all_alike ts [] sight env other n a
-  into_alike true ts (Ok (r ∷ [])) sight env other n a = put_all_alike ts r sight env other n a
-  into_alike true ts (Ok (r ∷ s ∷ rs)) sight env other n a = here sight _ n env other a
-  into_alike false ts (Ok (r ∷ rs)) sight env other n a = put_all_alike ts r sight env other n a
+  put_row_alike : (cs : List (Option Ty)) (ts : List (List ℕ × Option ℕ)) (vs : List Value) (sight : Sight) → Alike sight (put_row set cs ts vs)
+  put_row_alike cs ts vs = by (converted_row cs vs)
+    where
+      by : (r : Or (List Value)) (sight : Sight) → Alike sight (put_converted set ts r)
+      by (Err c) sight env other n a = here sight (faults c) n env other a
+      by (Ok ws) sight env other n a = put_all_alike ts ws sight env other n a
+
+  into_alike : (strict : Bool) (cs : List (Option Ty)) (ts : List (List ℕ × Option ℕ)) (r : Or Rows) (sight : Sight) → Alike sight (into_as set strict cs ts r)
+  into_alike strict cs ts (Err c) sight env other n a = here sight (faults c) n env other a
+  into_alike true cs ts (Ok []) sight env other n a = here sight _ n env other a
+  into_alike false cs ts (Ok []) sight env other n a = put_row_alike cs ts [] sight env other n a
+  into_alike true cs ts (Ok (r ∷ [])) sight env other n a = put_row_alike cs ts r sight env other n a
+  into_alike true cs ts (Ok (r ∷ s ∷ rs)) sight env other n a = here sight _ n env other a
+  into_alike false cs ts (Ok (r ∷ rs)) sight env other n a = put_row_alike cs ts r sight env other n a
 
   close_alike : (own : Label) (sight : Sight) (d e : Done) → EndAlike sight d e → EndAlike sight (close own d) (close own e)
   close_alike own sight d e h = record { outcome = ap (closed_as own) h.outcome; left = h.left; env = h.env }
@@ -350,7 +360,7 @@ module _ (set : Setting) where
       statement_alike (b.Continue label when) at sight h env other n a = jump_alike when (continues label) sight h env other n a
       statement_alike (b.Return e) at sight h env other n a = by_same sight give (set.value e) env other n (are.value sight e h env other a) a (give_alike sight)
       statement_alike (b.Raise raised) at sight h env other n a = here sight _ n env other a
-      statement_alike (b.Into strict targets query) at sight h env other n a = by_same sight (into set strict targets) (set.rows query) env other n (are.rows sight query h env other a) a (λ x. into_alike strict targets x sight)
+      statement_alike (b.Into strict targets query) at sight h env other n a = by_same sight (into set strict targets query) (set.rows query) env other n (are.rows sight query h env other a) a (λ x. into_alike strict (conversions set.types targets (out-Select query).list) targets x sight)
       statement_alike b.Nothing at sight h env other n a = here sight normal n env other a
 
       pub row_alike : {m : _} → (x : b.Row_of-Stmt m) (at : ℕ) (sight : Sight) → row_sees (stmts_of (seeing r) x) at sight ≡ true → Alike sight (in_row (stmts_of (running set) x) at)

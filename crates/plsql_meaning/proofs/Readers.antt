@@ -2,6 +2,7 @@
 use Rattle.std.proofs.Common.{◌≡◌, refl, ap, sym, ◌∙◌, ℕ, zero, suc, ◌<◌, Bool, true, false, not, ◌==◌, nat_lt, if◌then◌else◌, List, [], ◌∷◌, ◌++◌, length, filter, filter_map, slice_index_or, arith}
 use Rattle.std.specs.List.{list_all}
 use Rattle.std.proofs.lemmas.Bool.{and_parts, false≢true}
+use Rattle.away_values.specs.declared.types.Ty.{Ty}
 use Rattle.away_values.specs.declared.values.Value.{Value}
 use Rattle.away_trees.specs.declared.queries.Select.{Select}
 use Rattle.away_trees.specs.Algebra.{select_of}
@@ -60,8 +61,8 @@ query_reads_are s =
 pub select_fits : (slots : ℕ → Bool) (tables : ℕ) (s : Select) → fits slots 0 tables (query_of s) ≡ true → list_all (allows slots 0 tables) (select_of reading s 0) ≡ true
 select_fits slots tables s h = ap (list_all (allows slots 0 tables)) (sym (query_reads_are s)) ∙ h
 
-pub expressions_are_readers : (T : List Rows) (not_null : List Bool) → AreReaders (over T not_null) (of_expressions (length T))
-expressions_are_readers T not_null = record {
+pub expressions_are_readers : (T : List Rows) (slots : List (Ty × Bool)) → AreReaders (over T slots) (of_expressions (length T))
+expressions_are_readers T slots = record {
   value = λ sight e h env other a.
       let same : ℕ → Type 0 = λ i. at env i ≡ at other i in
       only_slots_matter sight 0 (length T) (body T other) (body T env) (sees_alike T env other) e h

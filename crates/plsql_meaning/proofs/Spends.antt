@@ -15,7 +15,10 @@ use Rattle.away_values.specs.Results.{Or}
 use Rattle.sql_meaning.specs.Context.{Rows}
 use Rattle.plsql_meaning.specs.Outcomes.{Env, Label, Outcome, normal, exits, continues, returns, faults, more, Done, done, Step, after, and_then, case_not_found}
 use Rattle.plsql_meaning.specs.Loops.{Turning, started, Verdict, again, leave, verdict, moved, ended, finished, turns, turning, always, while, counts}
-use Rattle.plsql_meaning.specs.Statements.{Setting, is_not_null, stored, put, assign, initial, declare, pick, choose, jump, give, in_row, in_arms, in_else, bounded, with_bound, judged, with_step, loop, put_all, head_or_null, rest_of, into, running}
+use Rattle.away_values.specs.declared.types.Ty.{Ty}
+use Rattle.away_trees.specs.declared.queries.Expr.TheViews.{out-Select}
+use Rattle.plsql_meaning.specs.Conversions.{conversions, converted_row}
+use Rattle.plsql_meaning.specs.Statements.{Setting, is_not_null, stored, put, assign, initial, declare, pick, choose, jump, give, in_row, in_arms, in_else, bounded, with_bound, judged, with_step, loop, put_all, put_converted, put_row, head_or_null, rest_of, into_as, into, running}
 
 abbrev pub Spends : Step → Type 0
 Spends f = (env : Env) (n : ℕ) → (f env n).left ≤ n
@@ -161,13 +164,20 @@ module _ (set : Setting) where
   put_all_spends [] vs env n = omega arith
   put_all_spends (t ∷ ts) vs env n = and_then_spends n (assign set t.1 (Ok (head_or_null vs)) env n) (put_all set ts (rest_of vs)) (assign_spends t.1 _ env n) (put_all_spends ts (rest_of vs))
 
-  into_spends : (strict : Bool) (ts : List (List ℕ × Option ℕ)) (r : Or Rows) → Spends (into set strict ts r)
-  into_spends strict ts (Err c) env n = omega arith
-  into_spends true ts (Ok []) env n = omega arith
-  into_spends false ts (Ok []) env n = put_all_spends ts [] env n
-  into_spends true ts (Ok (r ∷ [])) env n = put_all_spends ts r env n
-  into_spends true ts (Ok (r ∷ s ∷ rs)) env n = omega arith
-  into_spends false ts (Ok (r ∷ rs)) env n = put_all_spends ts r env n
+  put_row_spends : (cs : List (Option Ty)) (ts : List (List ℕ × Option ℕ)) (vs : List Value) → Spends (put_row set cs ts vs)
+  put_row_spends cs ts vs = by (converted_row cs vs)
+    where
+      by : (r : Or (List Value)) → Spends (put_converted set ts r)
+      by (Err c) env n = omega arith
+      by (Ok ws) env n = put_all_spends ts ws env n
+
+  into_spends : (strict : Bool) (cs : List (Option Ty)) (ts : List (List ℕ × Option ℕ)) (r : Or Rows) → Spends (into_as set strict cs ts r)
+  into_spends strict cs ts (Err c) env n = omega arith
+  into_spends true cs ts (Ok []) env n = omega arith
+  into_spends false cs ts (Ok []) env n = put_row_spends cs ts [] env n
+  into_spends true cs ts (Ok (r ∷ [])) env n = put_row_spends cs ts r env n
+  into_spends true cs ts (Ok (r ∷ s ∷ rs)) env n = omega arith
+  into_spends false cs ts (Ok (r ∷ rs)) env n = put_row_spends cs ts r env n
 
   mutual
     pub statement_spends : (s : Stmt) (at : ℕ) → Spends ((stmt_of (running set) s).run at)
@@ -181,7 +191,7 @@ module _ (set : Setting) where
     statement_spends (b.Continue label when) at env n = jump_spends when (continues label) env n
     statement_spends (b.Return e) at env n = give_spends (set.value e env) env n
     statement_spends (b.Raise raised) at env n = omega arith
-    statement_spends (b.Into strict targets query) at env n = into_spends strict targets (set.rows query env) env n
+    statement_spends (b.Into strict targets query) at env n = into_spends strict (conversions set.types targets (out-Select query).list) targets (set.rows query env) env n
     statement_spends b.Nothing at env n = omega arith
 
     pub row_spends : {m : _} → (r : b.Row_of-Stmt m) (at : ℕ) → Spends (in_row (stmts_of (running set) r) at)

@@ -19,7 +19,10 @@ use Rattle.sql_meaning.specs.Context.{Rows}
 use Rattle.plsql_meaning.specs.Outcomes.{Env, Label, Outcome, normal, exits, continues, returns, faults, more, Done, done, Step, after, and_then, close, closed_as, case_not_found}
 use Rattle.plsql_meaning.specs.Loops.{Turning, started, Verdict, again, leave, verdict, moved, ended, finished, turns, turning, always, while, counts}
 use Rattle.plsql_meaning.specs.Functions.{answer_of, begun, function_answer}
-use Rattle.plsql_meaning.specs.Statements.{Setting, meaning, is_not_null, stored, put, assign, initial, declare, pick, choose, jump, give, in_row, in_arms, in_else, bounded, with_bound, judged, with_step, loop, put_all, head_or_null, rest_of, into, running}
+use Rattle.away_values.specs.declared.types.Ty.{Ty}
+use Rattle.away_trees.specs.declared.queries.Expr.TheViews.{out-Select}
+use Rattle.plsql_meaning.specs.Conversions.{conversions, converted_row}
+use Rattle.plsql_meaning.specs.Statements.{Setting, meaning, is_not_null, stored, put, assign, initial, declare, pick, choose, jump, give, in_row, in_arms, in_else, bounded, with_bound, judged, with_step, loop, put_all, put_converted, put_row, head_or_null, rest_of, into_as, into, running}
 use Rattle.plsql_meaning.proofs.Spends.{Spends, row_spends}
 
 abbrev pub Over : Outcome → Type 0
@@ -170,13 +173,20 @@ module _ (set : Setting) where
   put_all_lasts [] vs env n k = λ over. refl
   put_all_lasts (t ∷ ts) vs env n k = and_then_lasts k (assign set t.1 (Ok (head_or_null vs)) env n) (assign set t.1 (Ok (head_or_null vs)) env (n + k)) (put_all set ts (rest_of vs)) (assign_lasts t.1 (Ok (head_or_null vs)) env n k) (put_all_lasts ts (rest_of vs))
 
-  into_lasts : (strict : Bool) (ts : List (List ℕ × Option ℕ)) (r : Or Rows) → Lasts (into set strict ts r)
-  into_lasts strict ts (Err c) env n k = λ over. refl
-  into_lasts true ts (Ok []) env n k = λ over. refl
-  into_lasts false ts (Ok []) env n k = put_all_lasts ts [] env n k
-  into_lasts true ts (Ok (r ∷ [])) env n k = put_all_lasts ts r env n k
-  into_lasts true ts (Ok (r ∷ s ∷ rs)) env n k = λ over. refl
-  into_lasts false ts (Ok (r ∷ rs)) env n k = put_all_lasts ts r env n k
+  put_row_lasts : (cs : List (Option Ty)) (ts : List (List ℕ × Option ℕ)) (vs : List Value) → Lasts (put_row set cs ts vs)
+  put_row_lasts cs ts vs = by (converted_row cs vs)
+    where
+      by : (r : Or (List Value)) → Lasts (put_converted set ts r)
+      by (Err c) env n k = λ over. refl
+      by (Ok ws) env n k = put_all_lasts ts ws env n k
+
+  into_lasts : (strict : Bool) (cs : List (Option Ty)) (ts : List (List ℕ × Option ℕ)) (r : Or Rows) → Lasts (into_as set strict cs ts r)
+  into_lasts strict cs ts (Err c) env n k = λ over. refl
+  into_lasts true cs ts (Ok []) env n k = λ over. refl
+  into_lasts false cs ts (Ok []) env n k = put_row_lasts cs ts [] env n k
+  into_lasts true cs ts (Ok (r ∷ [])) env n k = put_row_lasts cs ts r env n k
+  into_lasts true cs ts (Ok (r ∷ s ∷ rs)) env n k = λ over. refl
+  into_lasts false cs ts (Ok (r ∷ rs)) env n k = put_row_lasts cs ts r env n k
 
   mutual
     pub statement_lasts : (s : Stmt) (at : ℕ) → Lasts ((stmt_of (running set) s).run at)
@@ -191,7 +201,7 @@ module _ (set : Setting) where
     statement_lasts (b.Continue label when) at env n k = jump_lasts when (continues label) env n k
     statement_lasts (b.Return e) at env n k = give_lasts (set.value e env) env n k
     statement_lasts (b.Raise raised) at env n k = λ over. refl
-    statement_lasts (b.Into strict targets query) at env n k = into_lasts strict targets (set.rows query env) env n k
+    statement_lasts (b.Into strict targets query) at env n k = into_lasts strict (conversions set.types targets (out-Select query).list) targets (set.rows query env) env n k
     statement_lasts b.Nothing at env n k = λ over. refl
 
     pub row_lasts : {m : _} → (r : b.Row_of-Stmt m) (at : ℕ) → Lasts (in_row (stmts_of (running set) r) at)

@@ -12,10 +12,10 @@ use Rattle.sql_meaning.specs.Equivalent.{FunctionAnswer, IsEquivalent}
 use Rattle.sql_meaning.specs.Typed.{AreTyped}
 use Rattle.plsql_meaning.specs.Functions.{function_answer, over}
 
--- what the function answers over tables and arguments within so many turns, where each slot is NOT
--- NULL or not
-abbrev pub answers : Function → List Bool → FunctionAnswer
-answers f not_null tables args turns = function_answer (over tables not_null) f args turns
+-- what the function answers over tables and arguments within so many turns, where each slot has its
+-- type, and is NOT NULL or not
+abbrev pub answers : Function → List (Ty × Bool) → FunctionAnswer
+answers f slots tables args turns = function_answer (over tables slots) f args turns
 
 abbrev pub types_of : Function → List Ty
 types_of f = map (λ p. p.1) f.params
@@ -23,8 +23,9 @@ types_of f = map (λ p. p.1) f.params
 -- A query is equivalent to a function under a schema: over all tables that fit the schema and all
 -- arguments of the parameters' types, for all numbers of turns and iterations. It names no form, no
 -- block and no column.
-abbrev pub Equivalent : Schema → Function → List Bool → Query → Type 0
-Equivalent schema f not_null q = IsEquivalent (FitsSchema schema) (AreTyped (types_of f)) (weight f) (answers f not_null) q
+abbrev pub Equivalent : Schema → Function → List (Ty × Bool) → Query → Type 0
+Equivalent schema f slots q =
+    IsEquivalent (FitsSchema schema) (AreTyped (types_of f)) (weight f) (answers f slots) q
 
 -- the function isn't STRICT, and its body is one RETURN in a block
 pub record IsOneReturn (f : Function) (e : Expr) : Type 0 where

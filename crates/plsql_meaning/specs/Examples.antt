@@ -9,11 +9,13 @@ use Rattle.std.specs.Prelude.{
   List,
   [],
   ◌∷◌,
+  map,
   Option,
   Some,
   None,
   codes,
 }
+use Rattle.away_values.specs.declared.types.Ty.{Ty}
 use Rattle.away_values.specs.declared.types.Ty.TheVariants as ty
 use Rattle.away_values.specs.declared.values.Value.{Value}
 use Rattle.away_values.specs.declared.values.Value.TheVariants as val
@@ -24,6 +26,9 @@ use Rattle.away_values.specs.declared.operators.IntOp.TheVariants as op
 use Rattle.away_values.specs.declared.operators.CmpOp.TheVariants as cmp
 use Rattle.away_trees.specs.declared.queries.Expr.{Expr}
 use Rattle.away_trees.specs.declared.queries.Expr.TheVariants as expr
+use Rattle.away_trees.specs.declared.queries.Item.{Item}
+use Rattle.away_trees.specs.declared.queries.Select.{Select}
+use Rattle.away_trees.specs.declared.queries.Expr.TheViews.{roll-Item, roll-Select}
 use Rattle.away_trees.specs.declared.statements.Arm.{Arm}
 use Rattle.away_trees.specs.declared.statements.Decl.{Decl}
 use Rattle.away_trees.specs.declared.statements.Function.{Function}
@@ -70,10 +75,20 @@ abbrev pub answer_at : Stmt → ℕ → Answer
 answer_at body turns =
     function_answer (over [] []) (record { name = []; strict = false; params = []; result = ty.Bigint; body = body }) [] turns
 
+-- where each slot has its type, and is NOT NULL or not
+abbrev pub called_over : Stmt → List (Ty × Bool) → Rows → Value → ℕ → Answer
+called_over body slots rows a turns =
+    let f : Function = record { name = []; strict = true; params = ([], ty.Bigint) ∷ []; result = ty.Bigint; body = body } in
+    function_answer (over (rows ∷ []) slots) f (a ∷ []) turns
+
+-- over slots of bigint
 abbrev pub called : Stmt → List Bool → Rows → Value → ℕ → Answer
 called body not_null rows a turns =
-    let f : Function = record { name = []; strict = true; params = ([], ty.Bigint) ∷ []; result = ty.Bigint; body = body } in
-    function_answer (over (rows ∷ []) not_null) f (a ∷ []) turns
+    called_over body (map (λ strict. (ty.Bigint, strict)) not_null) rows a turns
+
+-- the first slot NOT NULL, and the second an integer
+abbrev pub bigint_and_integer : List (Ty × Bool)
+bigint_and_integer = (ty.Bigint, true) ∷ (ty.Integer, false) ∷ []
 
 -- DECLARE c bigint := 0; BEGIN FOR i IN first..last BY by LOOP c := c + i; END LOOP; RETURN c; END
 abbrev pub summing : Bool → Expr → Expr → Option Expr → Stmt
@@ -209,6 +224,24 @@ ending = block [] (stmt.Nothing ∷ [])
 abbrev pub selecting_two : Stmt
 selecting_two = block (var None ∷ []) (
     stmt.Into false (([], Some 0) ∷ ([], Some 1) ∷ []) (select (col 0 0 0 ∷ col 0 0 1 ∷ []) (table_by (48 ∷ []) ∷ []) None)
+    ∷ stmt.Return (plus (arith op.Mul (n 10) (slot 0)) (slot 1)) ∷ [])
+
+abbrev pub item_as : Expr → Option (List ℕ) → Item
+item_as e alias = roll-Item (record { expr = e; alias = alias })
+
+-- the same, where the second value is converted to the type of its target
+abbrev pub converting_two : Stmt
+converting_two =
+    let q : Select =
+    roll-Select (record {
+      list = item_as (col 0 0 0) None ∷ item_as (col 0 0 1) (Some (codes "x")) ∷ [];
+      from = table_by (48 ∷ []) ∷ [];
+      filter = None;
+      order = [];
+      limit = None;
+    }) in
+    block (var None ∷ []) (
+    stmt.Into false (([], Some 0) ∷ ([], Some 1) ∷ []) q
     ∷ stmt.Return (plus (arith op.Mul (n 10) (slot 0)) (slot 1)) ∷ [])
 
 -- BEGIN RETURN (the first slot); END

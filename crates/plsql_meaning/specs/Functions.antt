@@ -1,6 +1,17 @@
 -- What a function answers.
-use Rattle.std.specs.Prelude.{ℕ, Bool, ◌&&◌, if◌then◌else◌, List, ◌++◌, length, replicate}
+use Rattle.std.specs.Prelude.{
+  ℕ,
+  Bool,
+  ◌&&◌,
+  if◌then◌else◌,
+  List,
+  ◌++◌,
+  length,
+  map,
+  replicate,
+}
 use Rattle.std.specs.List.{list_any}
+use Rattle.away_values.specs.declared.types.Ty.{Ty}
 use Rattle.away_values.specs.declared.values.Value.{Value}
 use Rattle.away_values.specs.declared.values.Value.TheVariants as val
 use Rattle.away_values.specs.declared.values.Answer.{Answer}
@@ -41,6 +52,16 @@ function_answer set f args n =
     if f.strict && list_any is_null args then answer.Value val.Null
     else answer_of ((meaning set f.body).run (length f.params) (begun set f args) n).outcome
 
--- over tables, where each slot is NOT NULL or not
-abbrev pub over : List Rows → List Bool → Setting
-over tables not_null = record { value = λ e env. value e (body tables env); rows = λ s env. rows_of_select s (body tables env); not_null = not_null }
+-- over tables, by the types of the slots, and whether each is NOT NULL
+abbrev pub over_slots : List Rows → List Ty → List Bool → Setting
+over_slots tables types not_null = record {
+  value = λ e env. value e (body tables env);
+  rows = λ s env. rows_of_select s (body tables env);
+  types = types;
+  not_null = not_null;
+}
+
+-- the same, where each slot has its type, and is NOT NULL or not
+abbrev pub over : List Rows → List (Ty × Bool) → Setting
+over tables slots = over_slots tables (map (λ (x : Ty × Bool). x.0) slots)
+    (map (λ (x : Ty × Bool). x.1) slots)

@@ -16,6 +16,7 @@ use Rattle.std.specs.Prelude.{
   List,
   length,
 }
+use Rattle.away_values.specs.declared.types.Ty.{Ty}
 use Rattle.away_values.specs.declared.values.Answer.TheVariants as answer
 use Rattle.away_values.specs.declared.values.Value.{Value}
 use Rattle.away_values.specs.declared.values.Value.TheVariants as val
@@ -69,21 +70,24 @@ NoShape = (set : Setting) (f : Function) (args : List Value) (n k : ℕ) → fun
 
 abbrev pub NoShapeOfQuery : Type 0
 NoShapeOfQuery =
-    (schema : Schema) (f : Function) (not_null : List Bool) (q : Query) → Equivalent schema f not_null q
-    → (T : List Rows) (args : List Value) (n k : ℕ) → FitsSchema schema T → AreTyped (types_of f) args → sql q T args n ≢ answer.Shape k
+    (schema : Schema) (f : Function) (slots : List (Ty × Bool)) (q : Query)
+    → Equivalent schema f slots q
+    → (T : List Rows) (args : List Value) (n k : ℕ)
+    → FitsSchema schema T → AreTyped (types_of f) args → sql q T args n ≢ answer.Shape k
 
 -- ---- one RETURN
 
 abbrev pub OneReturnAnswers : Type 0
 OneReturnAnswers =
-    (f : Function) (e : Expr) → IsOneReturn f e → (not_null : List Bool) (T : List Rows) (args : List Value) (n : ℕ)
-    → answers f not_null T args n ≡ answer_of_return e T args n
+    (f : Function) (e : Expr) → IsOneReturn f e
+    → (slots : List (Ty × Bool)) (T : List Rows) (args : List Value) (n : ℕ)
+    → answers f slots T args n ≡ answer_of_return e T args n
 
 abbrev pub OneReturnEquivalent : Type 0
 OneReturnEquivalent =
     (schema : Schema) (f : Function) (e : Expr) (q : Query) → IsOneReturn f e
     → IsEquivalent (FitsSchema schema) (AreTyped (types_of f)) (weight f) (answer_of_return e) q
-    → (not_null : List Bool) → Equivalent schema f not_null q
+    → (slots : List (Ty × Bool)) → Equivalent schema f slots q
 
 -- ---- counters
 
@@ -118,4 +122,5 @@ BodiesSee =
     ≡ answer_of ((meaning set f.body).run (length f.params) (begun set f args) n).outcome
 
 abbrev pub ExpressionsSee : Type 0
-ExpressionsSee = (T : List Rows) (not_null : List Bool) → AreReaders (over T not_null) (of_expressions (length T))
+ExpressionsSee =
+    (T : List Rows) (slots : List (Ty × Bool)) → AreReaders (over T slots) (of_expressions (length T))

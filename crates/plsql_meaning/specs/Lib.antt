@@ -1,5 +1,6 @@
 pub mod Outcomes
 pub mod Loops
+pub mod Conversions
 pub mod Statements
 pub mod Slots
 pub mod Functions

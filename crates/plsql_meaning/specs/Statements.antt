@@ -25,9 +25,11 @@ use Rattle.std.specs.Prelude.{
 use Rattle.away_values.specs.declared.values.Value.{Value}
 use Rattle.away_values.specs.declared.values.Value.TheVariants as val
 use Rattle.away_values.specs.declared.values.Class.{Class}
+use Rattle.away_values.specs.declared.types.Ty.{Ty}
 use Rattle.away_values.specs.declared.operators.CmpOp.TheVariants as cmp
 use Rattle.away_trees.specs.declared.queries.Expr.{Expr}
 use Rattle.away_trees.specs.declared.queries.Select.{Select}
+use Rattle.away_trees.specs.declared.queries.Expr.TheViews.{out-Select}
 use Rattle.away_trees.specs.declared.statements.Decl.{Decl}
 use Rattle.away_trees.specs.declared.statements.LoopKind.{LoopKind}
 use Rattle.away_trees.specs.declared.statements.LoopKind.TheVariants as kind
@@ -61,13 +63,16 @@ use Rattle.plsql_meaning.specs.Outcomes.{
   no_data_found,
   too_many_rows,
 }
+pub use Rattle.plsql_meaning.specs.Conversions.{head_or_null, rest_of}
+use Rattle.plsql_meaning.specs.Conversions.{conversions, converted_row}
 use Rattle.plsql_meaning.specs.Loops.{turning, always, while, counts}
 
--- What a statement stands in: the values of expressions, the rows of selects, and whether each slot
--- is NOT NULL.
+-- What a statement stands in: the values of expressions, the rows of selects, the types of the
+-- slots, and whether each is NOT NULL.
 pub record Setting : Type 0 where
   pub value : Expr → Env → Or Value
   pub rows : Select → Env → Or Rows
+  pub types : List Ty
   pub not_null : List Bool
 
 -- How many slots a statement takes, and what it does from the first of them on.
@@ -150,14 +155,6 @@ abbrev pub judged : Bool → Value → (Value → Step) → Step
 judged true v go env n = done (faults invalid_parameter) env n
 judged false v go env n = go v env n
 
-abbrev pub head_or_null : List Value → Value
-head_or_null [] = val.Null
-head_or_null (v ∷ vs) = v
-
-abbrev pub rest_of : List Value → List Value
-rest_of [] = []
-rest_of (v ∷ vs) = vs
-
 module _ (set : Setting) where
   abbrev pub is_not_null : ℕ → Bool
   is_not_null slot = get_or set.not_null slot false
@@ -208,13 +205,25 @@ module _ (set : Setting) where
   put_all [] vs env n = done normal env n
   put_all (t ∷ ts) vs env n = and_then (assign t.1 (Ok (head_or_null vs)) env n) (put_all ts (rest_of vs))
 
-  abbrev pub into : Bool → List (List ℕ × Option ℕ) → Or Rows → Step
-  into strict ts (Err c) env n = done (faults c) env n
-  into true ts (Ok []) env n = done (faults no_data_found) env n
-  into false ts (Ok []) env n = put_all ts [] env n
-  into true ts (Ok (r ∷ [])) env n = put_all ts r env n
-  into true ts (Ok (r ∷ s ∷ rs)) env n = done (faults too_many_rows) env n
-  into false ts (Ok (r ∷ rs)) env n = put_all ts r env n
+  -- all values are converted before the first target is set
+  abbrev pub put_converted : List (List ℕ × Option ℕ) → Or (List Value) → Step
+  put_converted ts (Err c) env n = done (faults c) env n
+  put_converted ts (Ok vs) env n = put_all ts vs env n
+
+  abbrev pub put_row : List (Option Ty) → List (List ℕ × Option ℕ) → List Value → Step
+  put_row cs ts vs = put_converted ts (converted_row cs vs)
+
+  -- by the types that values are converted to
+  abbrev pub into_as : Bool → List (Option Ty) → List (List ℕ × Option ℕ) → Or Rows → Step
+  into_as strict cs ts (Err c) env n = done (faults c) env n
+  into_as true cs ts (Ok []) env n = done (faults no_data_found) env n
+  into_as false cs ts (Ok []) env n = put_row cs ts [] env n
+  into_as true cs ts (Ok (r ∷ [])) env n = put_row cs ts r env n
+  into_as true cs ts (Ok (r ∷ s ∷ rs)) env n = done (faults too_many_rows) env n
+  into_as false cs ts (Ok (r ∷ rs)) env n = put_row cs ts r env n
+
+  abbrev pub into : Bool → List (List ℕ × Option ℕ) → Select → Or Rows → Step
+  into strict ts query = into_as strict (conversions set.types ts (out-Select query).list) ts
 
   -- ---- statements
 
@@ -233,7 +242,10 @@ module _ (set : Setting) where
   statement (st.Continue label when) = record { vars = 0; run = λ at. jump when (continues label) }
   statement (st.Return e) = record { vars = 0; run = λ at env n. give (set.value e env) env n }
   statement (st.Raise r) = record { vars = 0; run = λ at env n. done (faults (class_of r)) env n }
-  statement (st.Into strict targets query) = record { vars = 0; run = λ at env n. into strict targets (set.rows query env) env n }
+  statement (st.Into strict targets query) = record {
+    vars = 0;
+    run = λ at env n. into strict targets query (set.rows query env) env n;
+  }
   statement st.Nothing = record { vars = 0; run = λ at env n. done normal env n }
 
   abbrev pub arm : Arm-F StatementMeaning ArmMeaning → ArmMeaning

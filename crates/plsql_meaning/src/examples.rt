@@ -7,10 +7,13 @@ ghost use Rattle.away_values.specs.declared.values.Value.TheVariants as val;
 ghost use Rattle.away_values.specs.Results.{class};
 ghost use Rattle.plsql_meaning.specs.Examples.{
   answer_at,
+  bigint_and_integer,
   assigning_its_variable,
   by_zero,
   called,
+  called_over,
   choosing,
+  converting_two,
   counting,
   deciding,
   ending,
@@ -122,7 +125,8 @@ pub fn a_function_ends_as_its_body_does()
     ensures runs { called raising [] [] (int 1) 0 ≡ answer.Fault (class (codes "AB123")) }
 {}
 
-/// SELECT INTO sets its targets from the first row, from left to right, or to NULL where there is none. With STRICT there is exactly one row.
+/// SELECT INTO sets its targets from the first row, from left to right, or to NULL where there is none. The values whose items are marked are converted
+/// to the types of their targets before the first is set. With STRICT there is exactly one row.
 /// The manual: 43.5.3. P0002 is no_data_found, and P0003 too_many_rows.
 pub fn select_into_sets_its_targets()
     ensures selected { called (selecting true) [] ((int 7 ∷ []) ∷ []) (int 1) 0
@@ -138,4 +142,13 @@ pub fn select_into_sets_its_targets()
         ≡ answer.Value (int 42) }
     ensures not_null { called selecting_two (false ∷ true ∷ []) ((int 4 ∷ val.Null ∷ []) ∷ [])
         (int 1) 0 ≡ answer.Fault (class (codes "22004")) }
+    ensures converted { called_over converting_two bigint_and_integer ((int 4 ∷ int 2 ∷ []) ∷ [])
+        (int 1) 0 ≡ answer.Value (int 42) }
+    ensures too_great { called_over converting_two bigint_and_integer
+        ((val.Null ∷ int 3000000000 ∷ []) ∷ []) (int 1) 0
+        ≡ answer.Fault (class (codes "22003")) }
+    ensures unmarked { called_over selecting_two bigint_and_integer
+        ((int 4 ∷ int 3000000000 ∷ []) ∷ []) (int 1) 0 ≡ answer.Value (int 3000000040) }
+    ensures then_null { called_over converting_two bigint_and_integer
+        ((val.Null ∷ int 3 ∷ []) ∷ []) (int 1) 0 ≡ answer.Fault (class (codes "22004")) }
 {}

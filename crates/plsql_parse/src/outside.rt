@@ -8,7 +8,7 @@ ghost use Rattle.away_lex.specs.Lexed.{seen};
 
 use away_lex::{Token, TokenKind};
 
-const OUTSIDE: [&str; 57] = [
+const OUTSIDE: [&str; 54] = [
     "alias",
     "array",
     "assert",
@@ -33,9 +33,6 @@ const OUTSIDE: [&str; 57] = [
     "info",
     "inout",
     "insert",
-    "int",
-    "int4",
-    "integer",
     "intersect",
     "join",
     "left",

@@ -94,6 +94,14 @@ fn files(rt: HostRuntime) -> Result<(), Fail> {
     let rows = [
         (COLLATZ, "collatz n Bigint"),
         (WALK, "walk strict lim Bigint"),
+        (
+            "CREATE FUNCTION f(int int, a INTEGER) RETURNS int4 LANGUAGE plpgsql AS $$BEGIN RETURN int; END$$",
+            "f int Integer a Integer",
+        ),
+        (
+            "CREATE FUNCTION f(a smallint) RETURNS int LANGUAGE plpgsql AS $$BEGIN RETURN a; END$$",
+            "X3",
+        ),
         ("", "X3"),
         ("\u{0}", "X1"),
         (
@@ -350,7 +358,7 @@ fn nesting(rt: HostRuntime) -> Result<(), Fail> {
 /// The words that aren't read.
 static WORDS: &str =
     "alias array assert call close collate commit cross cursor debug delete diagnostics distinct execute fetch foreach full get \
-    group having ilike info inout insert int int4 integer intersect join left like log merge move next notice numeric open \
+    group having ilike info inout insert intersect join left like log merge move next notice numeric open \
     out over perform query record right rollback security set setof similar slice trigger update using variadic warning window \
     with";
 

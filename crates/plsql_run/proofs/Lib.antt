@@ -5,3 +5,4 @@ pub mod Targets
 pub mod Standing
 pub mod Layouts
 pub mod Raising
+pub mod Converted

@@ -10,7 +10,8 @@ ghost use Rattle.plsql_meaning.specs.Slots.{slots_of};
 ghost use Rattle.plsql_meaning.specs.Statements.{meaning};
 ghost use Rattle.plsql_run.specs.Continues.{Answered, GoesOn, IfEnds};
 ghost use Rattle.plsql_run.specs.Layouts.{layout_of};
-ghost use Rattle.plsql_run.specs.Settings.{meant, not_nulls};
+ghost use Rattle.away_types.specs.TypedSlots.{typed_slots};
+ghost use Rattle.plsql_run.specs.Settings.{meant};
 
 use crate::enter::enter;
 use crate::frames::{Frame, Signal, Way};
@@ -155,7 +156,7 @@ pub fn run_function(
     bound: u64,
 ) -> Result<Answer, NoMemory>
     ensures { IfOk result (λ a. a ≡ function_answer (over (rows_of_tables tables.now.list)
-        (not_nulls f.now.slots)) f.now.function args.now bound) }
+        (typed_slots f.now.slots)) f.now.function args.now bound) }
 {
     let setting = Setting::new(tables, f.slots.as_slice());
     run_over(alloc, &setting, &f.function, args, bound)

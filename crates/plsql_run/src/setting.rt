@@ -1,12 +1,12 @@
 //! What a function runs over.
 
-ghost use Rattle.std.specs.Prelude.{◌≡◌, get_or, false};
+ghost use Rattle.std.specs.Prelude.{◌≡◌, get_or, slice_get, false};
 ghost use Rattle.away_values.specs.Results.{Answers};
 ghost use Rattle.plsql_run.specs.Settings.{meant};
 
 use away_trees::{Expr, Select};
 use away_types::Slot;
-use away_values::{OpError, Tables, Value};
+use away_values::{OpError, Tables, Ty, Value};
 use sql_eval::{rows_in_body, value_in_body};
 use sqlite_items::Items;
 use std::alloc::Global;
@@ -20,21 +20,26 @@ pub struct Setting<'a> {
 }
 
 impl<'a> Model for Setting<'a> {
-    ghost use Rattle.plsql_run.specs.Settings.{Held, not_nulls};
+    ghost use Rattle.plsql_run.specs.Settings.{Held, not_nulls, types_of};
     ghost use Rattle.sql_meaning.specs.AtBound.{rows_of_tables};
 
     ghost Value = { Held };
 
-    ghost view = { λ s. record { tables = rows_of_tables s.tables.now.list; not_null = not_nulls s.slots.now } };
+    ghost view = { λ s. record {
+      tables = rows_of_tables s.tables.now.list;
+      types = types_of s.slots.now;
+      not_null = not_nulls s.slots.now;
+    } };
 }
 
 impl<'a> Setting<'a> {
-    ghost use Rattle.plsql_run.specs.Settings.{not_nulls};
+    ghost use Rattle.plsql_run.specs.Settings.{not_nulls, types_of};
     ghost use Rattle.sql_meaning.specs.AtBound.{rows_of_tables};
 
     pub(crate) fn new(tables: &'a Tables, slots: &'a [Slot]) -> Setting<'a>
         ensures { result ≡ record {
           tables = rows_of_tables tables.now.list;
+          types = types_of slots.now;
           not_null = not_nulls slots.now;
         } }
     {
@@ -49,6 +54,17 @@ impl<'a> Setting<'a> {
             self.slots[slot].not_null
         } else {
             false
+        }
+    }
+
+    /// The type of a slot.
+    pub(crate) fn type_of(&self, slot: usize) -> Option<Ty>
+        ensures { result ≡ slice_get self.now.types slot }
+    {
+        if slot < self.slots.len() {
+            Some(self.slots[slot].ty)
+        } else {
+            None
         }
     }
 

@@ -10,7 +10,7 @@ use crate::tests::trees::{
 };
 use away_trees::{Expr, Function, LoopKind, Raised, Stmt};
 use away_types::Slot;
-use away_values::{Answer, CmpOp, IntOp, Ty, Value};
+use away_values::{Answer, CmpOp, IntOp, Name, Ty, Value};
 use sqlite_items::Boxed;
 use std::alloc::{AllocError, Global};
 use std::process::Abort;
@@ -199,10 +199,14 @@ fn a_slot_may_take_no_null(rt: HostRuntime) {
 
 /// SELECT t.a INTO STRICT p FROM t; RETURN p
 fn selecting(rt: &(impl Abort + AllocGlobal)) -> Boxed<Function> {
+    selecting_by(rt, None)
+}
+
+fn selecting_by(rt: &(impl Abort + AllocGlobal), mark: Option<Name>) -> Boxed<Function> {
     let into = Stmt::Into {
         strict: true,
         targets: one(rt, (named(rt, "p"), Some(0))),
-        query: first_column(rt),
+        query: first_column(rt, mark),
     };
     let body = with(rt, one(rt, into), Stmt::Return(Expr::Slot(0)));
     function(rt, 1, block(none(rt), body))
@@ -213,6 +217,23 @@ fn a_select_sets_its_target(rt: HostRuntime) {
     assert!(rt; answers_at(&rt, selecting(&rt), &[7], Value::Int(1), 0, "7"));
     assert!(rt; answers_at(&rt, selecting(&rt), &[], Value::Int(1), 0, "P0002"));
     assert!(rt; answers_at(&rt, selecting(&rt), &[7, 8], Value::Int(1), 0, "P0003"));
+}
+
+#[test]
+fn a_value_is_converted_before_a_target_is_set(rt: HostRuntime) {
+    let slots = [Slot {
+        ty: Ty::Integer,
+        not_null: false,
+    }];
+    for (number, line) in [(2147483647, "2147483647"), (2147483648, "22003")] {
+        let tables = tables(&rt, &[number]);
+        let setting = Setting::new(&tables, &slots);
+        let f = selecting_by(&rt, Some(named(&rt, "p")));
+        let answer = run_over(rt.alloc(), &setting, f.get(), &[Value::Int(1)], 0);
+        let answer = answer.expect(&rt, "memory");
+        let told = shown(rt.alloc(), &answer).expect(&rt, "memory");
+        assert!(rt; told.as_str() == line);
+    }
 }
 
 /// So many blocks in one another, round RETURN 1.

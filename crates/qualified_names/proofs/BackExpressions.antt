@@ -20,6 +20,7 @@ use Rattle.away_names.specs.Notes.{joined, breaks, mapped, also, each, held}
 use Rattle.away_names.specs.Trees.{named_expr, named_query, last_of, alone_of}
 use Rattle.away_names.specs.NamingLists.{named_in, named_link, named_arm}
 use Rattle.away_names.proofs.NamingRules as r
+use Rattle.elaboration.specs.Marks.{plain_op}
 use Rattle.qualified_names.specs.Sight.{reference, own_name}
 use Rattle.qualified_names.specs.Trees.{qualified_expr, qualified_shown, qualified_in, qualified_link, qualified_arm}
 use Rattle.qualified_names.proofs.QualifyingRules as d
@@ -89,10 +90,6 @@ pub neg_back : (s : Scope) (x : Expr) → Back s x → Back s (expr.Neg x)
 unfolding n.shown last_of alone_of
 neg_back s x h = by s _ _ (d.neg_is x s.levels) (record { gives = same_gives _ _ _ (r.neg_is _ s) (mapped_gives (λ e. expr.Neg e) (named_expr (qualified_expr x s.levels) s) x h.gives); called = refl; alone = refl })
 
-pub negsmall_back : (s : Scope) (x : Expr) → Back s x → Back s (expr.NegSmall x)
-unfolding n.shown last_of alone_of
-negsmall_back s x h = by s _ _ (d.negsmall_is x s.levels) (record { gives = same_gives _ _ _ (r.negsmall_is _ s) (mapped_gives (λ e. expr.NegSmall e) (named_expr (qualified_expr x s.levels) s) x h.gives); called = refl; alone = refl })
-
 pub not_back : (s : Scope) (x : Expr) → Back s x → Back s (expr.Not x)
 unfolding n.shown last_of alone_of
 not_back s x h = by s _ _ (d.not_is x s.levels) (record { gives = same_gives _ _ _ (r.not_is _ s) (mapped_gives (λ e. expr.Not e) (named_expr (qualified_expr x s.levels) s) x h.gives); called = refl; alone = refl })
@@ -111,9 +108,17 @@ every_gives : (s : Scope) (es : List Expr) → Every (Back s) es → Every (λ e
 every_gives s [] h = tt
 every_gives s (e ∷ es) h = (h.0.gives, every_gives s es h.1)
 
-every_link : (s : Scope) (ls : List (ChainOp × Expr)) → Every (λ l. Back s l.1) ls → Every (λ l. Gives (named_link s (qualified_link s.levels l)) l) ls
+-- a link without a mark
+abbrev pub LinkBack : Scope → ChainOp × Expr → Type 0
+LinkBack s l = (plain_op l.0 ≡ l.0) × Back s l.1
+
+every_link : (s : Scope) (ls : List (ChainOp × Expr)) → Every (LinkBack s) ls → Every (λ l. Gives (named_link s (qualified_link s.levels l)) l) ls
 every_link s [] h = tt
-every_link s (l ∷ ls) h = (mapped_gives (λ (e : Expr). (l.0, e)) (named_expr (qualified_expr l.1 s.levels) s) l.1 h.0.gives, every_link s ls h.1)
+every_link s (l ∷ ls) h = (
+  subst (λ op. Gives (named_link s (op, qualified_expr l.1 s.levels)) l) (sym h.0.0)
+      (mapped_gives (λ (e : Expr). (l.0, e)) (named_expr (qualified_expr l.1 s.levels) s) l.1 h.0.1.gives),
+  every_link s ls h.1,
+)
 
 every_arm : (s : Scope) (as_ : List (Expr × Expr)) → Every (λ a. Back s a.0 × Back s a.1) as_ → Every (λ a. Gives (named_arm s (qualified_arm s.levels a)) a) as_
 every_arm s [] h = tt
@@ -129,7 +134,7 @@ maybe_back s o h = held_gives (named_in s) (qualified_in s.levels) o (option_giv
 all_back : (s : Scope) (es : List Expr) → Every (Back s) es → Gives (each (named_in s) (map (qualified_in s.levels) es)) es
 all_back s es h = each_gives (named_in s) (qualified_in s.levels) es (every_gives s es h)
 
-pub chain_back : (s : Scope) (x : Expr) (ls : List (ChainOp × Expr)) → Back s x → Every (λ l. Back s l.1) ls → Back s (expr.Chain x ls)
+pub chain_back : (s : Scope) (x : Expr) (ls : List (ChainOp × Expr)) → Back s x → Every (LinkBack s) ls → Back s (expr.Chain x ls)
 unfolding n.shown last_of alone_of
 chain_back s x ls h k =
     by s _ _ (d.chain_is x ls s.levels)

@@ -13,7 +13,7 @@ use Rattle.qualified_names.proofs.BackSelects.{BackSelect, select_back, query_ba
 abbrev pub IsBack : (n : Sort) → Scope → Tree n → Type 0
 IsBack value s x = Back s x
 IsBack values s xs = Every (Back s) xs
-IsBack links s ls = Every (λ l. Back s l.1) ls
+IsBack links s ls = Every (e.LinkBack s) ls
 IsBack arms s as_ = Every (λ a. Back s a.0 × Back s a.1) as_
 IsBack maybe s o = EveryOption (Back s) o
 IsBack items s list = Every (BackItem s) list
@@ -33,7 +33,6 @@ back h c.null = e.null_back _
 back h (c.column k a x is found) = e.column_back _ k a x h is found
 back h (c.param i t) = e.param_back _ i t h
 back h (c.neg k) = e.neg_back _ _ (back h k)
-back h (c.neg_small k) = e.negsmall_back _ _ (back h k)
 back h (c.not k) = e.not_back _ _ (back h k)
 back h (c.is t v k) = e.is_back _ _ t v (back h k)
 back h (c.chain k l) = e.chain_back _ _ _ (back h k) (back h l)
@@ -49,7 +48,7 @@ back h (c.exists k) = e.exists_back _ _ (back h k)
 back h c.no_value = tt
 back h (c.one_value k l) = (back h k, back h l)
 back h c.no_link = tt
-back h (c.one_link op k l) = (back h k, back h l)
+back h (c.one_link op p k l) = ((p, back h k), back h l)
 back h c.no_arm = tt
 back h (c.one_arm k l m) = ((back h k, back h l), back h m)
 back h c.nothing = tt

@@ -21,6 +21,7 @@ use Rattle.away_trees.proofs.Equations as e
 use Rattle.away_names.specs.Lookups.{Name, Level}
 use Rattle.away_names.specs.Naming.{plain_names, before, shaped, of_query}
 use Rattle.away_names.proofs.NamingRules.{fold_map, map_map}
+use Rattle.elaboration.specs.Marks.{plain_op}
 use Rattle.qualified_names.specs.Sight.{Sight, reference}
 use Rattle.qualified_names.specs.Qualifying as d
 use Rattle.qualified_names.specs.Qualifying.{qualifying}
@@ -32,7 +33,7 @@ all_in : (s : Sight) (es : List Expr) → map (λ t. t s) (map (λ x. expr_of qu
 unfolding qualified_expr
 all_in s es = map_map _ _ es
 
-all_links : (s : Sight) (ls : List (ChainOp × Expr)) → map (λ (l : ChainOp × d.Term). (l.0, l.1 s)) (map (λ l. (l.0, expr_of qualifying l.1)) ls) ≡ map (qualified_link s) ls
+all_links : (s : Sight) (ls : List (ChainOp × Expr)) → map (λ (l : ChainOp × d.Term). (plain_op l.0, l.1 s)) (map (λ l. (l.0, expr_of qualifying l.1)) ls) ≡ map (qualified_link s) ls
 unfolding qualified_expr
 all_links s ls = map_map _ _ ls
 
@@ -87,7 +88,7 @@ pub neg_is : (x : Expr) (s : Sight) → qualified_expr (expr.Neg x) s ≡ expr.N
 unfolding qualified_expr
 neg_is x s = ap (λ t. t s) (e.of_neg qualifying x)
 
-pub negsmall_is : (x : Expr) (s : Sight) → qualified_expr (expr.NegSmall x) s ≡ expr.NegSmall (qualified_expr x s)
+pub negsmall_is : (x : Expr) (s : Sight) → qualified_expr (expr.NegSmall x) s ≡ expr.Neg (qualified_expr x s)
 unfolding qualified_expr
 negsmall_is x s = ap (λ t. t s) (e.of_negsmall qualifying x)
 

@@ -37,6 +37,7 @@ use Rattle.away_names.specs.declared.note.Part.{Part}
 use Rattle.away_names.specs.declared.note.Origin.{Origin}
 use Rattle.away_names.specs.Lookups.{Name, Level}
 use Rattle.away_names.specs.Naming.{plain_names, before, shaped, of_query}
+use Rattle.elaboration.specs.Marks.{plain_op}
 use Rattle.qualified_names.specs.Sight.{Sight, reference, column_name}
 
 -- ---- what stands for a tree
@@ -74,6 +75,7 @@ Layer F = F Term Rows Piece Entry Sort Whole Terms Listing
 
 -- ---- expressions
 
+-- As a text has them: operations have no marks.
 abbrev pub term : Layer Expr-F → Sight → Expr
 term (ex.Int n) s = expr.Int n
 term (ex.Str t) s = expr.Str t
@@ -85,10 +87,10 @@ term (ex.Slot i) s = expr.Slot i
 term (ex.Column c) s = reference s c
 term (ex.Param i t) s = expr.Param i t
 term (ex.Neg e) s = expr.Neg (e s)
-term (ex.NegSmall e) s = expr.NegSmall (e s)
+term (ex.NegSmall e) s = expr.Neg (e s)
 term (ex.Not e) s = expr.Not (e s)
 term (ex.Is e test negative) s = expr.Is (e s) test negative
-term (ex.Chain e links) s = expr.Chain (e s) (map (λ l. (l.0, l.1 s)) links)
+term (ex.Chain e links) s = expr.Chain (e s) (map (λ l. (plain_op l.0, l.1 s)) links)
 term (ex.Compare op x y) s = expr.Compare op (x s) (y s)
 term (ex.Between negative x y z) s = expr.Between negative (x s) (y s) (z s)
 term (ex.OneOf negative e choices) s = expr.OneOf negative (e s) (map (λ c. c s) choices)

@@ -1,4 +1,5 @@
--- The trees with names again, by name.
+-- The trees with names again, by name, and without the marks of their operations: as they are
+-- written.
 use Rattle.std.specs.Prelude.{List, [], map, fold, option_map}
 use Rattle.away_values.specs.declared.operators.ChainOp.{ChainOp}
 use Rattle.away_trees.specs.declared.queries.Expr.{Expr}
@@ -17,6 +18,7 @@ use Rattle.away_names.specs.declared.note.Framed.{Framed}
 use Rattle.away_names.specs.declared.note.Part.{Part}
 use Rattle.away_names.specs.declared.note.Origin.{Origin}
 use Rattle.away_names.specs.Lookups.{Name, Level}
+use Rattle.elaboration.specs.Marks.{plain_op}
 use Rattle.qualified_names.specs.Sight.{Sight}
 use Rattle.qualified_names.specs.Qualifying.{
   qualifying,
@@ -61,7 +63,7 @@ abbrev pub qualified_in : Sight → Expr → Expr
 qualified_in s e = qualified_expr e s
 
 abbrev pub qualified_link : Sight → ChainOp × Expr → ChainOp × Expr
-qualified_link s l = (l.0, qualified_expr l.1 s)
+qualified_link s l = (plain_op l.0, qualified_expr l.1 s)
 
 abbrev pub qualified_arm : Sight → Expr × Expr → Expr × Expr
 qualified_arm s a = (qualified_expr a.0 s, qualified_expr a.1 s)

@@ -48,6 +48,7 @@ use Rattle.away_names.specs.Lookups.{Name, Level, Scope, inside, column_qualifie
 use Rattle.away_names.specs.Naming.{before}
 use Rattle.away_names.specs.Tables.{outermost}
 use Rattle.away_names.specs.Files.{with_working}
+use Rattle.elaboration.specs.Marks.{plain_op}
 use Rattle.qualified_names.specs.Sight.{reference}
 use Rattle.qualified_names.specs.Trees.{qualified_part, qualified_from}
 
@@ -81,7 +82,7 @@ Tree select = Select
 Tree selects = List Select
 Tree query = Query
 
--- At a place that sees this, the names of the tree are unambiguous.
+-- At a place that sees this, the names of the tree are unambiguous. Its operations have no marks.
 pub data IsClear : (n : Sort) → Scope → Tree n → Type 0 where
   int : {s : Scope} (n : ℤ) → IsClear value s (expr.Int n)
   str : {s : Scope} (t : List ℕ) → IsClear value s (expr.Str t)
@@ -92,7 +93,6 @@ pub data IsClear : (n : Sort) → Scope → Tree n → Type 0 where
       → column_qualified alias name s.levels ≡ Some (record { column = c; many = false }) → IsClear value s (expr.Column c)
   param : {s : Scope} (i : ℕ) (t : Ty) → IsClear value s (expr.Param i t)
   neg : {s : Scope} {x : Expr} → IsClear value s x → IsClear value s (expr.Neg x)
-  neg_small : {s : Scope} {x : Expr} → IsClear value s x → IsClear value s (expr.NegSmall x)
   not : {s : Scope} {x : Expr} → IsClear value s x → IsClear value s (expr.Not x)
   is : {s : Scope} {x : Expr} (t : IsTest) (v : Bool) → IsClear value s x → IsClear value s (expr.Is x t v)
   chain : {s : Scope} {x : Expr} {ls : List (ChainOp × Expr)} → IsClear value s x → IsClear links s ls → IsClear value s (expr.Chain x ls)
@@ -109,8 +109,8 @@ pub data IsClear : (n : Sort) → Scope → Tree n → Type 0 where
   no_value : {s : Scope} → IsClear values s []
   one_value : {s : Scope} {x : Expr} {es : List Expr} → IsClear value s x → IsClear values s es → IsClear values s (x ∷ es)
   no_link : {s : Scope} → IsClear links s []
-  one_link : {s : Scope} {x : Expr} {ls : List (ChainOp × Expr)} (op : ChainOp) → IsClear value s x
-      → IsClear links s ls → IsClear links s ((op, x) ∷ ls)
+  one_link : {s : Scope} {x : Expr} {ls : List (ChainOp × Expr)} (op : ChainOp) → plain_op op ≡ op
+      → IsClear value s x → IsClear links s ls → IsClear links s ((op, x) ∷ ls)
   no_arm : {s : Scope} → IsClear arms s []
   one_arm : {s : Scope} {x y : Expr} {as_ : List (Expr × Expr)}
       → IsClear value s x → IsClear value s y → IsClear arms s as_ → IsClear arms s ((x, y) ∷ as_)

@@ -1,6 +1,7 @@
-//! Expressions with names again.
+//! Expressions with names again, as they are written.
 
 ghost use Rattle.std.specs.Prelude.{◌≡◌, IfOk, map, option_map};
+ghost use Rattle.elaboration.specs.Marks.{plain_op};
 ghost use Rattle.qualified_names.specs.Sight.{sight};
 ghost use Rattle.qualified_names.specs.Trees as spec;
 
@@ -11,6 +12,17 @@ use away_trees::{Expr, Query};
 use away_values::{ChainOp, NoMemory};
 use sqlite_items::{Boxed, Items};
 use std::alloc::Global;
+
+/// The operation without its mark.
+#[tactic(auto, unfolding(elaboration::specs::Marks::plain_op))]
+fn plain(op: ChainOp) -> ChainOp
+    ensures { result ≡ plain_op op }
+{
+    match op {
+        ChainOp::Small(op) => ChainOp::Int(op),
+        ChainOp::Or | ChainOp::And | ChainOp::Concat | ChainOp::Int(_) => op,
+    }
+}
 
 #[cycle(qualifying)]
 #[tactic(auto, using(crate::proofs::QualifyingRules::qualifying_rules))]
@@ -28,7 +40,7 @@ pub(crate) fn qualified_expr(alloc: Global, e: &Expr, s: &Sight<'_>) -> Result<E
         Expr::Column(c) => reference(alloc, *c, s),
         Expr::Param(i, ty) => Ok(Expr::Param(*i, *ty)),
         Expr::Neg(a) => Ok(Expr::Neg(qualified_box(alloc, a.get(), s)?)),
-        Expr::NegSmall(a) => Ok(Expr::NegSmall(qualified_box(alloc, a.get(), s)?)),
+        Expr::NegSmall(a) => Ok(Expr::Neg(qualified_box(alloc, a.get(), s)?)),
         Expr::Not(a) => Ok(Expr::Not(qualified_box(alloc, a.get(), s)?)),
         Expr::Is(a, test, negative) => {
             let x = qualified_box(alloc, a.get(), s)?;
@@ -96,7 +108,7 @@ fn qualified_links(
 {
     let mut done = Items::new(alloc);
     for link in links {
-        done.push((link.0, qualified_expr(alloc, &link.1, s)?))?;
+        done.push((plain(link.0), qualified_expr(alloc, &link.1, s)?))?;
     }
     Ok(done)
 }

@@ -5,14 +5,13 @@ use Rattle.away_names.specs.declared.rule.Rule.{Rule}
 use Rattle.away_names.specs.declared.rule.Rule.TheVariants.{Duplicates, Names, Ambiguity, Tables, Labels, Constants, Defaults, Types, Reserved, Aggregates, Raises, Recursion, Answer}
 use Rattle.away_names.specs.Notes.{joined, breaks}
 use Rattle.away_names.specs.Rules.{lesser, number}
-use Rattle.away_names.specs.Files.{file}
 use Rattle.away_trees.specs.declared.queries.Expr.TheViews.{out-Query}
 use Rattle.away_trees.specs.declared.queries.Query.{Query}
 use Rattle.away_trees.specs.declared.schemas.Schema.{Schema}
 use Rattle.away_typing.specs.ParameterLists.{params_of}
 use Rattle.away_typing.specs.RowQueries.{judged_rows, shape_note}
 use Rattle.away_typing.specs.Wholes.{judged, recursion, uses_note}
-use Rattle.away_types.specs.CheckedQueries.{judged_query, query_note}
+use Rattle.away_types.specs.CheckedQueries.{judged_query, query_note, resolved_file}
 use Rattle.away_types.specs.CheckedRows.{rows_judged, rows_note}
 use Rattle.rule_tests.specs.RowRules.{answer_broken, shape_of_query}
 
@@ -59,7 +58,7 @@ pulled_out a b c d broken =
 pub but_one : (s : Schema) (q : Query) → (query_note s q).least ≡ lesser (rows_note s q).least (answer_broken s q)
 unfolding judged judged_rows joined breaks
 but_one s q =
-    let f = file s q in
+    let f = resolved_file s q in
     let r = recursion s f.first.refers f.second.refers (out-Query f.query).recursive in
     pulled_out (joined f.note (uses_note f.query)).least (breaks Types (params_of f.query).clash).least r.note.least (shape_note (shape_of_query s q)).least _
 

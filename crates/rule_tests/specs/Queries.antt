@@ -136,6 +136,10 @@ recursions =
     -- NULL has the type of the first term
     ∷ (of_terms (codes "i" ∷ []) one_row (of_r expr.Null), None)
     ∷ (of_terms (codes "i" ∷ []) one_row (of_r (expr.Bool true)), Some rule.Recursion)
+    -- integer beside bigint
+    ∷ (of_terms (codes "i" ∷ []) one_row (of_r (plus r_i (n 2147483648))), Some rule.Recursion)
+    ∷ (of_terms (codes "i" ∷ []) (select (as_bigint (n 1) ∷ []) []) (of_r (n 7)), Some rule.Recursion)
+    ∷ (of_terms (codes "i" ∷ []) (select (n 3000000000 ∷ []) []) (of_r (plus r_i (n 1))), None)
     ∷ []
 
 -- ---- schemas

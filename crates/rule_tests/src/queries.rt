@@ -278,7 +278,7 @@ fn all_columns_of_a_query_are_told(rt: HostRuntime) {
     };
     let number = columns_or_rule(&rt, &schema, listing(&rt, one(&rt, item(Expr::Int(1)))));
     match number {
-        Ok(columns) => assert!(rt; columns.as_slice() == [Ty::Bigint].as_slice()),
+        Ok(columns) => assert!(rt; columns.as_slice() == [Ty::Integer].as_slice()),
         Err(_) => rt.abort(),
     }
     let pair = two(&rt, item(Expr::Bool(true)), item(Expr::Null));

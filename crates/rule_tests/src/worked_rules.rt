@@ -2,6 +2,7 @@
 
 ghost use Rattle.std.specs.Prelude.{map, ◌≡◌};
 ghost use Rattle.rule_tests.specs.Functions as functions;
+ghost use Rattle.rule_tests.specs.Integers as integers;
 ghost use Rattle.rule_tests.specs.Queries as queries;
 
 /// Each rule on functions is broken by a small text, and kept by its nearest neighbour; of two that are broken the lesser
@@ -12,6 +13,8 @@ pub fn functions_break_their_rules()
     ensures types { map functions.broken functions.types ≡ map functions.wanted functions.types }
     ensures selects_into { map functions.broken functions.selects_into
         ≡ map functions.wanted functions.selects_into }
+    ensures integers { map functions.broken integers.integers
+        ≡ map functions.wanted integers.integers }
 {}
 
 /// Of the statements that break the least rule the first is told, by its number among the nodes of the function.

@@ -1,5 +1,5 @@
--- A literal NULL in the list of a select means the same under a cast, and reads the same.
-use Rattle.std.proofs.Common.{◌≡◌, refl, ap, sym, ◌∙◌, false, List, [], ◌∷◌, map, Option, Some, None, option_map}
+-- A literal NULL in the list of a select means the same under a cast, and an item the same without its alias; and they read the same.
+use Rattle.std.proofs.Common.{◌≡◌, refl, ap, sym, ◌∙◌, ℕ, false, List, [], ◌∷◌, map, Option, Some, None, option_map}
 use Rattle.away_values.specs.declared.types.Ty.{Ty}
 use Rattle.away_trees.specs.declared.queries.Expr.{Expr}
 use Rattle.away_trees.specs.declared.queries.Expr.TheVariants as expr
@@ -16,8 +16,9 @@ use Rattle.sql_meaning.specs.Reads.{reading}
 use Rattle.sql_meaning.proofs.SelectRows.{null_cast}
 use Rattle.select_into.specs.Wrapped.{null_as, typed, item_as, items_as, picked}
 
--- in every algebra where a cast of NULL is as NULL is
-module _ (a : Algebra) (h : (t : Ty) → a.expr (ex.Cast (a.expr ex.Null) t) ≡ a.expr ex.Null) where
+-- in every algebra where a cast of NULL is as NULL is, and an alias is nothing
+module _ (a : Algebra) (h : (t : Ty) → a.expr (ex.Cast (a.expr ex.Null) t) ≡ a.expr ex.Null)
+    (k : (x : a.AnExpr) (alias : Option (List ℕ)) → a.item (record { expr = x; alias = None }) ≡ a.item (record { expr = x; alias = alias })) where
   null_same : (t : Ty) (e : Expr) → expr_of a (null_as t e) ≡ expr_of a e
   null_same t b.Null = eq.of_cast a expr.Null t ∙ h t
   null_same t e = refl
@@ -27,7 +28,9 @@ module _ (a : Algebra) (h : (t : Ty) → a.expr (ex.Cast (a.expr ex.Null) t) ≡
   typed_same (Some t) e = null_same t e
 
   item_same : (t : Option Ty) (i : Item) → item_of a (item_as t i) ≡ item_of a i
-  item_same t i = ap (λ x. a.item (record { expr = x; alias = (out-Item i).alias })) (typed_same t (out-Item i).expr)
+  item_same t i =
+      k (expr_of a (typed t (out-Item i).expr)) (out-Item i).alias
+      ∙ ap (λ x. a.item (record { expr = x; alias = (out-Item i).alias })) (typed_same t (out-Item i).expr)
 
   items_same : (types : List Ty) (is : List Item) → map (λ i. item_of a i) (items_as types is) ≡ map (λ i. item_of a i) is
   items_same types [] = refl
@@ -42,7 +45,7 @@ module _ (a : Algebra) (h : (t : Ty) → a.expr (ex.Cast (a.expr ex.Null) t) ≡
       ∙ sym (eq.select_is a s)
 
 pub picked_same : (types : List Ty) (s : Select) (cx : Context) → rows_of_select (picked types s) cx ≡ rows_of_select s cx
-picked_same types s cx = ap (λ r. r cx) (picked_as meaning (λ t i. record { aggregates = false; value = λ cx. null_cast t i }) types s)
+picked_same types s cx = ap (λ r. r cx) (picked_as meaning (λ t i. record { aggregates = false; value = λ cx. null_cast t i }) (λ x alias. refl) types s)
 
 pub picked_reads : (types : List Ty) (s : Select) → select_of reading (picked types s) ≡ select_of reading s
-picked_reads types s = picked_as reading (λ t. refl) types s
+picked_reads types s = picked_as reading (λ t. refl) (λ x alias. refl) types s

@@ -1,10 +1,11 @@
 -- The numbers below a number, with one more at their end.
 use Rattle.std.proofs.Common.{◌≡◌, ap, ◌∙◌, ℕ, zero, suc, ◌+◌, List, [], ◌∷◌, ◌++◌, map, arith}
 use Rattle.std.proofs.lemmas.List.{map-append}
-use Rattle.away_trees.specs.declared.queries.Expr.{Expr}
 use Rattle.away_trees.specs.declared.queries.Select.{Select}
 use Rattle.sql_meaning.specs.Template.{count_from, below}
-use Rattle.select_into.specs.Wrapped.{value_name, value_names, pick}
+use Rattle.away_values.specs.declared.types.Ty.{Ty}
+use Rattle.select_into.specs.Entries.{pick_entry}
+use Rattle.select_into.specs.Wrapped.{value_name, value_names}
 
 abbrev alone : ℕ → List ℕ
 alone k = k ∷ []
@@ -26,7 +27,5 @@ one_more_below n =
 pub one_more_name : (n : ℕ) → value_names (n + 1) ≡ value_names n ++ (value_name n ∷ [])
 one_more_name n = ap (map value_name) (one_more_below n) ∙ map-append value_name (below n) (n ∷ [])
 
-pub one_more_pick : (q : Select) (n : ℕ) → map (λ place. pick q place) (below (n + 1)) ≡ map (λ place. pick q place) (below n) ++ (pick q n ∷ [])
-one_more_pick q n =
-    let f : ℕ → Expr = λ place. pick q place in
-    ap (map f) (one_more_below n) ∙ map-append f (below n) (n ∷ [])
+pub one_more_pick : (types : List Ty) (q : Select) (n : ℕ) → map (pick_entry types q) (below (n + 1)) ≡ map (pick_entry types q) (below n) ++ (pick_entry types q n ∷ [])
+one_more_pick types q n = ap (map (pick_entry types q)) (one_more_below n) ∙ map-append (pick_entry types q) (below n) (n ∷ [])

@@ -19,7 +19,8 @@ use Rattle.sql_meaning.specs.Trees.{item, one, col}
 use Rattle.sql_meaning.proofs.Reading.{select_same}
 use Rattle.plsql_meaning.specs.Sight.{query_of}
 use Rattle.plsql_meaning.proofs.Readers.{query_reads_are, select_fits}
-use Rattle.select_into.specs.Wrapped.{as_source, over_source, scalar_over, count_compared, value_names, no_row, more_rows, pick, picked, select_slots}
+use Rattle.select_into.specs.Wrapped.{as_source, over_source, scalar_over, count_compared, value_names, no_row, more_rows, pick, pick_as, picked, select_slots}
+use Rattle.select_into.specs.Entries.{unmarked}
 use Rattle.select_into.specs.Laws.{IsSource, HasSlots, ReadsAs}
 use Rattle.select_into.proofs.Casts.{picked_reads}
 use Rattle.select_into.proofs.Deeper.{select_deeper, slots_deeper}
@@ -76,15 +77,23 @@ slots_in rs = first_occurrences (filter_map slot_of rs)
 have_slots : (s : Select) (e : Expr) → reads e ≡ select_of reading s 1 → HasSlots s e
 have_slots s e h = record { same = ap slots_in h ∙ ap first_occurrences (slots_deeper (λ i. false) 0 0 s) }
 
-pub no_row_slots : (s : Select) → HasSlots s (no_row s)
-no_row_slots s = have_slots s (no_row s) (no_row_reads s)
+-- the same under a cast
+cast_reads : (c : Option Ty) (s : Select) (place : ℕ) → reads (pick_as c s place) ≡ select_of reading s 1
+cast_reads None s place = pick_reads s place
+cast_reads (Some t) s place = ap (λ (u : Reads). u 0) (eq.of_cast reading (pick s place) t) ∙ pick_reads s place
 
-pub more_rows_slots : (s : Select) → HasSlots s (more_rows s)
-more_rows_slots s = have_slots s (more_rows s) (more_rows_reads s)
+-- of the select with types for its literal NULLs, and without its marks
+picked_deeper : (types : List Ty) (s : Select) → select_of reading (picked types s) 1 ≡ select_of reading s 1
+picked_deeper types s = ap (λ (u : Reads). u 1) (picked_reads types s)
 
-pub pick_slots : (types : List Ty) (s : Select) (place : ℕ) → HasSlots s (pick (picked types s) place)
-pick_slots types s place =
-    have_slots s (pick (picked types s) place) (pick_reads (picked types s) place ∙ ap (λ (u : Reads). u 1) (picked_reads types s))
+pub no_row_slots : (s : Select) → HasSlots s (no_row (unmarked s))
+no_row_slots s = have_slots s (no_row (unmarked s)) (no_row_reads (unmarked s) ∙ picked_deeper [] s)
+
+pub more_rows_slots : (s : Select) → HasSlots s (more_rows (unmarked s))
+more_rows_slots s = have_slots s (more_rows (unmarked s)) (more_rows_reads (unmarked s) ∙ picked_deeper [] s)
+
+pub pick_slots : (types : List Ty) (s : Select) (c : Option Ty) (place : ℕ) → HasSlots s (pick_as c (picked types s) place)
+pick_slots types s c place = have_slots s (pick_as c (picked types s) place) (cast_reads c (picked types s) place ∙ picked_deeper types s)
 
 pub slots_are : (s : Select) → slots_of (query_of s) ≡ select_slots s
 slots_are s = ap slots_in (query_reads_are s)
@@ -104,8 +113,8 @@ module _ (slots : ℕ → Bool) (tables : ℕ) (s : Select) (x : IsSource slots 
   pub more_rows_as : ReadsAs s (more_rows s)
   more_rows_as = record { same = more_rows_reads s ∙ inner }
 
-  pub pick_as : (place : ℕ) → ReadsAs s (pick s place)
-  pick_as place = record { same = pick_reads s place ∙ inner }
+  pub pick_read : (c : Option Ty) (place : ℕ) → ReadsAs s (pick_as c s place)
+  pick_read c place = record { same = cast_reads c s place ∙ inner }
 
   -- its rows are the same one select further in
   pub rows_inside : (T : List Rows) (env : List Value) → rows_of_select s (inside [] (body T env)) ≡ rows_of_select s (body T env)

@@ -5,7 +5,8 @@ use Rattle.away_values.specs.declared.values.Value.{Value}
 use Rattle.away_values.specs.declared.values.Value.TheVariants as val
 use Rattle.away_values.specs.declared.operators.CmpOp.{CmpOp}
 use Rattle.away_values.specs.declared.operators.CmpOp.TheVariants as cmp
-use Rattle.away_values.specs.Operators.{compare}
+use Rattle.away_values.specs.declared.types.Ty.{Ty}
+use Rattle.away_values.specs.Operators.{cast, compare}
 use Rattle.away_values.specs.Results.{Or, and_then, mapped, each}
 use Rattle.away_trees.specs.declared.queries.Expr.{Expr}
 use Rattle.away_trees.specs.declared.queries.Expr.TheVariants as expr
@@ -20,8 +21,9 @@ use Rattle.sql_meaning.specs.Meaning.{meaning, value, rows_of_item, rows_of_sele
 use Rattle.sql_meaning.specs.Parts.{only}
 use Rattle.sql_meaning.specs.Selects.{select_meaning, union}
 use Rattle.sql_meaning.specs.Trees.{item, one, col}
+use Rattle.plsql_meaning.specs.Conversions.{converted_value}
 use Rattle.select_into.specs.Laws.{is_empty, has_two, first_row}
-use Rattle.select_into.specs.Wrapped.{as_source, over_source, scalar_over, count_compared, value_names, no_row, more_rows, pick}
+use Rattle.select_into.specs.Wrapped.{as_source, over_source, scalar_over, count_compared, value_names, no_row, more_rows, pick, pick_as}
 
 -- ---- the rows of the subquery
 
@@ -117,3 +119,20 @@ picked_over j (Ok (r ∷ rows)) cx =
 
 pub pick_is : (s : Select) (j : ℕ) (cx : Context) → value (pick s j) cx ≡ mapped (λ rows. at (first_row rows) j) (rows_of_select s (inside [] cx))
 pick_is s j cx = scalar_is (col 0 0 j) (Some (expr.Int (pos 1))) s cx ∙ picked_over j (rows_of_select s (inside [] cx)) cx
+
+-- a value of the first row, under a cast
+pub cast_pick_is : (c : Option Ty) (s : Select) (j : ℕ) (cx : Context)
+    → value (pick_as c s j) cx ≡ and_then (rows_of_select s (inside [] cx)) (λ rows. converted_value c (at (first_row rows) j))
+cast_pick_is None s j cx = pick_is s j cx ∙ plain (rows_of_select s (inside [] cx))
+  where
+    plain : (o : Or Rows) → mapped (λ rows. at (first_row rows) j) o ≡ and_then o (λ rows. Ok (at (first_row rows) j))
+    plain (Ok rows) = refl
+    plain (Err c) = refl
+cast_pick_is (Some t) s j cx =
+    ap (λ m. m.value cx) (eq.of_cast meaning (pick s j) t)
+    ∙ ap (λ o. and_then o (cast t)) (pick_is s j cx)
+    ∙ again (rows_of_select s (inside [] cx))
+  where
+    again : (o : Or Rows) → and_then (mapped (λ rows. at (first_row rows) j) o) (cast t) ≡ and_then o (λ rows. cast t (at (first_row rows) j))
+    again (Ok rows) = refl
+    again (Err c) = refl

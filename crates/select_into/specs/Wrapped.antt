@@ -100,11 +100,16 @@ more_rows s = count_compared cmp.Gt s (pos 1)
 abbrev pub pick : Select → ℕ → Expr
 pick s place = scalar_over (col 0 0 place) (Some (expr.Int (pos 1))) s
 
+-- the pick under a cast, where there is one
+abbrev pub pick_as : Option Ty → Select → ℕ → Expr
+pick_as None s place = pick s place
+pick_as (Some t) s place = expr.Cast (pick s place) t
+
 -- the slots that the select reads, each once, in the order of their first occurrence
 abbrev pub select_slots : Select → List ℕ
 select_slots s = first_occurrences (filter_map slot_of (select_of reading s 0))
 
--- ---- an item that is the literal NULL has the type of its target
+-- ---- an item that is the literal NULL has the type of its target, and no item has an alias
 
 abbrev pub null_as : Ty → Expr → Expr
 null_as t b.Null = expr.Cast expr.Null t
@@ -115,7 +120,7 @@ typed None e = e
 typed (Some t) e = null_as t e
 
 abbrev pub item_as : Option Ty → Item → Item
-item_as t i = roll-Item (record (out-Item i) { expr = typed t (out-Item i).expr })
+item_as t i = roll-Item (record { expr = typed t (out-Item i).expr; alias = None })
 
 -- the items of a list by the types of their targets
 abbrev pub items_as : List Ty → List Item → List Item

@@ -1,14 +1,14 @@
 //! The expressions of a SELECT INTO, which a function's forms name by number.
 
-ghost use Rattle.std.specs.Prelude.{◌≡◌, ◌++◌, ◌∷◌, [], IfOk, OnOk};
+ghost use Rattle.std.specs.Prelude.{◌≡◌, ◌++◌, ◌∷◌, [], IfOk, OnOk, slice_get};
 ghost use Rattle.select_into.specs.Entries as spec;
-ghost use Rattle.select_into.specs.Wrapped.{no_row, more_rows, pick, picked};
+ghost use Rattle.select_into.specs.Wrapped.{no_row, more_rows, pick_as, picked};
 
 use crate::{picked, wrapping};
 use away_core::Copied;
-use away_trees::{Expr, Select};
+use away_trees::{Expr, Item, Select};
 use away_values::{Name, NoMemory, Ty};
-use sqlite_items::Items;
+use sqlite_items::{Boxed, Items};
 use std::alloc::Global;
 
 fn type_of(types: &[Ty], target: Option<u32>) -> Ty
@@ -53,6 +53,39 @@ fn push_checks(
     Ok(())
 }
 
+/// Whether there is an item at a place, and it is to be converted: its alias is the mark.
+fn is_converted(items: &[Item], place: usize) -> bool
+    ensures { result ≡ spec.is_converted (slice_get items.now place) }
+{
+    if place >= items.len() {
+        return false;
+    }
+    items[place].alias.is_some()
+}
+
+/// The type to which the pick at a place is cast, where its item is to be converted.
+fn cast_at(types: &[Ty], items: &[Item], place: usize) -> Option<Ty>
+    ensures { result ≡ spec.cast_at types.now items.now place }
+{
+    if !is_converted(items, place) {
+        return None;
+    }
+    match types.get(place) {
+        None => None,
+        Some(ty) => Some(*ty),
+    }
+}
+
+fn pick_entry(alloc: Global, types: &[Ty], s: &Select, place: usize) -> Result<Expr, NoMemory>
+    ensures { IfOk result (λ e. e ≡ spec.pick_entry types.now s.now place) }
+{
+    let cast = cast_at(types, s.list.as_slice(), place);
+    match u32::try_from(place) {
+        Ok(place) => wrapping::pick_as(alloc, cast, picked::picked(alloc, types, s)?, place),
+        Err(_) => Err(NoMemory),
+    }
+}
+
 fn push_picks(
     alloc: Global,
     types: &[Ty],
@@ -62,16 +95,13 @@ fn push_picks(
     ensures { OnOk result (list.new ≡ list.old ++ spec.pick_entries types.now s.now) }
 {
     for place in 0..types.len() {
-        let place = match u32::try_from(place) {
-            Ok(place) => place,
-            Err(_) => return Err(NoMemory),
-        };
-        list.push(wrapping::pick(alloc, picked::picked(alloc, types, s)?, place)?)?;
+        list.push(pick_entry(alloc, types, s, place)?)?;
     }
     Ok(())
 }
 
-/// Adds the entries of a SELECT INTO, by the types of the function's slots: with STRICT its two tests, then a pick for each target.
+/// Adds the entries of a SELECT INTO, by the types of the function's slots: with STRICT its two tests, then a pick for each target, under a cast where
+/// the target has the other type of numbers.
 pub fn push_entries(
     alloc: Global,
     types: &[Ty],
@@ -83,7 +113,8 @@ pub fn push_entries(
     ensures { OnOk result (list.new
         ≡ list.old ++ spec.into_entries types.now strict targets.now query.now) }
 {
-    push_checks(alloc, strict, query, list)?;
+    let unmarked = Boxed::new(alloc, picked::picked(alloc, &[], query)?)?;
+    push_checks(alloc, strict, unmarked.get(), list)?;
     let picks = target_types(alloc, types, targets)?;
     push_picks(alloc, picks.as_slice(), query, list)
 }

@@ -1,4 +1,4 @@
-//! A select whose items that are the literal NULL have the types of their targets.
+//! A select whose items that are the literal NULL have the types of their targets, and whose items have no alias.
 
 ghost use Rattle.std.specs.Prelude.{◌≡◌, IfOk};
 ghost use Rattle.std.specs.Option.{option_copied};
@@ -25,10 +25,9 @@ fn null_as(alloc: Global, ty: Option<&Ty>, e: Expr) -> Result<Expr, NoMemory>
 fn item_as(alloc: Global, ty: Option<&Ty>, item: &Item) -> Result<Item, NoMemory>
     ensures { IfOk result (λ i. i ≡ spec.item_as (option_copied ty.entry) item.now) }
 {
-    let Item { expr, alias } = item.copy(alloc)?;
     Ok(Item {
-        expr: null_as(alloc, ty, expr)?,
-        alias,
+        expr: null_as(alloc, ty, item.expr.copy(alloc)?)?,
+        alias: None,
     })
 }
 

@@ -86,3 +86,25 @@ fn each_slot_is_told_once(rt: HostRuntime) {
     let slots = select_slots(rt.alloc(), &s).expect(&rt, "memory");
     assert_eq!(rt; slots.as_slice(), [7].as_slice());
 }
+
+#[test]
+fn a_marked_item_is_cast_around_its_pick(rt: HostRuntime) {
+    let mut s = select(&rt, Expr::Slot(7), Expr::Slot(7));
+    s.list = Items::new(rt.alloc());
+    for alias in [None, Some(named(&rt, "b"))] {
+        let expr = Expr::Slot(7);
+        s.list.push(Item { expr, alias }).expect(&rt, "memory");
+    }
+    let targets = [(named(&rt, "a"), Some(0)), (named(&rt, "b"), Some(0))];
+    let mut list = Items::new(rt.alloc());
+    push_entries(rt.alloc(), &[Ty::Integer], false, &targets, &s, &mut list).expect(&rt, "memory");
+    let entries = list.as_slice();
+    assert!(rt; matches!(entries[0], Expr::Scalar(_)));
+    assert!(rt; matches!(entries[1], Expr::Cast(_, Ty::Integer)));
+    let pick = match &entries[1] {
+        Expr::Cast(pick, _) => inside(pick.get()).expect(&rt, "a pick"),
+        _ => return,
+    };
+    let query = within(pick).expect(&rt, "a select");
+    assert!(rt; query.list.as_slice()[1].alias.is_none());
+}

@@ -6,7 +6,7 @@ ghost use Rattle.select_into.specs.Wrapped as spec;
 ghost use Rattle.sql_meaning.specs.Trees.{one};
 
 use away_trees::{Col, Expr, FromItem, Item, Query, Select, Source};
-use away_values::{CmpOp, Name, NoMemory, name};
+use away_values::{CmpOp, Name, NoMemory, Ty, name};
 use itoa::Buffer;
 use sqlite_items::{Boxed, Items};
 use std::alloc::Global;
@@ -131,7 +131,7 @@ pub(crate) fn more_rows(alloc: Global, s: Select) -> Result<Expr, NoMemory>
 }
 
 /// The value of the first row at a place, or NULL where there is no row.
-pub(crate) fn pick(alloc: Global, s: Select, place: u32) -> Result<Expr, NoMemory>
+fn pick(alloc: Global, s: Select, place: u32) -> Result<Expr, NoMemory>
     ensures { IfOk result (λ e. e ≡ spec.pick s place) }
 {
     let column = Expr::Column(Col {
@@ -140,4 +140,20 @@ pub(crate) fn pick(alloc: Global, s: Select, place: u32) -> Result<Expr, NoMemor
         column: place,
     });
     over_source(alloc, column, Some(Expr::Int(1)), s)
+}
+
+/// The same under a cast, where there is one.
+pub(crate) fn pick_as(
+    alloc: Global,
+    ty: Option<Ty>,
+    s: Select,
+    place: u32,
+) -> Result<Expr, NoMemory>
+    ensures { IfOk result (λ e. e ≡ spec.pick_as ty s place) }
+{
+    let pick = pick(alloc, s, place)?;
+    match ty {
+        None => Ok(pick),
+        Some(ty) => Ok(Expr::Cast(Boxed::new(alloc, pick)?, ty)),
+    }
 }

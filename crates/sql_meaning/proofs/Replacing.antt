@@ -19,8 +19,9 @@ use Rattle.away_trees.specs.declared.queries.Key.{Key}
 use Rattle.away_trees.specs.declared.queries.Select.{Select}
 use Rattle.away_trees.specs.declared.queries.Recursive.{Recursive}
 use Rattle.away_trees.specs.declared.queries.Query.{Query}
-use Rattle.away_values.specs.Operators.{cast}
-use Rattle.away_values.specs.Results.{Or}
+use Rattle.away_values.specs.Operators.{cast, literal_type}
+use Rattle.std.specs.Prelude.{ℤ, pos, negsuc, ◌^◌, false, if◌then◌else◌, Err, codes}
+use Rattle.away_values.specs.Results.{Or, class}
 use Rattle.away_trees.specs.Algebra.{expr_of, item_of, key_of, source_of, from_of, select_of, query_of}
 use Rattle.away_trees.proofs.Equations as eq
 use Rattle.sql_meaning.specs.Context.{Context, argument}
@@ -33,6 +34,16 @@ use Rattle.sql_meaning.proofs.Related.{Alike, AlikeOption, AlikeLink, AlikeArm, 
 use Rattle.sql_meaning.proofs.Lists.{Zipped, ZippedOption}
 use Rattle.sql_meaning.proofs.Uses.{and_first, left, right, own_column, zipped, zipped_option, under, under_option}
 use Rattle.sql_meaning.proofs.Same as same
+
+-- a literal as one of its own type
+pub literal_keeps : (n : ℤ) → cast (literal_type n) (val.Int n) ≡ Ok (val.Int n)
+unfolding literal_type
+literal_keeps (pos n) = by (nat_lt n (2 ^ 31)) refl
+  where
+    by : (small : Bool) → nat_lt n (2 ^ 31) ≡ small → cast (if small then ty.Integer else ty.Bigint) (val.Int (pos n)) ≡ Ok (val.Int (pos n))
+    by true e = ap (λ fits. if fits then Ok (val.Int (pos n)) else Err (class (codes "22003"))) e
+    by false e = refl
+literal_keeps (negsuc n) = refl
 
 module _ (one two : same.Surroundings) (slots : ℕ → Bool) (params places : ℕ) (leaf : ℕ → ℕ → Expr) (literal : Ty → Expr → Expr) where
   abbrev ok : Read → Bool
@@ -199,7 +210,7 @@ module _ (one two : same.Surroundings) (slots : ℕ → Bool) (params places : �
         record {
           no_expr = λ d h. (refl, λ l g r. refl);
           no_query = λ d h l g r. ap (λ w. w.rows (same.there one two l g)) (eq.of_query meaning []);
-          int = λ n d h. literals (expr.Int n) ty.Bigint (val.Int n) refl refl d;
+          int = λ n d h. literals (expr.Int n) (literal_type n) (val.Int n) refl (literal_keeps n) d;
           str = λ t d h. literals (expr.Str t) ty.Text (val.Text t) refl refl d;
           bool = λ v d h. literals (expr.Bool v) ty.Boolean (val.Bool v) refl refl d;
           null = λ d h. (refl, λ l g r. refl);

@@ -20,7 +20,7 @@ use Rattle.std.specs.List.{list_any, list_all}
 use Rattle.away_values.specs.declared.values.Value.{Value}
 use Rattle.away_values.specs.declared.values.Value.TheVariants as val
 use Rattle.away_values.specs.Results.{Or}
-use Rattle.away_values.specs.Operators.{ranged, is_true, length_of, substr, extreme}
+use Rattle.away_values.specs.Operators.{ranged, is_true, length_of, small, substr, extreme}
 use Rattle.sql_meaning.specs.Context.{at}
 
 pub data Function : Type 0 where
@@ -72,10 +72,10 @@ aggregate BoolOr [] = Ok val.Null
 aggregate BoolOr (v ∷ vs) = Ok (val.Bool (list_any is_true (v ∷ vs)))
 aggregate _ vs = Ok val.Null
 
--- Of values that are all there: `length`, `substr`, GREATEST and LEAST. (PostgreSQL manual, String
--- Functions and Operators; Conditional Expressions.)
+-- Of values that are all there: `length`, which is an integer, `substr`, GREATEST and LEAST.
+-- (PostgreSQL manual, String Functions and Operators; Conditional Expressions.)
 abbrev pub scalar : Function → List Value → Or Value
-scalar Length vs = Ok (length_of (at vs 0))
+scalar Length vs = small (length_of (at vs 0))
 scalar Substr vs = substr (at vs 0) (at vs 1) (at vs 2)
 scalar Greatest vs = Ok (fold (extreme true) val.Null vs)
 scalar Least vs = Ok (fold (extreme false) val.Null vs)

@@ -1,11 +1,12 @@
 -- An expression with a subquery, for examples of what is read and of what is replaced.
 use Rattle.std.specs.Prelude.{pos, false, [], ◌∷◌, Some, None}
+use Rattle.away_values.specs.declared.types.Ty.TheVariants.{Integer}
 use Rattle.away_values.specs.declared.operators.ChainOp.TheVariants as chain
 use Rattle.away_values.specs.declared.operators.IntOp.TheVariants as op
 use Rattle.away_values.specs.declared.operators.IsTest.TheVariants as test
 use Rattle.away_trees.specs.declared.queries.Expr.{Expr}
 use Rattle.away_trees.specs.declared.queries.Expr.TheVariants as expr
-use Rattle.sql_meaning.specs.Trees.{col, number, lateral, select, one}
+use Rattle.sql_meaning.specs.Trees.{col, lateral, select, one}
 use Rattle.sql_meaning.specs.Examples.{t, chain_of}
 
 -- a + b + (SELECT x.v FROM t, LATERAL (SELECT t.k + c) AS x WHERE d IS NULL) + literal
@@ -23,4 +24,5 @@ over_slots = shape (expr.Slot 3) (expr.Slot 5) (expr.Slot 3) (expr.Slot 1) (expr
 
 -- the same where variable i is column i + 2 of a row that is two selects out
 abbrev pub over_columns : Expr
-over_columns = shape (col 2 0 5) (col 2 0 7) (col 4 0 5) (col 3 0 3) (number (pos 7))
+over_columns = shape (col 2 0 5) (col 2 0 7) (col 4 0 5) (col 3 0 3)
+    (expr.Cast (expr.Int (pos 7)) Integer)

@@ -3,6 +3,7 @@
 use Rattle.std.specs.Prelude.{ℕ, suc, ◌+◌, [], map, None, option_map}
 use Rattle.away_values.specs.declared.types.Ty.{Ty}
 use Rattle.away_values.specs.declared.types.Ty.TheVariants as ty
+use Rattle.away_values.specs.Operators.{literal_type}
 use Rattle.away_trees.specs.declared.queries.Col.{Col}
 use Rattle.away_trees.specs.declared.queries.Expr.{Expr}
 use Rattle.away_trees.specs.declared.queries.Expr.TheVariants as expr
@@ -46,7 +47,7 @@ Layer F = F (Deep Expr) (Deep Source) (Deep FromItem) (Deep Item) (Deep Key) (De
 -- `leaf d i` stands for slot i at depth d, and `literal` goes round each literal
 module _ (leaf : ℕ → ℕ → Expr) (literal : Ty → Expr → Expr) where
   abbrev pub expr_in_place : Layer Expr-F → ℕ → Expr
-  expr_in_place (ex.Int n) d = literal ty.Bigint (expr.Int n)
+  expr_in_place (ex.Int n) d = literal (literal_type n) (expr.Int n)
   expr_in_place (ex.Str t) d = literal ty.Text (expr.Str t)
   expr_in_place (ex.Bool v) d = literal ty.Boolean (expr.Bool v)
   expr_in_place ex.Null d = expr.Null

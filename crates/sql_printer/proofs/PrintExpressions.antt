@@ -173,19 +173,13 @@ named_back n after = named
 pub qualified_back : (n c : List ℕ) → Back (e.Dotted n c)
 qualified_back n c after = qualified
 
-no_integer : (a b c : Bool) → (if a then Some types.Bigint else (if b then Some types.Boolean else (if c then Some types.Text else None))) ≡ Some types.Integer → ⊥
-no_integer true b c h = cc h
-no_integer false true c h = cc h
-no_integer false false true h = cc h
-no_integer false false false h = cc h
-
 -- The name that a type prints as is its name.
 type_is : (t : List ℕ) (ty : Ty) → type_named t ≡ Some ty → type_named (type_name ty) ≡ Some ty
 unfolding type_named
 type_is t types.Bigint h = refl
 type_is t types.Boolean h = refl
 type_is t types.Text h = refl
-type_is t types.Integer h = absurd (no_integer _ _ _ h)
+type_is t types.Integer h = refl
 
 pub parameter_back : (i : ℕ) (t : List ℕ) (ty : Ty) → type_named t ≡ Some ty → Back (e.Param i ty)
 parameter_back i t ty h after = typed_parameter (type_name ty) (type_is t ty h)

@@ -279,6 +279,11 @@ pub fn type_named(text: &str) -> Option<Ty>
         Some(Ty::Boolean)
     } else if text.eq_ignore_ascii_case("text") {
         Some(Ty::Text)
+    } else if text.eq_ignore_ascii_case("integer")
+        || text.eq_ignore_ascii_case("int")
+        || text.eq_ignore_ascii_case("int4")
+    {
+        Some(Ty::Integer)
     } else {
         None
     }

@@ -1,6 +1,7 @@
 -- The events of a placed expression are those of the expression, placed.
 use Rattle.std.proofs.Common.{◌≡◌, refl, ap, sym, ◌∙◌, ℕ, suc, List, [], ◌∷◌, map, Option, Some, None, option_map}
 use Rattle.away_values.specs.declared.types.Ty.TheVariants as ty
+use Rattle.away_values.specs.Operators.{literal_type}
 use Rattle.away_values.specs.declared.operators.ChainOp.{ChainOp}
 use Rattle.away_trees.specs.declared.queries.Col.{Col}
 use Rattle.away_trees.specs.declared.queries.Expr.{Expr}
@@ -164,7 +165,7 @@ module _ (ref : ℕ → Col) where
       record {
         no_expr = λ d rest. refl;
         no_query = λ d rest. ap (λ f. f (P d rest)) (sym (eq.of_query (shaping Whole) []));
-        int = λ n d rest. ap (λ f. f (P d rest)) (sym (eq.of_cast (shaping Whole) (expr.Int n) ty.Bigint));
+        int = λ n d rest. ap (λ f. f (P d rest)) (sym (eq.of_cast (shaping Whole) (expr.Int n) (literal_type n)));
         str = λ t d rest. ap (λ f. f (P d rest)) (sym (eq.of_cast (shaping Whole) (expr.Str t) ty.Text));
         bool = λ v d rest. ap (λ f. f (P d rest)) (sym (eq.of_cast (shaping Whole) (expr.Bool v) ty.Boolean));
         null = λ d rest. refl;

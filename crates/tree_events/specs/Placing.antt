@@ -2,6 +2,7 @@
 -- events of the expression.
 use Rattle.std.specs.Prelude.{◌≡◌, ℕ, zero, suc, [], ◌∷◌}
 use Rattle.away_values.specs.declared.types.Ty.TheVariants as ty
+use Rattle.away_values.specs.Operators.{literal_type}
 use Rattle.away_trees.specs.declared.queries.Col.{Col}
 use Rattle.away_trees.specs.declared.queries.Expr.{Expr}
 use Rattle.sql_meaning.specs.Placed.{further, placed}
@@ -14,7 +15,8 @@ use Rattle.tree_events.specs.Events.{Events, events_of_expr}
 -- a node's first event, d selects deep
 abbrev pub placed_kind : (ℕ → Col) → ℕ → Kind → Events → Events
 placed_kind ref d (kind.Slot i) rest = event.Open (kind.Column (further d (ref i))) ∷ rest
-placed_kind ref d (kind.Int n) rest = event.Open (kind.Cast ty.Bigint) ∷ event.Open (kind.Int n) ∷ event.Close ∷ rest
+placed_kind ref d (kind.Int n) rest =
+    event.Open (kind.Cast (literal_type n)) ∷ event.Open (kind.Int n) ∷ event.Close ∷ rest
 placed_kind ref d (kind.Bool v) rest = event.Open (kind.Cast ty.Boolean) ∷ event.Open (kind.Bool v) ∷ event.Close ∷ rest
 placed_kind ref d kind.Str rest = event.Open (kind.Cast ty.Text) ∷ event.Open kind.Str ∷ rest
 placed_kind ref d k rest = event.Open k ∷ rest

@@ -12,8 +12,8 @@ use Rattle.away_names.specs.declared.function.Known.{Known}
 use Rattle.away_names.specs.declared.function.Known.TheVariants as known
 use Rattle.away_names.specs.Functions as names
 use Rattle.away_typing.specs.declared.kind.Kind.{Kind}
-use Rattle.away_typing.specs.declared.kind.Kind.TheVariants.{Null, Of, Sum}
-use Rattle.away_typing.specs.Kinds.{meet, common, fits, is_right, settled}
+use Rattle.away_typing.specs.declared.kind.Kind.TheVariants.{Null, Of, Sum, Wrong}
+use Rattle.away_typing.specs.Kinds.{meet, common, fits, is_right, is_number, sum_kind, settled}
 use Rattle.away_typing.specs.Typing as typing
 use Rattle.away_typing.specs.Typing.{Places}
 use Rattle.sql_meaning.specs.Context.{Frame, Context, at, at_row}
@@ -25,18 +25,24 @@ use Rattle.sql_meaning.proofs.Lists.{Zipped}
 use Rattle.type_soundness.specs.Sorts.{IsOf, Every}
 use Rattle.type_soundness.specs.TypedValues.{Holds}
 use Rattle.type_soundness.proofs.Functions.{stands_for, function_is}
-use Rattle.type_soundness.proofs.KindRules.{holds_null, holds_at, only_if_holds, meet_right, met_before, settled_holds}
+use Rattle.type_soundness.proofs.KindRules.{holds_null, holds_at, only_if_holds, meet_right, met_before, settled_holds, sort_of}
+use Rattle.away_values.proofs.Typing.{are_typed}
 use Rattle.type_soundness.proofs.Lists.{chosen, every_filter, every_joined}
 use Rattle.type_soundness.proofs.Operators.{typed_ok}
 use Rattle.type_soundness.proofs.Results.{then_of, mapped_of, ok_is}
 
 -- ---- values of functions
 
-length_typed : (v : Value) → IsOf ty.Bigint (op.length_of v)
-length_typed val.Null = tt
-length_typed (val.Int n) = tt
-length_typed (val.Bool b) = tt
-length_typed (val.Text t) = tt
+-- a whole number is a sum's, of integers and of bigints
+sum_kind_holds : (k : Kind) (r : Value) → IsOf ty.Bigint r → Holds (sum_kind k) r
+unfolding sum_kind
+sum_kind_holds Null r h = h
+sum_kind_holds (Of ty.Bigint) r h = h
+sum_kind_holds (Of ty.Integer) r h = h
+sum_kind_holds (Of ty.Boolean) r h = tt
+sum_kind_holds (Of ty.Text) r h = tt
+sum_kind_holds Sum r h = tt
+sum_kind_holds Wrong r h = tt
 
 part_typed : (b : Bool) (t : List ℕ) (c : Class) (r : Value) → ◌≡◌ {A = Or Value} (if b then Err c else Ok (val.Text t)) (Ok r) → IsOf ty.Text r
 part_typed true t c r e = cc
@@ -187,8 +193,8 @@ module _ (p : Places) (cx : Context) where
   unfolding typing.call_kind
   length_holds [] ms h g r e = tt
   length_holds (k ∷ []) ms h g r e =
-      only_if_holds (fits ty.Text (k p)) (Of ty.Bigint) r
-      (λ s. let a = then_of (values cx ms) (meant.scalar meant.Length) r e in typed_ok ty.Bigint (op.length_of (at a.x 0)) r a.second (length_typed (at a.x 0)))
+      only_if_holds (fits ty.Text (k p)) (Of ty.Integer) r
+      (λ s. let a = then_of (values cx ms) (meant.scalar meant.Length) r e in sort_of ty.Integer r (are_typed.small_integer (op.length_of (at a.x 0)) r a.second))
   length_holds (k ∷ j ∷ ks) ms h g r e = tt
 
   substr_holds : Calls known.Substr
@@ -197,7 +203,7 @@ module _ (p : Places) (cx : Context) where
   substr_holds (k ∷ []) ms h g r e = tt
   substr_holds (k ∷ j ∷ []) ms h g r e = tt
   substr_holds (k ∷ j ∷ i ∷ []) ms h g r e =
-      only_if_holds (fits ty.Text (k p) && (fits ty.Bigint (j p) && fits ty.Bigint (i p))) (Of ty.Text) r
+      only_if_holds (fits ty.Text (k p) && (is_number (j p) && is_number (i p))) (Of ty.Text) r
       (λ s. let a = then_of (values cx ms) (meant.scalar meant.Substr) r e in substr_typed (at a.x 0) (at a.x 1) (at a.x 2) r a.second)
   substr_holds (k ∷ j ∷ i ∷ l ∷ ks) ms h g r e = tt
 
@@ -255,7 +261,7 @@ module _ (p : Places) (cx : Context) where
   unfolding typing.call_kind
   sum_holds [] ms h g r e = tt
   sum_holds (k ∷ []) (m ∷ []) h g r e =
-      only_if_holds (fits ty.Bigint (k p)) Sum r (λ s. group_holds meant.Sum k m Sum g.0 (λ vs w r e. in_range_typed (fold meant.added val.Null vs) r (total_typed val.Null vs tt) e) r e)
+      sum_kind_holds (k p) r (group_holds meant.Sum k m Sum g.0 (λ vs w r e. in_range_typed (fold meant.added val.Null vs) r (total_typed val.Null vs tt) e) r e)
   sum_holds (k ∷ []) [] h g r e = absurd h
   sum_holds (k ∷ []) (m ∷ n ∷ ms) h g r e = absurd h.1
   sum_holds (k ∷ j ∷ ks) ms h g r e = tt

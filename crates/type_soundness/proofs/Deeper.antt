@@ -1,6 +1,6 @@
 -- One select further in, whose FROM has no column, each part of a tree has the types that it has where it stands.
-use Rattle.std.proofs.Common.{◌≡◌, refl, sym, ℕ, zero, suc, Bool, true, ◌&&◌, List, [], ◌∷◌, ◌++◌, fold, map, Option, Some, None, option_map}
-use Rattle.std.specs.Prelude.{option_and_then}
+use Rattle.std.proofs.Common.{◌≡◌, refl, sym, ℕ, zero, suc, Bool, true, not, ◌&&◌, List, [], ◌∷◌, ◌++◌, fold, map, Option, Some, None, option_map}
+use Rattle.std.specs.Prelude.{if◌then◌else◌, is_some, option_and_then}
 use Rattle.away_values.specs.declared.types.Ty.TheVariants as ty
 use Rattle.away_values.specs.declared.operators.ChainOp.{ChainOp}
 use Rattle.away_trees.specs.declared.queries.Select.{Select}
@@ -8,7 +8,7 @@ use Rattle.away_trees.specs.Algebra.{select_of}
 use Rattle.away_names.specs.Functions.{function}
 use Rattle.away_typing.specs.declared.kind.Kind.{Kind}
 use Rattle.away_typing.specs.declared.kind.Kind.TheVariants.{Of}
-use Rattle.away_typing.specs.Kinds.{fits, meet, common, only_if, is_right, settled}
+use Rattle.away_typing.specs.Kinds.{fits, meet, common, only_if, is_right, is_number, is_integer, settled}
 use Rattle.away_typing.specs.Typing as typing
 use Rattle.away_typing.specs.Typing.{Places, Frame}
 use Rattle.sql_meaning.proofs.Related.{Alike, AlikeOption, AlikeLink, AlikeArm, Relation, IsKept, select_related}
@@ -34,6 +34,9 @@ Wholes x y z = (p : Places) → x (deeper p) ≡ y p
 abbrev Listings : typing.Listing → typing.Listing → typing.Listing → Type 0
 Listings x y z = (p : Places) → x (deeper p) ≡ y p
 
+abbrev Withs : typing.Terms → typing.Terms → typing.Terms → Type 0
+Withs x y z = Unit {0}
+
 abbrev relation : Relation typing.typing typing.typing typing.typing
 relation = record {
   Exprs = Terms;
@@ -42,7 +45,7 @@ relation = record {
   Items = Terms;
   Keys = Terms;
   Queries = Wholes;
-  Recursives = λ x y z. Unit {0};
+  Recursives = Withs;
   Selects = Listings;
 }
 
@@ -106,6 +109,13 @@ module _ (p : Places) where
   united_same (x ∷ xs) (y ∷ ys) (z ∷ zs) r a b h = united_same xs ys zs r.1 (typing.further a (x (deeper p))) (typing.further b (y p)) (λ i. typing.further (h i) (r.0 p i))
   united_same _ _ _ r a b h = absurd r
 
+-- a query with a recursive part has no columns
+shape_same : (x y z : Option typing.Terms) → AlikeOption Withs x y z → (a b : typing.Shape) → a ≡ b
+    → (if is_some x then None else a) ≡ (if is_some y then None else b)
+shape_same None None None r a b h = h
+shape_same (Some x) (Some y) (Some z) r a b h = refl
+shape_same _ _ _ r a b h = absurd r
+
 -- ---- all steps
 
 steps : IsKept typing.typing typing.typing typing.typing relation
@@ -121,8 +131,8 @@ steps = record {
   slot = λ i p. refl;
   column = λ c p. column_same p.frames c.level c.item c.column;
   param = λ i t p. refl;
-  neg = λ x y z k p. λ i. only_if (fits ty.Bigint (k p i)) (Of ty.Bigint);
-  neg_small = λ x y z k p. refl;
+  neg = λ x y z k p. λ i. only_if (is_number (k p i) && not (is_integer (k p i))) (Of ty.Bigint);
+  neg_small = λ x y z k p. λ i. only_if (is_integer (k p i)) (Of ty.Integer);
   not = λ x y z k p. λ i. only_if (fits ty.Boolean (k p i)) (Of ty.Boolean);
   is = λ x y z test negative k p. λ i. only_if (typing.passed test (k p i)) (Of ty.Boolean);
   chain = λ x y z xs ys zs k r p. chained_same p xs ys zs r (x (deeper p)) (y p) (k p);
@@ -146,7 +156,9 @@ steps = record {
       (kinds_same (typing.inside frame p) o₁ o₂ o₃ kr i) (option_same (typing.inside frame p) m₁ m₂ m₃ mr i))
       (framed_same p f₁ f₂ f₃ fr [] i);
   recursive = λ name columns xs ys zs x y z r k. tt;
-  query = λ x y z xs ys zs h r p. λ i. typing.shape_of (typing.or_none (united_same p xs ys zs r None None refl i));
+  query = λ x y z xs ys zs h r p.
+      shape_same x y z h (typing.shape_of (typing.union xs (deeper p))) (typing.shape_of (typing.union ys p))
+      (λ i. typing.shape_of (typing.or_none (united_same p xs ys zs r None None refl i)));
 }
 
 pub select_deeper : (s : Select) (p : Places) → select_of typing.typing s (deeper p) ≡ select_of typing.typing s p

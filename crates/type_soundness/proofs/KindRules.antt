@@ -8,7 +8,7 @@ use Rattle.away_values.specs.declared.values.Value.TheVariants as val
 use Rattle.away_values.specs.Values.{HasType, IsValue}
 use Rattle.away_typing.specs.declared.kind.Kind.{Kind}
 use Rattle.away_typing.specs.declared.kind.Kind.TheVariants.{Null, Of, Sum, Wrong}
-use Rattle.away_typing.specs.Kinds.{same, only_if, meet, of_type, fits, is_right, settled, type_of}
+use Rattle.away_typing.specs.Kinds.{same, only_if, meet, meet_types, fits, is_right, settled, type_of}
 use Rattle.type_soundness.specs.Sorts.{IsOf}
 use Rattle.type_soundness.specs.TypedValues.{Holds}
 
@@ -48,12 +48,12 @@ fits_typed t (Of u) v h k = typed_as t u v h k
 fits_typed t Sum v h k = cc
 fits_typed t Wrong v h k = cc
 
-pub of_type_holds : (t : Ty) (v : Value) → IsOf t v → Holds (of_type t) v
-unfolding of_type
-of_type_holds ty.Bigint v h = h
-of_type_holds ty.Boolean v h = h
-of_type_holds ty.Text v h = h
-of_type_holds ty.Integer v h = tt
+-- an integer is a whole number
+pub integer_is_number : (v : Value) → IsOf ty.Integer v → IsOf ty.Bigint v
+integer_is_number val.Null h = tt
+integer_is_number (val.Int n) h = tt
+integer_is_number (val.Bool b) h = absurd h
+integer_is_number (val.Text t) h = absurd h
 
 -- ---- values
 
@@ -75,6 +75,18 @@ sort_of _ _ h = absurd h
 
 -- ---- the common kind of several
 
+types_left : (t u : Ty) (v : Value) → IsOf t v → Holds (meet_types t u) v
+unfolding meet_types
+types_left ty.Bigint ty.Integer v h = h
+types_left ty.Integer ty.Bigint v h = integer_is_number v h
+types_left t u v h = only_if_holds (same t u) (Of t) v (λ s. h)
+
+types_right : (t u : Ty) (v : Value) → IsOf u v → Holds (meet_types t u) v
+unfolding meet_types
+types_right ty.Bigint ty.Integer v h = integer_is_number v h
+types_right ty.Integer ty.Bigint v h = h
+types_right t u v h = only_if_holds (same t u) (Of t) v (λ s. typed_as t u v s h)
+
 pub meet_left : (a b : Kind) (v : Value) → Holds a v → Holds (meet a b) v
 unfolding meet only_if
 meet_left Null Null v h = h
@@ -82,7 +94,7 @@ meet_left Null (Of u) v h = typed_null u v h
 meet_left Null Sum v h = tt
 meet_left Null Wrong v h = tt
 meet_left (Of t) Null v h = h
-meet_left (Of t) (Of u) v h = only_if_holds (same t u) (Of t) v (λ s. h)
+meet_left (Of t) (Of u) v h = types_left t u v h
 meet_left (Of t) Sum v h = tt
 meet_left (Of t) Wrong v h = tt
 meet_left Sum Null v h = tt
@@ -101,7 +113,7 @@ meet_right Null (Of u) v h = h
 meet_right Null Sum v h = tt
 meet_right Null Wrong v h = tt
 meet_right (Of t) Null v h = typed_null t v h
-meet_right (Of t) (Of u) v h = only_if_holds (same t u) (Of t) v (λ s. typed_as t u v s h)
+meet_right (Of t) (Of u) v h = types_right t u v h
 meet_right (Of t) Sum v h = tt
 meet_right (Of t) Wrong v h = tt
 meet_right Sum Null v h = tt

@@ -16,5 +16,6 @@ pub mod Recursions
 pub mod Queries
 pub mod Deeper
 pub mod NoArguments
+pub mod ItemMarks
 pub mod IntoTypes
 pub mod Statements

@@ -1,5 +1,5 @@
 -- The values of expressions are of their kinds where those of their parts are.
-use Rattle.std.proofs.Common.{◌≡◌, refl, subst, Bool, true, false, List, [], ◌∷◌, map, Option, Some, None, Ok}
+use Rattle.std.proofs.Common.{◌≡◌, refl, subst, Bool, true, false, not, ◌&&◌, List, [], ◌∷◌, map, Option, Some, None, Ok}
 use Rattle.std.specs.Prelude.{if◌then◌else◌, fold, is_some}
 use Rattle.away_values.specs.declared.types.Ty.{Ty}
 use Rattle.away_values.specs.declared.types.Ty.TheVariants as ty
@@ -13,7 +13,7 @@ use Rattle.away_values.specs.Results.{Or, and_then, mapped}
 use Rattle.away_values.proofs.Typing.{are_typed}
 use Rattle.away_typing.specs.declared.kind.Kind.{Kind}
 use Rattle.away_typing.specs.declared.kind.Kind.TheVariants.{Null, Of}
-use Rattle.away_typing.specs.Kinds.{meet, common, fits, is_right, settled}
+use Rattle.away_typing.specs.Kinds.{meet, common, fits, is_right, is_number, is_integer, settled}
 use Rattle.away_typing.specs.Typing as typing
 use Rattle.away_typing.specs.Typing.{Places}
 use Rattle.away_trees.specs.declared.queries.Expr.TheOpen as ex
@@ -31,7 +31,14 @@ use Rattle.type_soundness.proofs.Results.{then_of, mapped_of, ok_is}
 
 module _ (p : Places) (cx : Context) where
   pub neg_at : (k : typing.Term) (m : ExprMeaning) → At p cx k m → At p cx (typing.kind (ex.Neg k)) (expr_meaning (ex.Neg m))
-  neg_at k m h v e = only_if_holds (fits ty.Bigint (k p)) (Of ty.Bigint) v (λ s. let a = then_of (m.value cx) op.negated v e in sort_of ty.Bigint v (are_typed.minus a.x v a.second))
+  neg_at k m h v e = only_if_holds (is_number (k p) && not (is_integer (k p))) (Of ty.Bigint) v (λ s. let a = then_of (m.value cx) op.negated v e in sort_of ty.Bigint v (are_typed.minus a.x v a.second))
+
+  pub neg_small_at : (k : typing.Term) (m : ExprMeaning) → At p cx k m → At p cx (typing.kind (ex.NegSmall k)) (expr_meaning (ex.NegSmall m))
+  neg_small_at k m h v e =
+      only_if_holds (is_integer (k p)) (Of ty.Integer) v
+      (λ s. let a = then_of (m.value cx) (λ w. and_then (op.negated w) op.small) v e in
+      let b = then_of (op.negated a.x) op.small v a.second in
+      sort_of ty.Integer v (are_typed.small_integer b.x v b.second))
 
   pub not_at : (k : typing.Term) (m : ExprMeaning) → At p cx k m → At p cx (typing.kind (ex.Not k)) (expr_meaning (ex.Not m))
   not_at k m h v e = only_if_holds (fits ty.Boolean (k p)) (Of ty.Boolean) v (λ s. let a = mapped_of op.negation (m.value cx) v e in typed_at ty.Boolean v (op.negation a.x) a.second (negation_typed a.x))

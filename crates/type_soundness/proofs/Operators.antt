@@ -1,6 +1,7 @@
 -- The values of operators are of the kinds that the typing gives them.
-use Rattle.std.proofs.Common.{◌≡◌, sym, subst, Bool, true, false, ◌&&◌, ◌||◌, List, [], ◌∷◌, ◌++◌, Ok, Err}
-use Rattle.std.specs.Prelude.{if◌then◌else◌, nat_le, sum_by, codes}
+use Rattle.std.proofs.Common.{◌≡◌, refl, sym, subst, Bool, true, false, not, ◌&&◌, ◌||◌, List, [], ◌∷◌, ◌++◌, Ok, Err}
+use Rattle.std.proofs.lemmas.Bool.{false≢true}
+use Rattle.std.specs.Prelude.{ℤ, pos, negsuc, ◌^◌, nat_lt, if◌then◌else◌, nat_le, sum_by, codes}
 use Rattle.away_values.specs.declared.types.Ty.{Ty}
 use Rattle.away_values.specs.declared.types.Ty.TheVariants as ty
 use Rattle.away_values.specs.declared.values.Class.{Class}
@@ -11,17 +12,18 @@ use Rattle.away_values.specs.declared.operators.ChainOp.TheVariants as chain
 use Rattle.away_values.specs.declared.operators.CmpOp.{CmpOp}
 use Rattle.away_values.specs.declared.operators.CmpOp.TheVariants as cmp
 use Rattle.away_values.specs.Operators as op
-use Rattle.away_values.specs.Results.{Or, mapped, class}
+use Rattle.away_values.specs.Operators.{literal_type}
+use Rattle.away_values.specs.Results.{Or, and_then, mapped, class}
 use Rattle.away_values.specs.Words.{longest_text}
 use Rattle.away_values.proofs.Typing.{are_typed}
 use Rattle.away_typing.specs.declared.kind.Kind.{Kind}
 use Rattle.away_typing.specs.declared.kind.Kind.TheVariants.{Null, Of, Sum, Wrong}
-use Rattle.away_typing.specs.Kinds.{of_type, fits, is_right}
+use Rattle.away_typing.specs.Kinds.{same, fits, is_right, is_number, are_integers}
 use Rattle.away_typing.specs.Typing as typing
 use Rattle.sql_meaning.specs.Parts as parts
 use Rattle.type_soundness.specs.Sorts.{IsOf}
 use Rattle.type_soundness.specs.TypedValues.{Holds}
-use Rattle.type_soundness.proofs.KindRules.{only_if_holds, of_type_holds, same_is, sort_of}
+use Rattle.type_soundness.proofs.KindRules.{only_if_holds, integer_is_number, same_is, sort_of}
 use Rattle.type_soundness.proofs.Results.{then_of, mapped_of, ok_is}
 
 pub typed_at : (t : Ty) (v w : Value) → v ≡ w → IsOf t w → IsOf t v
@@ -99,9 +101,24 @@ pair_typed chain.Concat k j a r right e =
     only_if_holds ((fits ty.Text k || fits ty.Text j) && (is_right k && is_right j)) (Of ty.Text) r
     (λ s. let x = then_of right (op.concat a) r e in concat_typed a x.x r x.second)
 pair_typed (chain.Int o) k j a r right e =
-    only_if_holds (fits ty.Bigint k && fits ty.Bigint j) (Of ty.Bigint) r
+    only_if_holds (is_number k && (is_number j && not (are_integers k j))) (Of ty.Bigint) r
     (λ s. let x = then_of right (op.int_op o a) r e in sort_of ty.Bigint r (are_typed.arithmetic o a x.x r x.second))
-pair_typed (chain.Small o) k j a r right e = tt
+pair_typed (chain.Small o) k j a r right e =
+    only_if_holds (are_integers k j) (Of ty.Integer) r
+    (λ s. let x = then_of right (λ b. and_then (op.int_op o a b) op.small) r e in
+    let y = then_of (op.int_op o a x.x) op.small r x.second in
+    sort_of ty.Integer r (are_typed.small_integer y.x r y.second))
+
+-- ---- a literal
+
+pub literal_typed : (n : ℤ) → IsOf (literal_type n) (val.Int n)
+unfolding literal_type
+literal_typed (negsuc n) = tt
+literal_typed (pos n) = by (nat_lt n (2 ^ 31)) refl
+  where
+    by : (b : Bool) → nat_lt n (2 ^ 31) ≡ b → IsOf (if b then ty.Integer else ty.Bigint) (val.Int (pos n))
+    by true h = h
+    by false h = tt
 
 -- ---- BETWEEN and IN
 
@@ -127,11 +144,11 @@ among_typed v (o ∷ os) so_far r h e =
 
 -- ---- casts
 
-of_null : (t : Ty) (r : Value) → op.cast t val.Null ≡ Ok r → Holds (of_type t) r
-of_null ty.Bigint r e = of_type_holds ty.Bigint r (typed_ok ty.Bigint val.Null r e tt)
-of_null ty.Boolean r e = of_type_holds ty.Boolean r (typed_ok ty.Boolean val.Null r e tt)
-of_null ty.Text r e = of_type_holds ty.Text r (typed_ok ty.Text val.Null r e tt)
-of_null ty.Integer r e = of_type_holds ty.Integer r (typed_ok ty.Integer val.Null r e tt)
+of_null : (t : Ty) (r : Value) → op.cast t val.Null ≡ Ok r → IsOf t r
+of_null ty.Bigint r e = typed_ok ty.Bigint val.Null r e tt
+of_null ty.Boolean r e = typed_ok ty.Boolean val.Null r e tt
+of_null ty.Text r e = typed_ok ty.Text val.Null r e tt
+of_null ty.Integer r e = typed_ok ty.Integer val.Null r e tt
 
 spelled : (v r : Value) → op.cast ty.Text v ≡ Ok r → IsOf ty.Text r
 spelled val.Null r e = typed_ok ty.Text val.Null r e tt
@@ -140,10 +157,13 @@ spelled (val.Bool b) r e = typed_ok ty.Text (val.Text (op.text_of_value (val.Boo
 spelled (val.Text t) r e = typed_ok ty.Text (val.Text (op.text_of_value (val.Text t))) r e tt
 
 castable_typed : (to from : Ty) (v r : Value) → typing.castable from to ≡ true → IsOf from v → op.cast to v ≡ Ok r → IsOf to r
-unfolding typing.castable
+unfolding typing.castable same
 castable_typed ty.Text from v r c h e = spelled v r e
 castable_typed ty.Integer from v r c h e = sort_of ty.Integer r (are_typed.small_integer v r e)
-castable_typed ty.Bigint from v r c h e = typed_ok ty.Bigint v r e (subst (λ t. IsOf t v) (same_is from ty.Bigint c) h)
+castable_typed ty.Bigint ty.Bigint v r c h e = typed_ok ty.Bigint v r e h
+castable_typed ty.Bigint ty.Integer v r c h e = typed_ok ty.Bigint v r e (integer_is_number v h)
+castable_typed ty.Bigint ty.Boolean v r c h e = absurd (false≢true c)
+castable_typed ty.Bigint ty.Text v r c h e = absurd (false≢true c)
 castable_typed ty.Boolean from v r c h e = typed_ok ty.Boolean v r e (subst (λ t. IsOf t v) (same_is from ty.Boolean c) h)
 
 pub cast_typed : (to : Ty) (k : Kind) (v r : Value) → Holds k v → op.cast to v ≡ Ok r → Holds (typing.cast_kind to k) r
@@ -154,4 +174,4 @@ cast_typed ty.Boolean Sum v r h e = tt
 cast_typed ty.Text Sum v r h e = tt
 cast_typed ty.Integer Sum v r h e = tt
 cast_typed to Wrong v r h e = tt
-cast_typed to (Of from) v r h e = only_if_holds (typing.castable from to) (of_type to) r (λ c. of_type_holds to r (castable_typed to from v r c h e))
+cast_typed to (Of from) v r h e = only_if_holds (typing.castable from to) (Of to) r (λ c. castable_typed to from v r c h e)

@@ -12,7 +12,6 @@ use Rattle.sql_meaning.specs.Context.{Rows, Frame, Context, at, column, inside, 
 use Rattle.type_soundness.specs.Sorts.{IsOf, Every}
 use Rattle.type_soundness.specs.Surroundings.{IsRow, AreRows, AreTables, IsFrame, IsSeen, IsOfGroup, Fit}
 use Rattle.type_soundness.specs.TypedValues.{Holds}
-use Rattle.type_soundness.proofs.KindRules.{of_type_holds}
 use Rattle.type_soundness.proofs.Lists.{zip_at}
 
 -- ---- values at a place
@@ -23,7 +22,7 @@ at_holds ts vs i h = by (slice_get ts i) refl
   where
     by : (o : Option Ty) → slice_get ts i ≡ o → Holds (typing.kind_at o) (at vs i)
     by None e = tt
-    by (Some t) e = of_type_holds t (at vs i) (zip_at IsOf ts vs val.Null h i t e)
+    by (Some t) e = zip_at IsOf ts vs val.Null h i t e
 
 -- of a row of FROM that is seen or not
 item_holds : (types : typing.Frame) (frame : Frame) (item place : ℕ) → IsSeen types frame → Holds (typing.kind_at (option_and_then (λ ts. slice_get ts place) (slice_get types item))) (at (slice_index_or frame item []) place)
@@ -32,7 +31,7 @@ item_holds types frame item place h = by (slice_get types item) refl frame h
   where
     unseen : (o : Option Ty) → Holds (typing.kind_at o) val.Null
     unseen None = tt
-    unseen (Some t) = of_type_holds t val.Null tt
+    unseen (Some t) = tt
 
     by : (o : Option (List Ty)) → slice_get types item ≡ o → (frame : Frame) → IsSeen types frame → Holds (typing.kind_at (option_and_then (λ ts. slice_get ts place) o)) (at (slice_index_or frame item []) place)
     by None e frame h = tt

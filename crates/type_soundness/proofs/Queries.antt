@@ -18,7 +18,6 @@ use Rattle.away_trees.proofs.Equations as eq
 use Rattle.away_names.specs.declared.rule.Rule.TheVariants as rule
 use Rattle.away_names.specs.declared.note.File.{File}
 use Rattle.away_names.specs.declared.note.Times.{Times}
-use Rattle.away_names.specs.Files.{file}
 use Rattle.away_names.specs.Notes.{joined, breaks}
 use Rattle.away_typing.specs.ParameterLists.{params_of, with_query}
 use Rattle.away_typing.specs.Parameters.{no_params}
@@ -30,7 +29,7 @@ use Rattle.sql_meaning.specs.Equations.{recursive_part}
 use Rattle.sql_meaning.specs.Meaning.{rows_of_query}
 use Rattle.sql_meaning.specs.Working.{Bounded, rows, answered, answer_of_rows, over_table, recursive_table}
 use Rattle.sql_meaning.proofs.Nodes.{rows_plain, rows_recursive, rows_union}
-use Rattle.away_types.specs.CheckedQueries.{IsCheckedQuery}
+use Rattle.away_types.specs.CheckedQueries.{IsCheckedQuery, resolved_file}
 use Rattle.type_soundness.specs.Arguments.{Supplied, standing, all, maybe}
 use Rattle.type_soundness.specs.Sorts.{IsOf}
 use Rattle.type_soundness.specs.Surroundings.{AreRows}
@@ -172,5 +171,5 @@ typed s written checked params first h = record {
     are : (tables : List Rows) (args : List Value) (k : ℕ) (out : Rows) → FitsSchema s tables → Supplied args params → rows checked tables args k ≡ Some (Ok out) → AreRows (first ∷ ty.Text ∷ []) out
     are tables args k out fits supplied e =
         subst (λ t. AreRows (t ∷ ty.Text ∷ []) out) (sym h.first_is)
-        (of_file s (file s written) h.unbroken tables args k out fits (subst (Supplied args) h.params_are supplied)
+        (of_file s (resolved_file s written) h.unbroken tables args k out fits (subst (Supplied args) h.params_are supplied)
         (ap (λ q. rows q tables args k) (sym h.query) ∙ e))

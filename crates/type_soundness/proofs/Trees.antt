@@ -1,12 +1,13 @@
 -- In every tree values are of their kinds, and rows of the types of their columns.
 use Rattle.std.proofs.Common.{◌≡◌, refl, sym, subst, ℕ, Bool, true, false, ◌&&◌, List, [], ◌∷◌, ◌++◌, slice_index_or, Option, Some, None, option_map}
-use Rattle.std.specs.Prelude.{if◌then◌else◌, slice_get, length, ◌==◌}
+use Rattle.std.specs.Prelude.{if◌then◌else◌, slice_get, length, is_some, ◌==◌}
 use Rattle.std.specs.List.{list_all}
 use Rattle.away_values.specs.declared.types.Ty.{Ty}
 use Rattle.away_values.specs.declared.types.Ty.TheVariants as ty
 use Rattle.away_values.specs.declared.values.Value.{Value}
 use Rattle.away_values.specs.declared.values.Value.TheVariants as val
 use Rattle.away_values.specs.declared.operators.ChainOp.{ChainOp}
+use Rattle.away_values.specs.Operators.{literal_type}
 use Rattle.away_values.specs.Results.{and_then}
 use Rattle.away_trees.specs.declared.queries.Expr.{Expr}
 use Rattle.away_trees.specs.declared.queries.Query.{Query}
@@ -27,10 +28,9 @@ use Rattle.type_soundness.specs.Sorts.{IsOf, Every}
 use Rattle.type_soundness.specs.Surroundings.{AreRows, IsFrame, IsOfGroup, Fit}
 use Rattle.type_soundness.specs.TypedValues.{Holds}
 use Rattle.type_soundness.proofs.Calls.{At, AllAt, OverRows, call_holds}
-use Rattle.type_soundness.proofs.KindRules.{of_type_holds}
 use Rattle.type_soundness.proofs.Lists.{every_left, every_right, zipped}
 use Rattle.type_soundness.proofs.Nodes as nodes
-use Rattle.type_soundness.proofs.Operators.{typed_ok}
+use Rattle.type_soundness.proofs.Operators.{typed_ok, literal_typed}
 use Rattle.type_soundness.proofs.Places.{at_holds, rows_at, column_holds, fit_inside, fit_at_row, before_seen}
 use Rattle.type_soundness.proofs.Results.{then_of, ok_is}
 use Rattle.type_soundness.proofs.Selects.{IsListed, PartAt, some_of, some_is, product_at, every_kept, every_cut, listed_at}
@@ -127,20 +127,20 @@ table_at columns p cx f ts e = rows_at p.tables cx.tables f.tables (meant.place_
 
 -- ---- a select
 
-record Chosen (list : List Kind) (ks : List Kind) : Type 0 where
-  all_right : list_all is_right list ≡ true
-  same : ks ≡ list
+pub record Chosen (list : List Kind) (ks : List Kind) : Type 0 where
+  pub all_right : list_all is_right list ≡ true
+  pub same : ks ≡ list
 
 both_parts : (a b : Bool) → (a && b) ≡ true → (a ≡ true) × (b ≡ true)
 both_parts true b h = (refl, h)
 both_parts false b h = cc
 
-kinds_of : (list : List Kind) (filter : Option Kind) (order : List Kind) (limit : Option Kind) (ks : List Kind) → typing.select_kinds list filter order limit ≡ Some ks → Chosen list ks
+pub kinds_of : (list : List Kind) (filter : Option Kind) (order : List Kind) (limit : Option Kind) (ks : List Kind) → typing.select_kinds list filter order limit ≡ Some ks → Chosen list ks
 unfolding typing.select_kinds
-kinds_of list filter order limit ks e = by (typing.maybe_fits ty.Boolean filter && (list_all is_right list && (list_all is_right order && typing.maybe_fits ty.Bigint limit))) refl e
+kinds_of list filter order limit ks e = by (typing.maybe_fits ty.Boolean filter && (list_all is_right list && (list_all is_right order && typing.maybe_number limit))) refl e
   where
-    by : (b : Bool) → (typing.maybe_fits ty.Boolean filter && (list_all is_right list && (list_all is_right order && typing.maybe_fits ty.Bigint limit))) ≡ b → (if b then Some list else None) ≡ Some ks → Chosen list ks
-    by true h e = record { all_right = (both_parts (list_all is_right list) (list_all is_right order && typing.maybe_fits ty.Bigint limit) (both_parts (typing.maybe_fits ty.Boolean filter) _ h).1).0; same = some_is list ks e }
+    by : (b : Bool) → (typing.maybe_fits ty.Boolean filter && (list_all is_right list && (list_all is_right order && typing.maybe_number limit))) ≡ b → (if b then Some list else None) ≡ Some ks → Chosen list ks
+    by true h e = record { all_right = (both_parts (list_all is_right list) (list_all is_right order && typing.maybe_number limit) (both_parts (typing.maybe_fits ty.Boolean filter) _ h).1).0; same = some_is list ks e }
     by false h e = cc
 
 select_at : (l₁ : List typing.Term) (l₂ : List Params) (l₃ : List ExprMeaning) (f₁ : List typing.Part) (f₂ : List Params) (f₃ : List FromMeaning) (w₁ : Option typing.Term) (w₃ : Option ExprMeaning) (o₁ : List typing.Term) (o₃ : List KeyMeaning) (m₁ : Option typing.Term) (m₃ : Option ExprMeaning) →
@@ -156,13 +156,19 @@ select_at l₁ l₂ l₃ f₁ f₂ f₃ w₁ w₃ o₁ o₃ m₁ m₃ lr fr p cx
     let listed = listed_at p cx a.x l₁ l₃ fit (λ here same f. exprs (typing.inside a.x p) here f l₁ l₂ l₃ lr (subst (λ args. Supplied args (all l₂)) (sym same) ls)) o₃ c.all_right y.x some_ z.x z.first in
     subst (λ ks. Every (IsListed ks) rows) (sym c.same) (every_cut (IsListed (typing.kinds (typing.inside a.x p) l₁)) cx m₃ z.x listed rows z.second)
 
+-- ---- a query, which has no recursive part where it has columns
+
+without_part : (b : Bool) (shape : typing.Shape) (ts : List Ty) → (if b then None else shape) ≡ Some ts → shape ≡ Some ts
+without_part true shape ts e = cc
+without_part false shape ts e = e
+
 -- ---- all steps
 
 steps : IsKept typing.typing standing meaning relation
 steps = record {
   no_expr = λ p cx f s v e. tt;
   no_query = λ p cx f s ts t rows e. cc;
-  int = λ n p cx f s v e. typed_ok ty.Bigint (val.Int n) v e tt;
+  int = λ n p cx f s v e. typed_ok (literal_type n) (val.Int n) v e (literal_typed n);
   str = λ t p cx f s v e. typed_ok ty.Text (val.Text t) v e tt;
   bool = λ b p cx f s v e. typed_ok ty.Boolean (val.Bool b) v e tt;
   null = λ p cx f s v e. ok_is val.Null v e;
@@ -170,9 +176,9 @@ steps = record {
   qualified = λ t u p cx f s v e. tt;
   slot = λ i p cx f s v e. subst (Holds (typing.kind_at (slice_get p.slots i))) (sym (ok_is _ v e)) (at_holds p.slots cx.env i f.variables);
   column = λ c p cx f s v e. subst (Holds (typing.column p.frames c)) (sym (ok_is _ v e)) (column_holds p.frames cx.frames c f.frames);
-  param = λ i t p cx f s v e. of_type_holds t v (typed_ok t (argument cx.args i) v e s.0);
+  param = λ i t p cx f s v e. typed_ok t (argument cx.args i) v e s.0;
   neg = λ x u z k p cx f s. nodes.neg_at p cx x z (k p cx f s);
-  neg_small = λ x u z k p cx f s v e. tt;
+  neg_small = λ x u z k p cx f s. nodes.neg_small_at p cx x z (k p cx f s);
   not = λ x u z k p cx f s. nodes.not_at p cx x z (k p cx f s);
   is = λ x u z test negative k p cx f s. nodes.is_at p cx x z test negative (k p cx f s);
   chain = λ x u z xs us zs k r p cx f s. nodes.chain_at p cx x z xs zs (k p cx f (left cx.args u (of_links us) s)) (links p cx f xs us zs r (right cx.args u (of_links us) s));
@@ -195,7 +201,8 @@ steps = record {
       select_at l₁ l₂ l₃ f₁ f₂ f₃ w₁ w₃ o₁ o₃ m₁ m₃ lr fr p cx f (left cx.args (all l₂) (all f₂ ++ (maybe w₂ ++ (all o₂ ++ maybe m₂))) s) (left cx.args (all f₂) (maybe w₂ ++ (all o₂ ++ maybe m₂)) rest);
   recursive = λ name columns xs us zs x u z r k. tt;
   query = λ x u z xs us zs h r p cx f s ts t rows e.
-      shape_at p cx (typing.union xs p) ts rows (λ all_ d. union_at p cx xs zs (listings p cx f xs us zs r (right cx.args (maybe u) (all us) s)) all_ d rows e) t;
+      shape_at p cx (typing.union xs p) ts rows (λ all_ d. union_at p cx xs zs (listings p cx f xs us zs r (right cx.args (maybe u) (all us) s)) all_ d rows e)
+      (without_part (is_some x) (typing.shape_of (typing.union xs p)) ts t);
 }
 
 pub expr_holds : (e : Expr) → Exprs (expr_of typing.typing e) (expr_of standing e) (expr_of meaning e)

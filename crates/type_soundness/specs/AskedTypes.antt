@@ -36,8 +36,13 @@ use Rattle.sql_meaning.specs.Meaning.{value}
 use Rattle.away_types.specs.declared.slots.Slot.{Slot}
 use Rattle.away_types.specs.CheckedFunctions.{IsChecked}
 use Rattle.away_types.specs.FunctionChecks.{asked_in, slot_types}
-use Rattle.select_into.specs.Entries.{Target, check_entries, target_types}
-use Rattle.select_into.specs.Wrapped.{pick, picked}
+use Rattle.select_into.specs.Entries.{
+  Target,
+  check_entries,
+  target_types,
+  pick_entry,
+  unmarked,
+}
 use Rattle.type_soundness.specs.Sorts.{IsOf, Every}
 use Rattle.type_soundness.specs.Surroundings.{Fit}
 
@@ -75,15 +80,16 @@ head kind.Plain = []
 head (kind.While e) = one Boolean e
 head (kind.Count var reverse first last step) = one Bigint first ++ (one Bigint last ++ maybe Bigint step)
 
--- from a place on, the picks of a select for targets
-abbrev pub picks : List Ty → List Target → ℕ → Select → Asked
-picks slots [] place q = []
-picks slots (t ∷ ts) place q = (slot_type slots t.1, pick q place) ∷ picks slots ts (place + 1) q
+-- from a place on, the picks for targets, each by its place
+abbrev pub picks : List Ty → (ℕ → Expr) → List Target → ℕ → Asked
+picks slots pick [] place = []
+picks slots pick (t ∷ ts) place =
+    (slot_type slots t.1, pick place) ∷ picks slots pick ts (place + 1)
 
 abbrev pub into : List Ty → Bool → List Target → Select → Asked
 into slots strict targets q =
-    map (λ e. (Some Boolean, e)) (check_entries strict q)
-    ++ picks slots targets 0 (picked (target_types slots targets) q)
+    map (λ e. (Some Boolean, e)) (check_entries strict (unmarked q))
+    ++ picks slots (pick_entry (target_types slots targets) q) targets 0
 
 -- The default of a declaration and what is assigned have the variable's type, conditions are
 -- boolean, the bounds and the step of a FOR bigint, and what is returned has the type of the

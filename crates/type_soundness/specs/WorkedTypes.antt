@@ -8,7 +8,12 @@ use Rattle.away_trees.specs.declared.queries.Expr.{Expr}
 use Rattle.away_trees.specs.declared.queries.Expr.TheVariants as expr
 use Rattle.away_trees.specs.declared.queries.Query.{Query}
 use Rattle.away_trees.specs.declared.queries.Select.{Select}
-use Rattle.away_trees.specs.declared.queries.Expr.TheViews.{roll-Recursive, roll-Query}
+use Rattle.away_trees.specs.declared.queries.Expr.TheViews.{
+  roll-Item,
+  roll-Recursive,
+  roll-Query,
+  roll-Select,
+}
 use Rattle.away_trees.specs.declared.statements.Function.{Function}
 use Rattle.away_trees.specs.declared.statements.LoopKind.TheVariants as kind
 use Rattle.away_trees.specs.declared.statements.Stmt.TheVariants as stmt
@@ -83,6 +88,20 @@ asked_of_into =
     into (ty.Text ∷ ty.Bigint ∷ []) true ((codes "b", Some 1) ∷ (codes "a", Some 0) ∷ [])
     one_and_null
 
+-- SELECT 1 INTO d of a bigint, whose item is marked as one of the other type of numbers
+abbrev one_marked : Select
+one_marked =
+    roll-Select (record {
+      list = roll-Item (record { expr = n 1; alias = Some (codes "d") }) ∷ [];
+      from = [];
+      filter = None;
+      order = [];
+      limit = None;
+    })
+
+abbrev pub asked_of_marked : Asked
+asked_of_marked = into (ty.Bigint ∷ []) false ((codes "d", Some 0) ∷ []) one_marked
+
 -- ---- parameters
 
 -- WITH RECURSIVE r AS (SELECT $1::bigint UNION ALL SELECT $2::bigint WHERE $3::boolean) SELECT
@@ -109,6 +128,8 @@ pub record WorkedTypes : Type 0 where
       ∷ (Some ty.Bigint, pick with_its_type 0)
       ∷ (Some ty.Text, pick with_its_type 1)
       ∷ []
+  pub marked_asks : asked_of_marked
+      ≡ (Some ty.Bigint, expr.Cast (pick (select (n 1 ∷ []) [] None) 0) ty.Bigint) ∷ []
   pub parameters : params_in_query with_parameters ≡ (1, ty.Bigint) ∷ (2, ty.Bigint) ∷ (3, ty.Boolean) ∷ (4, ty.Text) ∷ []
   pub supplied : Supplied (val.Int (pos 7) ∷ []) ((1, ty.Bigint) ∷ [])
   pub not_supplied : Supplied (val.Int (pos 7) ∷ []) ((1, ty.Text) ∷ []) → ⊥

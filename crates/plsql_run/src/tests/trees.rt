@@ -113,7 +113,8 @@ fn unboxed(rt: &(impl Abort + AllocGlobal), params: usize, body: Stmt) -> Functi
 }
 
 /// SELECT of the first column of the first table.
-pub(crate) fn first_column(rt: &(impl Abort + AllocGlobal)) -> Select {
+/// The alias marks that its value is converted.
+pub(crate) fn first_column(rt: &(impl Abort + AllocGlobal), alias: Option<Name>) -> Select {
     let column = Expr::Column(Col {
         level: 0,
         item: 0,
@@ -126,7 +127,7 @@ pub(crate) fn first_column(rt: &(impl Abort + AllocGlobal)) -> Select {
     };
     let item = Item {
         expr: column,
-        alias: None,
+        alias,
     };
     Select {
         list: one(rt, item),

@@ -1,5 +1,8 @@
+use Rattle.std.proofs.Common.{rules, ◌≡◌}
+use Rattle.away_values.specs.Operators.{literal_type}
+use Rattle.tree_events.specs.declared.events.Kind.TheVariants as kind
 use Rattle.cte_reads.specs.Placing.{slot_column_in}
-use Rattle.cte_reads.proofs.OneByOne.{then_reads, as_reads}
+use Rattle.cte_reads.proofs.OneByOne.{as_reads}
 use Rattle.cte_reads.proofs.PlacedInOrder.{stays, slot_stands, number_stands, truth_stands, text_stands}
 use Rattle.cte_reads.proofs.lets.placed_node.Goals as goal
 
@@ -9,15 +12,16 @@ returns-in-Slot c =
 
 pub returns-in-Int : goal.returns-in-Int
 returns-in-Int c =
-    as_reads (number_stands (slot_column_in c.args.depth c.args.slots.now c.args.refs.now) c.args.kind c.in-Int.field-0 c.in-Int.is) (then_reads c.open_literal.ensures c.close.ensures)
+    let cast : c.number_cast.result ≡ kind.Cast (literal_type c.in-Int.n) = search rules in
+    as_reads (number_stands (slot_column_in c.args.depth c.args.slots.now c.args.refs.now) c.args.kind c.number_cast.result c.in-Int.n c.in-Int.is cast) c.whole_literal.ensures
 
 pub returns-in-Bool : goal.returns-in-Bool
 returns-in-Bool c =
     as_reads (truth_stands (slot_column_in c.args.depth c.args.slots.now c.args.refs.now) c.args.kind c.in-Bool.field-0 c.in-Bool.is)
-    (then_reads c.open_literal-in-Bool.ensures c.close-in-Bool.ensures)
+    c.whole_literal-in-Bool.ensures
 
 pub returns-in-Str : goal.returns-in-Str
-returns-in-Str c = as_reads (text_stands (slot_column_in c.args.depth c.args.slots.now c.args.refs.now) c.args.kind c.in-Str.is) c.open_literal-in-Str.ensures
+returns-in-Str c = as_reads (text_stands (slot_column_in c.args.depth c.args.slots.now c.args.refs.now) c.args.kind c.in-Str.is) c.open_literal.ensures
 
 pub returns-in_default : goal.returns-in_default
 returns-in_default c =

@@ -7,7 +7,7 @@ use Rattle.away_typing.specs.ParameterLists.{with_expr}
 use Rattle.block_forms.specs.Expressions.{expressions}
 use Rattle.block_forms.specs.Places.{Each}
 use Rattle.cte_types.specs.TreeLaws.{HasNoParameter}
-use Rattle.cte_types.proofs.NoParameters.{checked_quiet}
+use Rattle.cte_types.proofs.CheckedParameters.{checked_quiet}
 use Rattle.cte_types.proofs.trees.expressions_have_no_parameters.Goals as goal
 
 none : (schema : Schema) (written f : Function) (slots : List Slot) → IsChecked schema written f slots → Each HasNoParameter (expressions f)

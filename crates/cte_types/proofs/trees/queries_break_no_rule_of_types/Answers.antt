@@ -20,28 +20,30 @@ use Rattle.cte_types.proofs.CallTypes.{calls_keep}
 use Rattle.cte_types.proofs.CheckedFacts.{facts}
 use Rattle.cte_types.proofs.FormTypes.{terms_typed}
 use Rattle.cte_types.specs.Whole.{IsTypable}
-use Rattle.cte_types.proofs.FormsJudged.{AreTyped, clean}
-use Rattle.cte_types.proofs.NoParameters.{checked_quiet}
+use Rattle.cte_types.proofs.FormsJudged.{AreTyped, clean, typed}
+use Rattle.cte_types.proofs.CheckedParameters.{checked_quiet}
 use Rattle.cte_types.proofs.trees.queries_break_no_rule_of_types.Goals as goal
 
-typed : (schema : Schema) (written f : Function) (slots : List Slot) (g : Goto) (z : Ssa) (a : Anf) (r : Tail) (count params : ℕ)
+are_typed : (schema : Schema) (written f : Function) (slots : List Slot) (g : Goto) (z : Ssa) (a : Anf) (r : Tail) (count params : ℕ)
     → IsChecked schema written f slots
-    → Lowered f slots g → Named count params g z → Called g z a → Merged g a r → Columned slots z a r → IsTypable schema f slots r
+    → Lowered f slots g → Named count params g z → Called g z a → Merged g a r → Columned slots z a r → IsTypable schema f
     → AreTyped schema f slots g z a r
 unfolding with_expr
-typed schema written f slots g z a r count params checked low named called merged columned h = record {
+are_typed schema written f slots g z a r count params checked low named called merged columned h = record {
   few = h.few;
-  types = h.types;
-  columns = h.columns;
   linked = h.linked;
   parameters = checked_quiet schema written f slots checked;
   columned = columned;
   entry = merged.entry;
   trees = labels_have_trees slots g z a r (expressions f) called columned (terms_fit f slots g low count params z named a called) merged;
-  terms = terms_typed schema f slots (facts schema written f slots checked) h.types h.items g low count params z named a called;
+  terms = terms_typed schema f slots (facts schema written f slots checked) h.items g low count params z named a called;
   calls = calls_keep slots g z a count params named called;
 }
 
-pub returns : goal.returns
-returns c = λ schema written f slots g z a r count params checked low named called merged columned h names same unbroken first second.
-    clean schema f slots g z a r (typed schema written f slots g z a r count params checked low named called merged columned h) names same unbroken first second
+pub returns-clause-typed : goal.returns-clause-typed
+returns-clause-typed c = λ schema written f slots g z a r count params checked low named called merged columned h.
+    typed schema f slots g z a r (are_typed schema written f slots g z a r count params checked low named called merged columned h)
+
+pub returns-clause-unbroken : goal.returns-clause-unbroken
+returns-clause-unbroken c = λ schema written f slots g z a r count params checked low named called merged columned h names same unbroken first second.
+    clean schema f slots g z a r (are_typed schema written f slots g z a r count params checked low named called merged columned h) names same unbroken first second

@@ -180,7 +180,7 @@ returns-in-Into-clause-runs c =
     let env = c.args.env.now in
     let at = c.args.at in
     goes_as set fs c.select_into.new.env c.select_into.result (λ n. sym (ap (λ s. unwound set fs ((meaning set s).run at env n)) c.in-Into.is))
-    (ended_goes set fs (λ env n. into set c.in-Into.strict c.in-Into.targets (set.rows c.in-Into.query env) env n) env c.select_into.new.env c.select_into.result (subst (λ ts. Ended (λ env n. into set c.in-Into.strict ts (set.rows c.in-Into.query env) env n) env c.select_into.new.env c.select_into.result) c.as_slice-in-Into.ensures c.select_into.ensures))
+    (ended_goes set fs (λ env n. into set c.in-Into.strict c.in-Into.targets c.in-Into.query (set.rows c.in-Into.query env) env n) env c.select_into.new.env c.select_into.result (subst (λ ts. Ended (λ env n. into set c.in-Into.strict ts c.in-Into.query (set.rows c.in-Into.query env) env n) env c.select_into.new.env c.select_into.result) c.as_slice-in-Into.ensures c.select_into.ensures))
 
 pub returns-in-Into-clause-ends : goal.returns-in-Into-clause-ends
 returns-in-Into-clause-ends c = ends_anyway c.select_into.result (omega (arith, ap nodes_of c.in-Into.is ∙ into_nodes c.in-Into.strict c.in-Into.targets c.in-Into.query))

@@ -15,4 +15,7 @@ returns c = record {
   typed = refl;
   strict = refl;
   lenient = refl;
+  converted = refl;
+  cast_fits = refl;
+  cast_fails = refl;
 }

@@ -1,7 +1,7 @@
 use Rattle.std.proofs.Common.{◌≡◌, refl, ap, ◌<◌, List, [], ◌∷◌, length, Ok, arith}
 use Rattle.away_values.specs.declared.values.Value.{Value}
 use Rattle.away_values.specs.declared.values.Value.TheVariants as val
-use Rattle.away_values.specs.Operators.{length_of, substr}
+use Rattle.away_values.specs.Operators.{length_of, small, substr}
 use Rattle.sql_meaning.specs.Context.{at}
 use Rattle.sql_meaning.proofs.GivesRules.{gives_ok}
 use Rattle.sql_eval.proofs.functions.scalar.Goals as goal
@@ -26,7 +26,7 @@ no_part (v ∷ w ∷ []) h = no_length v w
 no_part (v ∷ w ∷ x ∷ vs) h = absurd (omega arith)
 
 pub returns-in-empty : goal.returns-in-empty
-returns-in-empty c = rw c.in-Length.is (gives_ok _ _ (ap (λ v. Ok v) (no_text _ c.in-empty.len_below)))
+returns-in-empty c = rw c.in-Length.is (gives_ok _ _ (ap small (no_text _ c.in-empty.len_below)))
 
 pub returns-in_default-list : goal.returns-in_default-list
 returns-in_default-list c = rw c.in-Substr.is (gives_ok _ _ (no_part _ c.in_default-list.len_below))

@@ -10,6 +10,7 @@ unfolding s.hidden-the_row-Stmt-0 s.hidden-the_row-Arm-1 b.hidden-the_row-Expr-0
 returns c = record {
   asked = refl;
   into_asks = refl;
+  marked_asks = refl;
   parameters = refl;
   supplied = (tt, tt);
   not_supplied = λ h. h.0;

@@ -1,0 +1,367 @@
+//! The type integer: functions and their queries answer the same, and what breaks a rule is refused.
+
+use crate::compiled::{all_answer, all_are_certified, refused_by};
+use std::test::Fail;
+
+/// A function, its arguments, the turns and the iterations, and the status and the line of both.
+static ROWS: [(&str, &[&str], &str, &str, u8, &str); 40] = [
+    (
+        "CREATE FUNCTION f(a integer) RETURNS integer LANGUAGE plpgsql AS $$ BEGIN RETURN a + 1; END; $$",
+        &["2147483646"],
+        "0",
+        "1000",
+        0,
+        "value 2147483647\n",
+    ),
+    (
+        "CREATE FUNCTION f(a integer) RETURNS integer LANGUAGE plpgsql AS $$ BEGIN RETURN a + 1; END; $$",
+        &["2147483647"],
+        "0",
+        "1000",
+        7,
+        "fault 22003\n",
+    ),
+    (
+        "CREATE FUNCTION f(a integer) RETURNS integer LANGUAGE plpgsql AS $$ BEGIN RETURN a + 1; END; $$",
+        &["2147483648"],
+        "0",
+        "1000",
+        2,
+        "usage\n",
+    ),
+    (
+        "CREATE FUNCTION f(a bigint) RETURNS integer LANGUAGE plpgsql AS $$ DECLARE x integer; BEGIN x := a; RETURN x; END; $$",
+        &["-2147483648"],
+        "0",
+        "1000",
+        0,
+        "value -2147483648\n",
+    ),
+    (
+        "CREATE FUNCTION f(a bigint) RETURNS integer LANGUAGE plpgsql AS $$ DECLARE x integer; BEGIN x := a; RETURN x; END; $$",
+        &["3000000000"],
+        "0",
+        "1000",
+        7,
+        "fault 22003\n",
+    ),
+    (
+        "CREATE FUNCTION f() RETURNS bigint LANGUAGE plpgsql AS $$ BEGIN RETURN 2147483647 + 1; END; $$",
+        &[],
+        "0",
+        "1000",
+        7,
+        "fault 22003\n",
+    ),
+    (
+        "CREATE FUNCTION f() RETURNS bigint LANGUAGE plpgsql AS $$ BEGIN RETURN 2147483648 + 1; END; $$",
+        &[],
+        "0",
+        "1000",
+        0,
+        "value 2147483649\n",
+    ),
+    (
+        "CREATE FUNCTION f(a integer) RETURNS integer LANGUAGE plpgsql STRICT AS $$ BEGIN RETURN a; END; $$",
+        &["\\N"],
+        "0",
+        "1000",
+        0,
+        "null\n",
+    ),
+    (
+        "CREATE FUNCTION f() RETURNS integer LANGUAGE plpgsql AS $$ BEGIN RETURN -2147483648::integer; END; $$",
+        &[],
+        "0",
+        "1000",
+        7,
+        "fault 22003\n",
+    ),
+    (
+        "CREATE FUNCTION f() RETURNS integer LANGUAGE plpgsql AS $$ BEGIN RETURN CAST(-2147483648 AS integer); END; $$",
+        &[],
+        "0",
+        "1000",
+        0,
+        "value -2147483648\n",
+    ),
+    (
+        "CREATE FUNCTION f() RETURNS bigint LANGUAGE plpgsql AS $$ DECLARE x bigint := 2000000000 + 2000000000; BEGIN RETURN x; END; $$",
+        &[],
+        "0",
+        "1000",
+        7,
+        "fault 22003\n",
+    ),
+    (
+        "CREATE FUNCTION f() RETURNS bigint LANGUAGE plpgsql AS $$ DECLARE x bigint := 2000000000 + 2000000000::bigint; BEGIN RETURN x; END; $$",
+        &[],
+        "0",
+        "1000",
+        0,
+        "value 4000000000\n",
+    ),
+    (
+        "CREATE FUNCTION f(a integer, b integer) RETURNS integer LANGUAGE plpgsql AS $$ BEGIN RETURN -a; END; $$",
+        &["-2147483648", "-1"],
+        "0",
+        "1000",
+        7,
+        "fault 22003\n",
+    ),
+    (
+        "CREATE FUNCTION f(a integer, b integer) RETURNS integer LANGUAGE plpgsql AS $$ BEGIN RETURN a / b; END; $$",
+        &["-2147483648", "-1"],
+        "0",
+        "1000",
+        7,
+        "fault 22003\n",
+    ),
+    (
+        "CREATE FUNCTION f(a integer, b integer) RETURNS integer LANGUAGE plpgsql AS $$ BEGIN RETURN a % b; END; $$",
+        &["-2147483648", "-1"],
+        "0",
+        "1000",
+        0,
+        "value 0\n",
+    ),
+    (
+        "CREATE FUNCTION f() RETURNS bigint LANGUAGE plpgsql AS $$ BEGIN RETURN 2147483647 + 1 + NULL; END; $$",
+        &[],
+        "0",
+        "1000",
+        7,
+        "fault 22003\n",
+    ),
+    (
+        "CREATE FUNCTION f() RETURNS bigint LANGUAGE plpgsql AS $$ BEGIN RETURN NULL + 2147483647 + 1; END; $$",
+        &[],
+        "0",
+        "1000",
+        0,
+        "null\n",
+    ),
+    (
+        "CREATE FUNCTION f() RETURNS bigint LANGUAGE plpgsql AS $$ BEGIN RETURN 2147483647 + (NULL + NULL) + 1; END; $$",
+        &[],
+        "0",
+        "1000",
+        0,
+        "null\n",
+    ),
+    (
+        "CREATE FUNCTION f() RETURNS bigint LANGUAGE plpgsql AS $$ BEGIN RETURN COALESCE(NULL + NULL, 2147483647) + 1; END; $$",
+        &[],
+        "0",
+        "1000",
+        0,
+        "value 2147483648\n",
+    ),
+    (
+        "CREATE FUNCTION f() RETURNS bigint LANGUAGE plpgsql AS $$ BEGIN RETURN 2147483648 - 1 + 2147483647 + 1; END; $$",
+        &[],
+        "0",
+        "1000",
+        0,
+        "value 4294967295\n",
+    ),
+    (
+        "CREATE FUNCTION f() RETURNS bigint LANGUAGE plpgsql AS $$ BEGIN RETURN 1 + 2147483647 + 2147483648; END; $$",
+        &[],
+        "0",
+        "1000",
+        7,
+        "fault 22003\n",
+    ),
+    (
+        "CREATE FUNCTION f() RETURNS bigint LANGUAGE plpgsql AS $$ BEGIN RETURN CASE WHEN TRUE THEN 2147483647 ELSE 3000000000 END + 1; END; $$",
+        &[],
+        "0",
+        "1000",
+        0,
+        "value 2147483648\n",
+    ),
+    (
+        "CREATE FUNCTION f() RETURNS bigint LANGUAGE plpgsql AS $$ BEGIN RETURN COALESCE(2147483647, NULL) + 1; END; $$",
+        &[],
+        "0",
+        "1000",
+        7,
+        "fault 22003\n",
+    ),
+    (
+        "CREATE FUNCTION f(q bigint) RETURNS integer LANGUAGE plpgsql AS $$ DECLARE b bigint NOT NULL := 1; a integer; BEGIN SELECT NULL, q INTO b, a; RETURN a; END; $$",
+        &["3000000000"],
+        "0",
+        "1000",
+        7,
+        "fault 22003\n",
+    ),
+    (
+        "CREATE FUNCTION f(q bigint) RETURNS integer LANGUAGE plpgsql AS $$ DECLARE b bigint NOT NULL := 1; a integer; BEGIN SELECT NULL, q INTO b, a; RETURN a; END; $$",
+        &["3"],
+        "0",
+        "1000",
+        7,
+        "fault 22004\n",
+    ),
+    (
+        "CREATE FUNCTION f() RETURNS integer LANGUAGE plpgsql AS $$ DECLARE x integer; BEGIN SELECT n.b + 3000000000 INTO STRICT x FROM n; RETURN x; END; $$",
+        &[],
+        "0",
+        "1000",
+        7,
+        "fault P0003\n",
+    ),
+    (
+        "CREATE FUNCTION f() RETURNS integer LANGUAGE plpgsql AS $$ DECLARE x integer; BEGIN SELECT n.b INTO x FROM n; RETURN x; END; $$",
+        &[],
+        "0",
+        "1000",
+        0,
+        "value 1\n",
+    ),
+    (
+        "CREATE FUNCTION f() RETURNS integer LANGUAGE plpgsql AS $$ DECLARE x integer; BEGIN SELECT n.b INTO x FROM n ORDER BY n.i DESC; RETURN x; END; $$",
+        &[],
+        "0",
+        "1000",
+        7,
+        "fault 22003\n",
+    ),
+    (
+        "CREATE FUNCTION f() RETURNS bigint LANGUAGE plpgsql AS $$ DECLARE x bigint; y bigint; z text; BEGIN SELECT n.i, n.b, NULL INTO x, y, z FROM n; RETURN x + y; END; $$",
+        &[],
+        "0",
+        "1000",
+        0,
+        "value 2\n",
+    ),
+    (
+        "CREATE FUNCTION f() RETURNS bigint LANGUAGE plpgsql AS $$ DECLARE x bigint; BEGIN SELECT n.i * 2147483647 INTO x FROM n WHERE n.i = 2; RETURN x; END; $$",
+        &[],
+        "0",
+        "1000",
+        7,
+        "fault 22003\n",
+    ),
+    (
+        "CREATE FUNCTION f() RETURNS integer LANGUAGE plpgsql AS $$ DECLARE x integer; BEGIN SELECT sum(n.i) INTO x FROM n; RETURN x; END; $$",
+        &[],
+        "0",
+        "1000",
+        0,
+        "value 3\n",
+    ),
+    (
+        "CREATE FUNCTION f() RETURNS integer LANGUAGE plpgsql AS $$ DECLARE x integer; BEGIN SELECT CAST(sum(n.b) AS bigint) INTO x FROM n; RETURN x; END; $$",
+        &[],
+        "0",
+        "1000",
+        7,
+        "fault 22003\n",
+    ),
+    (
+        "CREATE FUNCTION f() RETURNS bigint LANGUAGE plpgsql AS $$ BEGIN RETURN (SELECT sum(n.i) + 2147483647 FROM n); END; $$",
+        &[],
+        "0",
+        "1000",
+        0,
+        "value 2147483650\n",
+    ),
+    (
+        "CREATE FUNCTION f() RETURNS bigint LANGUAGE plpgsql AS $$ BEGIN RETURN (SELECT max(n.i) + 2147483647 FROM n); END; $$",
+        &[],
+        "0",
+        "1000",
+        7,
+        "fault 22003\n",
+    ),
+    (
+        "CREATE FUNCTION f() RETURNS bigint LANGUAGE plpgsql AS $$ BEGIN RETURN length('abc') * 1000000000; END; $$",
+        &[],
+        "0",
+        "1000",
+        7,
+        "fault 22003\n",
+    ),
+    (
+        "CREATE FUNCTION f() RETURNS text LANGUAGE plpgsql AS $$ BEGIN RETURN substr('hello', 2147483647 + 1, 1); END; $$",
+        &[],
+        "0",
+        "1000",
+        7,
+        "fault 22003\n",
+    ),
+    (
+        "CREATE FUNCTION f() RETURNS text LANGUAGE plpgsql AS $$ BEGIN RETURN 'a' || 2147483647 + 1; END; $$",
+        &[],
+        "0",
+        "1000",
+        7,
+        "fault 22003\n",
+    ),
+    (
+        "CREATE FUNCTION f(int int) RETURNS int4 LANGUAGE plpgsql AS $$ BEGIN RETURN int; END; $$",
+        &["3"],
+        "0",
+        "1000",
+        0,
+        "value 3\n",
+    ),
+    (
+        "CREATE FUNCTION f(a bigint) RETURNS integer LANGUAGE plpgsql AS $$ DECLARE x integer NOT NULL := a; BEGIN RETURN x; END; $$",
+        &["\\N"],
+        "0",
+        "1000",
+        7,
+        "fault 22004\n",
+    ),
+    (
+        "CREATE FUNCTION f(a bigint) RETURNS integer LANGUAGE plpgsql AS $$ DECLARE x integer := a; BEGIN RETURN x; END; $$",
+        &["2147483648"],
+        "0",
+        "1000",
+        7,
+        "fault 22003\n",
+    ),
+];
+
+/// A function and the rule that it breaks.
+static REFUSED: [(&str, &str); 5] = [
+    (
+        "CREATE FUNCTION f() RETURNS integer LANGUAGE plpgsql AS $$ DECLARE x integer; BEGIN SELECT sum(n.b) INTO x FROM n; RETURN x; END; $$",
+        "refused f.sql X13\n",
+    ),
+    (
+        "CREATE FUNCTION f() RETURNS integer LANGUAGE plpgsql AS $$ DECLARE x integer; BEGIN SELECT CAST(sum(n.b) AS integer) INTO x FROM n; RETURN x; END; $$",
+        "refused f.sql X13\n",
+    ),
+    (
+        "CREATE FUNCTION f(a smallint) RETURNS bigint LANGUAGE plpgsql AS $$ BEGIN RETURN 1; END; $$",
+        "refused f.sql X3\n",
+    ),
+    (
+        "CREATE FUNCTION f(a integer) RETURNS boolean LANGUAGE plpgsql AS $$ BEGIN RETURN a::boolean; END; $$",
+        "refused f.sql X13\n",
+    ),
+    (
+        "CREATE FUNCTION f(a integer) RETURNS text LANGUAGE plpgsql AS $$ BEGIN RETURN a; END; $$",
+        "refused f.sql X13\n",
+    ),
+];
+
+#[test]
+fn functions_answer_as_their_queries(rt: HostRuntime) -> Result<(), Fail> {
+    all_answer(&rt, &ROWS)
+}
+
+#[test]
+fn certificates_are_accepted(rt: HostRuntime) -> Result<(), Fail> {
+    all_are_certified(&rt, &ROWS)
+}
+
+#[test]
+fn broken_rules_are_told(rt: HostRuntime) -> Result<(), Fail> {
+    refused_by(&rt, &REFUSED)
+}

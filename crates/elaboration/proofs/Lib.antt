@@ -1,0 +1,2 @@
+pub mod ElaboratingRules
+pub mod ConvertingRules

@@ -1,0 +1,15 @@
+pub mod Joint
+pub mod Plain
+pub mod Dotted
+pub mod Unmarked
+pub mod Typed
+pub mod Rebuilt
+pub mod Rights
+pub mod MarkedExpressions
+pub mod MarkedSelects
+pub mod Marked
+pub mod SmallRange
+pub mod Conversions
+pub mod ErasedMarks
+pub mod WholeMarked
+pub mod StatementsKept
