@@ -24,14 +24,14 @@ BEGIN
       before := distance;
       corner := above;
       CASE
-        WHEN substr(steps, CAST(j AS integer), 1) = 'u' THEN
+        WHEN substr(steps, j, 1) = 'u' THEN
           above := above + 1;
-        WHEN substr(steps, CAST(j AS integer), 1) = 'd' THEN
+        WHEN substr(steps, j, 1) = 'd' THEN
           above := above - 1;
         ELSE
           NULL;
       END CASE;
-      distance := least(before + 1, above + 1, CASE WHEN substr(a, CAST(i AS integer), 1) = substr(b, CAST(j AS integer), 1) THEN corner ELSE corner + 1 END);
+      distance := least(before + 1, above + 1, CASE WHEN substr(a, i, 1) = substr(b, j, 1) THEN corner ELSE corner + 1 END);
       new_steps := new_steps || CASE WHEN distance > before THEN 'u' WHEN distance < before THEN 'd' ELSE 'e' END;
     END LOOP;
     steps := new_steps;

@@ -10,7 +10,7 @@ DECLARE
   letter text;
 BEGIN
   FOR place IN 1 .. length(input) LOOP
-    letter := substr(input, CAST(place AS integer), 1);
+    letter := substr(input, place, 1);
     SELECT edge.target INTO state
     FROM edge
     WHERE edge.source = state AND letter BETWEEN edge.low AND edge.high;

@@ -3,7 +3,7 @@
 -- shows nowhere.
 use Rattle.std.specs.Prelude.{true, false, List, [], ◌++◌, map, fold, length}
 use Rattle.away_values.specs.declared.types.Ty.{Ty}
-use Rattle.away_values.specs.declared.types.Ty.TheVariants.{Bigint}
+use Rattle.away_values.specs.declared.types.Ty.TheVariants.{Integer}
 use Rattle.away_trees.specs.declared.schemas.Schema.{Schema}
 use Rattle.away_trees.specs.declared.statements.Function.{Function}
 use Rattle.away_trees.specs.declared.statements.Stmt.{Stmt}
@@ -64,7 +64,7 @@ asked_in s slots result = record { places = record { slots = slot_types slots; f
 -- what the expressions see, the type of the result, and that of the counters of FOR
 abbrev pub around_in : Schema → List Slot → Ty → Around
 around_in s slots result =
-    record { places = (asked_in s slots result).places; result = result; counter = Bigint }
+    record { places = (asked_in s slots result).places; result = result; counter = Integer }
 
 -- the operations marked, and each number converted to the type of its place
 abbrev pub converted_over : Schema → List Slot → Ty → Stmt → Stmt

@@ -19,7 +19,7 @@ use Rattle.std.specs.Prelude.{
   slice_get,
 }
 use Rattle.away_values.specs.declared.types.Ty.{Ty}
-use Rattle.away_values.specs.declared.types.Ty.TheVariants.{Bigint, Boolean}
+use Rattle.away_values.specs.declared.types.Ty.TheVariants.{Boolean, Integer}
 use Rattle.away_trees.specs.declared.queries.Expr.{Expr}
 use Rattle.away_trees.specs.declared.queries.Select.{Select}
 use Rattle.away_trees.specs.declared.statements.Arm.{Arm}
@@ -109,7 +109,9 @@ defaults ds a = all_notes (λ (d : Decl). maybe_asked a d.ty d.default) ds
 abbrev pub head_asked : LoopKind → Asked → Note
 head_asked kind.Plain a = clean
 head_asked (kind.While e) a = asked a Boolean e
-head_asked (kind.Count var reverse first last step) a = joined (asked a Bigint first) (joined (asked a Bigint last) (maybe_asked a Bigint step))
+head_asked (kind.Count var reverse first last step) a =
+    joined (asked a Integer first)
+    (joined (asked a Integer last) (maybe_asked a Integer step))
 
 abbrev pub statement : Stmt-F By By → By
 statement (st.Block label decls body closing) a = followed (own_with (length decls) (defaults decls a)) (all_by body a)

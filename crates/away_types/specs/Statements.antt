@@ -20,7 +20,7 @@ use Rattle.std.specs.Prelude.{
   option_and_then,
 }
 use Rattle.away_values.specs.declared.types.Ty.{Ty}
-use Rattle.away_values.specs.declared.types.Ty.TheVariants.{Bigint}
+use Rattle.away_values.specs.declared.types.Ty.TheVariants.{Bigint, Integer}
 use Rattle.away_trees.specs.declared.queries.Expr.{Expr}
 use Rattle.away_trees.specs.declared.queries.Select.{Select}
 use Rattle.away_trees.specs.declared.statements.Arm.{Arm}
@@ -95,7 +95,7 @@ with_slot ty not_null slots = record slots { shown = slots.shown ++ record { ty 
 -- the counter, the last value and the step of a FOR
 unfoldable pub with_hidden : Slots → Slots
 with_hidden slots =
-    let one : Slot = record { ty = Bigint; not_null = false } in
+    let one : Slot = record { ty = Integer; not_null = false } in
     record slots { hidden = slots.hidden ++ one ∷ one ∷ one ∷ [] }
 
 -- The type of the variable of a target. Where the target is none, which breaks a rule, it's bigint.
@@ -180,7 +180,7 @@ headed (kind.Count var reverse first last step) scope slots =
       it = kind.Count var reverse a.it b.it c.it;
       variables = with_variable var false slots scope.variables;
       note = joined (written scope var) (joined a.note (joined b.note c.note));
-      slots = with_hidden (with_slot Bigint false slots);
+      slots = with_hidden (with_slot Integer false slots);
     }
 
 -- the statements behind ELSE

@@ -149,7 +149,7 @@ fn converted_over(
             tables: columns.as_slice(),
         },
         result: answer,
-        counter: Ty::Bigint,
+        counter: Ty::Integer,
     };
     let x = converted(alloc, body, &a)?;
     Ok(Boxed::new(alloc, x)?)

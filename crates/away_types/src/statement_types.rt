@@ -146,9 +146,9 @@ fn head_asked(alloc: Global, kind: &LoopKind, a: &Asking<'_>) -> Result<Note, No
             step,
             ..
         } => {
-            let x = asked(alloc, a, Ty::Bigint, first)?;
-            let y = asked(alloc, a, Ty::Bigint, last)?;
-            let z = maybe_asked(alloc, a, Ty::Bigint, step)?;
+            let x = asked(alloc, a, Ty::Integer, first)?;
+            let y = asked(alloc, a, Ty::Integer, last)?;
+            let z = maybe_asked(alloc, a, Ty::Integer, step)?;
             Ok(joined(x, joined(y, z)))
         }
     }

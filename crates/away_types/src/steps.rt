@@ -301,7 +301,7 @@ pub fn headed(
             let c = named_maybe(alloc, step, s)?;
             let name = var.copy(alloc)?;
             let variables = with_variable(alloc, var, false, &slots, variables)?;
-            let slots = with_slot(Ty::Bigint, false, slots)?;
+            let slots = with_slot(Ty::Integer, false, slots)?;
             let head = LoopKind::Count {
                 var: name,
                 reverse: *reverse,

@@ -61,14 +61,13 @@ pub fn with_slot(ty: Ty, not_null: bool, slots: Slots) -> Result<Slots, NoMemory
     })
 }
 
-/// The counter, the last value and the step of a FOR.
-/// They are bigint, which is our own choice; the variable of the manual is an integer (43.6.5.5).
+/// The counter, the last value and the step of a FOR, which are integers, as its variable is. The manual: 43.6.5.5.
 #[tactic(auto, unfolding(crate::specs::Statements::with_hidden))]
 pub fn with_hidden(slots: Slots) -> Result<Slots, NoMemory>
     ensures { IfOk result (λ s. s ≡ spec.with_hidden slots) }
 {
     let one = Slot {
-        ty: Ty::Bigint,
+        ty: Ty::Integer,
         not_null: false,
     };
     let Slots {

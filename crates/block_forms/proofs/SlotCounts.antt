@@ -120,7 +120,7 @@ pub own_slots_counted : (f : Function) (slots : List Slot) → slots ≡ own_slo
 unfolding laid variables
 own_slots_counted f slots e =
     let params = map (λ (p : List ℕ × Ty). slot p.1) f.params in
-    let hidden = replicate (3 * (laid f.body).size.fors) (slot ty.Bigint) in
+    let hidden = replicate (3 * (laid f.body).size.fors) (slot ty.Integer) in
     let picked = map (hidden_slot (shown_types f)) (into_targets f.body) in
     omega (
       arith,
@@ -130,7 +130,7 @@ own_slots_counted f slots e =
       length-append hidden picked,
       length-map f.params (λ (p : List ℕ × Ty). slot p.1),
       length-map (into_targets f.body) (hidden_slot (shown_types f)),
-      length-replicate (3 * (laid f.body).size.fors) (slot ty.Bigint),
+      length-replicate (3 * (laid f.body).size.fors) (slot ty.Integer),
       statement_slots f.body,
       targets_counted f.body,
     )

@@ -105,7 +105,20 @@ forms_stand = record {
 
 pub table_is : WorkedTable
 unfolding sources variables b.hidden-the_row-Stmt-0 b.hidden-the_row-Arm-1 e.hidden-the_row-Expr-0 e.hidden-the_row-Expr-Chain-1-2-1 e.hidden-the_row-Select-5 e.hidden-the_row-Item-6 e.hidden-the_row-FromItem-7 e.hidden-the_row-Key-8 view.roll-Select view.roll-Query denote.Hole.Carrier.hidden denote.Hole.Carrier.roll view.out-Select denote.Hole.Carrier.out denote.Hole.Carrier.shown e.shown-the_row-Key-8
-table_is = record { first = refl; second = refl; last = refl; many = refl; strict = refl; picked = refl; converted = refl }
+table_is = record {
+  first = refl;
+  second = refl;
+  last = refl;
+  many = refl;
+  past_greatest = refl;
+  past_least = refl;
+  next_up = refl;
+  next_down = refl;
+  one = refl;
+  strict = refl;
+  picked = refl;
+  converted = refl;
+}
 
 pub runs_are : WorkedRuns
 unfolding sources variables b.hidden-the_row-Stmt-0 b.hidden-the_row-Arm-1 e.hidden-the_row-Expr-0 e.hidden-the_row-Expr-Chain-1-2-1 e.hidden-the_row-Select-5 e.hidden-the_row-Item-6 e.hidden-the_row-FromItem-7 e.hidden-the_row-Key-8 view.roll-Select view.roll-Query denote.Hole.Carrier.hidden denote.Hole.Carrier.roll view.out-Select denote.Hole.Carrier.out denote.Hole.Carrier.shown e.shown-the_row-Key-8

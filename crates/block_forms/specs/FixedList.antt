@@ -1,13 +1,13 @@
 -- The fixed list: expressions that patterns need and no function writes, over the slots a and b.
 -- One more entry is a word of Fixed with its expression, its slots and its place here, and a line
 -- of `entries`.
-use Rattle.std.specs.Prelude.{ℕ, pos, negsuc, ◌-◌, ◌^◌, Bool, true, false, List, [], ◌∷◌, map}
+use Rattle.std.specs.Prelude.{ℕ, pos, ◌-◌, ◌^◌, Bool, true, false, List, [], ◌∷◌, map}
 use Rattle.away_values.specs.declared.types.Ty.{Ty}
 use Rattle.away_values.specs.declared.types.Ty.TheVariants as ty
+use Rattle.away_values.specs.declared.operators.ChainOp.{ChainOp}
 use Rattle.away_values.specs.declared.operators.ChainOp.TheVariants as chain
 use Rattle.away_values.specs.declared.operators.CmpOp.{CmpOp}
 use Rattle.away_values.specs.declared.operators.CmpOp.TheVariants as cmp
-use Rattle.away_values.specs.declared.operators.IntOp.{IntOp}
 use Rattle.away_values.specs.declared.operators.IntOp.TheVariants as int
 use Rattle.away_values.specs.declared.operators.IsTest.TheVariants as is
 use Rattle.away_trees.specs.declared.queries.Expr.{Expr}
@@ -27,24 +27,31 @@ null_as t = expr.Cast expr.Null t
 abbrev pub a_is_null : Expr
 a_is_null = expr.Is a is.Null false
 
-abbrev pub of_two : IntOp → Expr → Expr → Expr
-of_two op x y = expr.Chain x ((chain.Int op, y) ∷ [])
+abbrev pub of_two : ChainOp → Expr → Expr → Expr
+of_two op x y = expr.Chain x ((op, y) ∷ [])
 
 abbrev pub compared : CmpOp → Expr → Expr → Expr
 compared op x y = expr.Compare op x y
 
--- what an entry computes
+abbrev pub greatest : Expr
+greatest = expr.Int (pos (2 ^ 31 - 1))
+
+-- the least integer, as it is written: the minus of a literal that is a bigint
+abbrev pub least : Expr
+least = expr.Neg (expr.Int (pos (2 ^ 31)))
+
+-- what an entry computes; the entries of FOR do so with integers
 abbrev pub expression : Fixed → Expr
 expression (fix.Null t) = null_as t
 expression (fix.IsNull t) = a_is_null
 expression fix.NotPositive = compared cmp.Le a (expr.Int (pos 0))
 expression fix.AtMost = compared cmp.Le a b
 expression fix.AtLeast = compared cmp.Ge a b
-expression fix.PastGreatest = compared cmp.Lt (of_two int.Sub (expr.Int (pos (2 ^ 63 - 1))) a) b
-expression fix.PastLeast = compared cmp.Gt (of_two int.Add (expr.Int (negsuc (2 ^ 63 - 1))) a) b
-expression fix.Sum = of_two int.Add a b
-expression fix.Difference = of_two int.Sub a b
-expression fix.One = expr.Cast (expr.Int (pos 1)) ty.Bigint
+expression fix.PastGreatest = compared cmp.Lt (of_two (chain.Small int.Sub) greatest a) b
+expression fix.PastLeast = compared cmp.Gt (of_two (chain.Int int.Add) least a) b
+expression fix.Sum = of_two (chain.Small int.Add) a b
+expression fix.Difference = of_two (chain.Small int.Sub) a b
+expression fix.One = expr.Int (pos 1)
 expression fix.Copy = a
 
 -- the slots that it reads, in the order of their first occurrence
@@ -110,7 +117,7 @@ abbrev pub fixed_list : List Expr
 fixed_list = map expression entries
 
 -- the entries of a FOR that counts down, or up: whether its counter is in range, whether a further
--- step would leave the numbers, and the counter of the next turn
+-- step would leave the integers, and the counter of the next turn
 abbrev pub in_range_entry : Bool → Fixed
 in_range_entry true = fix.AtLeast
 in_range_entry false = fix.AtMost

@@ -226,7 +226,8 @@ module _ (g : Goto) (n : Numbers) where
   abbrev pub bound_parts : ℕ → ℕ → Term → ℕ → List Part
   bound_parts b slot e next =
       own b (sets slot e (jump_of g b))
-      ∷ own (jump_of g b) (branches false (is_null n.fixed ty.Bigint slot) (yes_of g (jump_of g b)) next)
+      ∷ own (jump_of g b)
+      (branches false (is_null n.fixed ty.Integer slot) (yes_of g (jump_of g b)) next)
       ∷ shared (yes_of g (jump_of g b)) (fails null_not_allowed)
       ∷ []
 

@@ -51,7 +51,7 @@ of_else (Some body) = joined body
 abbrev pub of_kind : LoopKind → List Slot
 of_kind kind.Plain = []
 of_kind (kind.While _) = []
-of_kind (kind.Count _ _ _ _ _) = slot ty.Bigint ∷ []
+of_kind (kind.Count _ _ _ _ _) = slot ty.Integer ∷ []
 
 abbrev of_statement : Stmt-F (List Slot) (List Slot) → List Slot
 of_statement (st.Block _ decls body _) = declared_slots decls ++ joined body
@@ -96,5 +96,5 @@ hidden_slot types t = slot (type_of types t.1)
 abbrev pub own_slots : Function → List Slot
 own_slots f =
     shown_slots f
-    ++ (replicate (3 * (laid f.body).size.fors) (slot ty.Bigint)
+    ++ (replicate (3 * (laid f.body).size.fors) (slot ty.Integer)
     ++ map (hidden_slot (shown_types f)) (into_targets f.body))

@@ -60,8 +60,14 @@ as_bigint k = expr.Cast (literal k) ty.Bigint
 abbrev arithmetic : IntOp → Expr → Expr → Expr
 arithmetic op x y = expr.Chain x ((chain.Int op, y) ∷ [])
 
+abbrev small_arithmetic : IntOp → Expr → Expr → Expr
+small_arithmetic op x y = expr.Chain x ((chain.Small op, y) ∷ [])
+
 abbrev pub bigint : Slot
 bigint = record { ty = ty.Bigint; not_null = false }
+
+abbrev pub integer : Slot
+integer = record { ty = ty.Integer; not_null = false }
 
 -- sign_of(a bigint) RETURNS bigint: BEGIN IF a > 0 THEN RETURN 1; END IF; RETURN 2; END;
 abbrev pub sign_of : Function
@@ -157,7 +163,8 @@ count_up = record {
         not_null = true;
         default = Some (as_bigint 0);
       } ∷ [])
-      (stmt.Loop None (kind.Count (codes "i") false (as_bigint 1) (expr.Slot 0) None)
+      (stmt.Loop None
+      (kind.Count (codes "i") false (literal 1) (expr.Cast (expr.Slot 0) ty.Integer) None)
       (stmt.Exit None (Some (expr.Compare cmp.Gt (expr.Slot 1) (literal 9)))
       ∷ assign (codes "t") 1 (arithmetic int.Add (expr.Slot 1) (expr.Slot 2)) ∷ [])
       None
@@ -166,9 +173,16 @@ count_up = record {
 }
 
 abbrev pub count_up_slots : List Slot
-count_up_slots = bigint ∷ record { ty = ty.Bigint; not_null = true } ∷ bigint ∷ bigint ∷ bigint ∷ bigint ∷ []
+count_up_slots =
+    bigint
+    ∷ record { ty = ty.Bigint; not_null = true }
+    ∷ integer
+    ∷ integer
+    ∷ integer
+    ∷ integer
+    ∷ []
 
--- S is 6: 0, 1, a, t > 9, t + i, t
+-- S is 6: 0, 1, CAST(a AS integer), t > 9, t + i, t
 abbrev pub count_up_form : Goto
 count_up_form = record {
   entry = 0;
@@ -183,9 +197,9 @@ count_up_form = record {
       ∷ branches false (term 9 (1 ∷ [])) 6 7
       ∷ fails null_not_allowed
       ∷ sets 3 (term 1 []) 8
-      ∷ branches false (term 9 (3 ∷ [])) 6 9
+      ∷ branches false (term 22 (3 ∷ [])) 6 9
       ∷ sets 4 (term 2 (0 ∷ [])) 10
-      ∷ branches false (term 9 (4 ∷ [])) 6 11
+      ∷ branches false (term 22 (4 ∷ [])) 6 11
       ∷ sets 5 (term 19 []) 12
       ∷ branches true (term 13 (3 ∷ 4 ∷ [])) 13 19
       ∷ sets 2 (term 20 (3 ∷ [])) 14
@@ -244,13 +258,25 @@ pub record WorkedForms : Type 0 where
   pub slots_are : own_slots only_key ≡ only_key_slots
 
 -- The expressions of collatz are those of its text, in order: 0, n <> 1, n % 2 = 0, n / 2, 3 * n +
--- 1, steps + 1, steps; then seventeen fixed ones. A SELECT INTO has its tests and its picks, which
+-- 1, steps + 1, steps; then seventeen fixed ones, of which those of FOR are over integers: 2147483647
+-- - a < b, -2147483648 + a > b, a + b, a - b and 1. A SELECT INTO has its tests and its picks, which
 -- have a cast where the target has the other type of numbers.
 pub record WorkedTable : Type 0 where
   pub first : slice_get (expressions collatz) 0 ≡ Some (as_bigint 0)
   pub second : slice_get (expressions collatz) 1 ≡ Some (expr.Compare cmp.Ne (expr.Slot 0) (literal 1))
   pub last : slice_get (expressions collatz) 6 ≡ Some (expr.Slot 1)
   pub many : length (expressions collatz) ≡ 24
+  pub past_greatest : slice_get (expressions collatz) 16
+      ≡ Some (expr.Compare cmp.Lt
+      (small_arithmetic int.Sub (literal 2147483647) (expr.Slot 0)) (expr.Slot 1))
+  pub past_least : slice_get (expressions collatz) 17
+      ≡ Some (expr.Compare cmp.Gt
+      (arithmetic int.Add (expr.Neg (literal 2147483648)) (expr.Slot 0)) (expr.Slot 1))
+  pub next_up : slice_get (expressions collatz) 18
+      ≡ Some (small_arithmetic int.Add (expr.Slot 0) (expr.Slot 1))
+  pub next_down : slice_get (expressions collatz) 19
+      ≡ Some (small_arithmetic int.Sub (expr.Slot 0) (expr.Slot 1))
+  pub one : slice_get (expressions collatz) 20 ≡ Some (literal 1)
   pub strict : slice_get (expressions only_key) 1 ≡ Some (no_row key_of)
   pub picked : slice_get (expressions only_key) 3 ≡ Some (pick key_of 0)
   pub converted : slice_get (expressions narrowed) 0

@@ -1,6 +1,9 @@
 //! The expressions that patterns need and no function writes, over the slots 0 and 1.
 
 ghost use Rattle.std.specs.Prelude.{◌≡◌, ◌<◌, ◌++◌, IfOk, OnOk};
+ghost use Rattle.away_values.specs.declared.operators.ChainOp.TheVariants as chain;
+ghost use Rattle.away_values.specs.declared.operators.CmpOp.TheVariants as cmp;
+ghost use Rattle.away_values.specs.declared.operators.IntOp.TheVariants as int;
 ghost use Rattle.block_forms.specs.FixedList as spec;
 
 use away_trees::Expr;
@@ -21,15 +24,15 @@ pub enum Fixed {
     AtMost,
     /// a >= b
     AtLeast,
-    /// Whether b + a is greater than every bigint, for a that is positive
+    /// Whether b + a is greater than every integer, for a that is positive
     PastGreatest,
-    /// Whether b - a is less than every bigint, for a that is positive
+    /// Whether b - a is less than every integer, for a that is positive
     PastLeast,
     /// a + b
     Sum,
     /// a - b
     Difference,
-    /// The bigint 1
+    /// The integer 1
     One,
     /// a
     Copy,
@@ -64,13 +67,33 @@ fn compared(alloc: Global, op: CmpOp, x: Expr, y: Expr) -> Result<Expr, NoMemory
     Ok(Expr::Compare(op, x, y))
 }
 
-fn of_two(alloc: Global, op: IntOp, x: Expr, y: Expr) -> Result<Expr, NoMemory>
+fn of_two(alloc: Global, op: ChainOp, x: Expr, y: Expr) -> Result<Expr, NoMemory>
     ensures { IfOk result (λ e. e ≡ spec.of_two op x y) }
 {
     let x = Boxed::new(alloc, x)?;
     let mut links = Items::new(alloc);
-    links.push((ChainOp::Int(op), y))?;
+    links.push((op, y))?;
     Ok(Expr::Chain(x, links))
+}
+
+/// Whether the greatest integer less a is less than b.
+fn past_greatest(alloc: Global, a: Expr, b: Expr) -> Result<Expr, NoMemory>
+    ensures { IfOk result (λ e. e
+        ≡ spec.compared cmp.Lt (spec.of_two (chain.Small int.Sub) spec.greatest a) b) }
+{
+    let greatest = Expr::Int(2_147_483_647);
+    let most = of_two(alloc, ChainOp::Small(IntOp::Sub), greatest, a)?;
+    compared(alloc, CmpOp::Lt, most, b)
+}
+
+/// Whether the least integer and a are greater than b; its literal is a bigint, and so is the sum.
+fn past_least(alloc: Global, a: Expr, b: Expr) -> Result<Expr, NoMemory>
+    ensures { IfOk result (λ e. e
+        ≡ spec.compared cmp.Gt (spec.of_two (chain.Int int.Add) spec.least a) b) }
+{
+    let least = Expr::Neg(Boxed::new(alloc, Expr::Int(2_147_483_648))?);
+    let sum = of_two(alloc, ChainOp::Int(IntOp::Add), least, a)?;
+    compared(alloc, CmpOp::Gt, sum, b)
 }
 
 impl Fixed {
@@ -85,7 +108,7 @@ impl Fixed {
         }
     }
 
-    /// Whether a counter b would leave the numbers with a further step a.
+    /// Whether a counter b would leave the integers with a further step a.
     pub fn past_end(reverse: bool) -> Fixed
         ensures { result ≡ spec.past_end_entry reverse }
     {
@@ -143,17 +166,11 @@ impl Fixed {
             Fixed::NotPositive => compared(alloc, CmpOp::Le, a, Expr::Int(0)),
             Fixed::AtMost => compared(alloc, CmpOp::Le, a, b),
             Fixed::AtLeast => compared(alloc, CmpOp::Ge, a, b),
-            Fixed::PastGreatest => {
-                let most = of_two(alloc, IntOp::Sub, Expr::Int(i64::MAX), a)?;
-                compared(alloc, CmpOp::Lt, most, b)
-            }
-            Fixed::PastLeast => {
-                let least = of_two(alloc, IntOp::Add, Expr::Int(i64::MIN), a)?;
-                compared(alloc, CmpOp::Gt, least, b)
-            }
-            Fixed::Sum => of_two(alloc, IntOp::Add, a, b),
-            Fixed::Difference => of_two(alloc, IntOp::Sub, a, b),
-            Fixed::One => Ok(Expr::Cast(Boxed::new(alloc, Expr::Int(1))?, Ty::Bigint)),
+            Fixed::PastGreatest => past_greatest(alloc, a, b),
+            Fixed::PastLeast => past_least(alloc, a, b),
+            Fixed::Sum => of_two(alloc, ChainOp::Small(IntOp::Add), a, b),
+            Fixed::Difference => of_two(alloc, ChainOp::Small(IntOp::Sub), a, b),
+            Fixed::One => Ok(Expr::Int(1)),
             Fixed::Copy => Ok(a),
         }
     }

@@ -24,7 +24,7 @@ fn push_counter(kind: &LoopKind, list: &mut Items<Ty>) -> Result<(), NoMemory>
     match kind {
         LoopKind::Plain | LoopKind::While(_) => Ok(()),
         LoopKind::Count { .. } => {
-            list.push(Ty::Bigint)?;
+            list.push(Ty::Integer)?;
             Ok(())
         }
     }

@@ -190,7 +190,7 @@ module _ (types : List Ty) (table : List Expr) (s : Setting) (fixed : FixedFits 
   -- ---- loops
 
   bound_fits : (c slot next : ℕ) (e : Term) → OneForEach table e → Fit (bound_parts s.goto s.numbers c slot e next)
-  bound_fits c slot next e h = ((h, tt), ((tt, fixed.null_tests ty.Bigint slot), ((tt, refl), tt)))
+  bound_fits c slot next e h = ((h, tt), ((tt, fixed.null_tests ty.Integer slot), ((tt, refl), tt)))
 
   step_fits : (by : Option Expr) (k c step head : ℕ) → At k (if_there by) → Fit (step_parts s.goto s.numbers by k c step head)
   step_fits None k c step head h = ((fixed.ones, tt), tt)

@@ -137,8 +137,8 @@ static ROWS: [(&str, &[&str], &str, &str, u8, &str); 40] = [
         &["1"],
         "2",
         "1000",
-        0,
-        "value 2\n",
+        7,
+        "fault 22003\n",
     ),
     (
         "CREATE FUNCTION f(a bigint) RETURNS bigint LANGUAGE plpgsql AS $$ BEGIN CASE WHEN FALSE THEN RETURN 1; END CASE; END; $$",

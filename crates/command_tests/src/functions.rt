@@ -104,8 +104,8 @@ static ANSWERS: [(&str, &str, &str, &[&str], u8, &str); 37] = [
         "DECLARE c bigint := 0; BEGIN FOR i IN 9223372036854775806..9223372036854775807 LOOP c := c + 1; END LOOP; RETURN c; END;",
         "2",
         &[],
-        0,
-        "value 2\n",
+        7,
+        "fault 22003\n",
     ),
     (
         OF_A,

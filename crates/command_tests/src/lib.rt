@@ -9,6 +9,8 @@ mod checks;
 #[cfg(test)]
 mod compiled;
 #[cfg(test)]
+mod counters;
+#[cfg(test)]
 mod demos;
 #[cfg(test)]
 mod edited;

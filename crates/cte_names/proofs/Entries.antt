@@ -1,14 +1,13 @@
 -- Each entry of a checked function's table is clear where the query has it, without its marks.
-use Rattle.std.proofs.Common.{◌≡◌, refl, ap, sym, subst, ◌∙◌, ℕ, ℤ, zero, suc, ◌+◌, ◌<◌, ◌≤◌, arith, pos, ◌==◌, Bool, true, false, List, [], ◌∷◌, map, length, get_or, Option}
+use Rattle.std.proofs.Common.{◌≡◌, refl, ap, sym, subst, ◌∙◌, ℕ, ℤ, zero, suc, ◌+◌, ◌<◌, ◌≤◌, arith, pos, ◌==◌, Bool, true, false, List, [], ◌∷◌, map, length, get_or, slice_get, Option}
 use Rattle.std.proofs.lemmas.Bool.{eqb-true, eq-eqb}
+use Rattle.away_values.specs.declared.operators.ChainOp.{ChainOp}
 use Rattle.away_values.specs.declared.operators.ChainOp.TheVariants as chain
 use Rattle.away_values.specs.declared.operators.CmpOp.{CmpOp}
 use Rattle.away_values.specs.declared.operators.CmpOp.TheVariants as cmp
-use Rattle.away_values.specs.declared.operators.IntOp.{IntOp}
 use Rattle.away_values.specs.declared.operators.IntOp.TheVariants as int
 use Rattle.away_values.specs.declared.operators.IsTest.TheVariants as is
 use Rattle.away_values.specs.declared.types.Ty.{Ty}
-use Rattle.away_values.specs.declared.types.Ty.TheVariants as ty
 use Rattle.away_values.specs.Operators.{literal_type}
 use Rattle.away_trees.specs.declared.queries.Col.{Col}
 use Rattle.away_trees.specs.declared.queries.Expr.{Expr}
@@ -43,7 +42,7 @@ use Rattle.away_types.specs.FunctionChecks.{around_in, body_of, resolved_functio
 use Rattle.block_forms.specs.declared.fixed_list.Fixed.{Fixed}
 use Rattle.block_forms.specs.declared.fixed_list.Fixed.TheVariants as fix
 use Rattle.block_forms.specs.Expressions.{sources, source_expressions, expressions, whole_select}
-use Rattle.block_forms.specs.FixedList.{a, b as second, null_as, a_is_null, of_two, compared, expression, entries, fixed_list}
+use Rattle.block_forms.specs.FixedList.{a, b as second, null_as, a_is_null, of_two, compared, greatest, least, expression, entries, fixed_list}
 use Rattle.block_forms.specs.Intos.{Into, intos}
 use Rattle.block_forms.specs.Places.{Each}
 use Rattle.block_forms.specs.Slots.{shown_types}
@@ -102,8 +101,11 @@ module _ (s : Scope) (ref : ℕ → Col) where
   is_null : (e : Expr) → IsPlaced e → IsPlaced (expr.Is e is.Null false)
   is_null e h = by _ _ (eq.of_is P e is.Null false) (c.is is.Null false h)
 
-  two : (op : IntOp) (x y : Expr) → IsPlaced x → IsPlaced y → IsPlaced (of_two op x y)
-  two op x y h k = by _ _ (eq.of_chain P x ((chain.Int op, y) ∷ [])) (c.chain h (c.one_link (plain_op (chain.Int op)) (plain_twice (chain.Int op)) k c.no_link))
+  minus : (e : Expr) → IsPlaced e → IsPlaced (expr.Neg e)
+  minus e h = by _ _ (eq.of_neg P e) (c.neg h)
+
+  two : (op : ChainOp) (x y : Expr) → IsPlaced x → IsPlaced y → IsPlaced (of_two op x y)
+  two op x y h k = by _ _ (eq.of_chain P x ((op, y) ∷ [])) (c.chain h (c.one_link (plain_op op) (plain_twice op) k c.no_link))
 
   compare : (op : CmpOp) (x y : Expr) → IsPlaced x → IsPlaced y → IsPlaced (compared op x y)
   compare op x y h k = by _ _ (eq.of_compare P op x y) (c.compare op h k)
@@ -248,29 +250,39 @@ module _ (schema : Schema) where
   unfolding b.hidden-the_row-Expr-0 denote.Hole.Carrier.hidden
   both_compared op t s ref tables own = whole s ref t (compared op a second) (compare s ref op a second (slot s ref 0 (own 0 0 refl)) (slot s ref 1 (own 1 1 refl)))
 
-  limit_compared : (op : CmpOp) (step : IntOp) (n : ℤ) → Placed schema (compared op (of_two step (expr.Int n) a) second)
-  unfolding b.hidden-the_row-Expr-0 b.hidden-the_row-Expr-Chain-1-2-1 denote.Hole.Carrier.hidden
-  limit_compared op step n t s ref tables own =
-      whole s ref t (compared op (of_two step (expr.Int n) a) second)
-      (compare s ref op (of_two step (expr.Int n) a) second (two s ref step (expr.Int n) a (number s ref n) (slot s ref 0 (own 0 0 refl))) (slot s ref 1 (own 1 1 refl)))
+  greatest_placed : (s : Scope) (ref : ℕ → Col) → IsPlaced s ref greatest
+  greatest_placed s ref = number s ref (pos 2147483647)
 
-  step_placed : (op : IntOp) → Placed schema (of_two op a second)
+  -- the minus stands over a literal, which has its cast
+  least_placed : (s : Scope) (ref : ℕ → Col) → IsPlaced s ref least
+  least_placed s ref = minus s ref (expr.Int (pos 2147483648)) (number s ref (pos 2147483648))
+
+  limit_compared : (op : CmpOp) (step : ChainOp) (limit : Expr) → slots_of (compared op (of_two step limit a) second) ≡ 0 ∷ 1 ∷ []
+      → ((s : Scope) (ref : ℕ → Col) → IsPlaced s ref limit) → Placed schema (compared op (of_two step limit a) second)
+  limit_compared op step limit reads placed t s ref tables own =
+      let first = own 0 0 (ap (λ ks. slice_get ks 0) reads) in
+      let other = own 1 1 (ap (λ ks. slice_get ks 1) reads) in
+      whole s ref t (compared op (of_two step limit a) second)
+      (compare s ref op (of_two step limit a) second (two s ref step limit a (placed s ref) (slot s ref 0 first)) (slot s ref 1 other))
+
+  step_placed : (op : ChainOp) → Placed schema (of_two op a second)
   unfolding b.hidden-the_row-Expr-0 b.hidden-the_row-Expr-Chain-1-2-1 denote.Hole.Carrier.hidden
   step_placed op t s ref tables own = whole s ref t (of_two op a second) (two s ref op a second (slot s ref 0 (own 0 0 refl)) (slot s ref 1 (own 1 1 refl)))
 
-  one_placed : Placed schema (expr.Cast (expr.Int (pos 1)) ty.Bigint)
-  one_placed t s ref tables own = whole s ref t (expr.Cast (expr.Int (pos 1)) ty.Bigint) (with_type s ref (expr.Int (pos 1)) ty.Bigint (number s ref (pos 1)))
+  one_placed : Placed schema (expr.Int (pos 1))
+  one_placed t s ref tables own = whole s ref t (expr.Int (pos 1)) (number s ref (pos 1))
 
   entry_placed : (e : Fixed) → Placed schema (expression e)
+  unfolding b.hidden-the_row-Expr-0 b.hidden-the_row-Expr-Chain-1-2-1 denote.Hole.Carrier.hidden
   entry_placed (fix.Null t) = null_placed t
   entry_placed (fix.IsNull t) = test_placed
   entry_placed fix.NotPositive = not_positive_placed
   entry_placed fix.AtMost = both_compared cmp.Le
   entry_placed fix.AtLeast = both_compared cmp.Ge
-  entry_placed fix.PastGreatest = limit_compared cmp.Lt int.Sub _
-  entry_placed fix.PastLeast = limit_compared cmp.Gt int.Add _
-  entry_placed fix.Sum = step_placed int.Add
-  entry_placed fix.Difference = step_placed int.Sub
+  entry_placed fix.PastGreatest = limit_compared cmp.Lt (chain.Small int.Sub) greatest refl greatest_placed
+  entry_placed fix.PastLeast = limit_compared cmp.Gt (chain.Int int.Add) least refl least_placed
+  entry_placed fix.Sum = step_placed (chain.Small int.Add)
+  entry_placed fix.Difference = step_placed (chain.Small int.Sub)
   entry_placed fix.One = one_placed
   entry_placed fix.Copy = first_placed
 

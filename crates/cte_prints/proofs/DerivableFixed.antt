@@ -1,15 +1,14 @@
 -- The entries behind a function's source expressions can be derived where the query has them, but for NULL of the type integer.
-use Rattle.std.proofs.Common.{◌≡◌, refl, ap, sym, subst, ◌∙◌, ℕ, ℤ, pos, negsuc, arith, ◌==◌, false, List, [], ◌∷◌, map}
+use Rattle.std.proofs.Common.{◌≡◌, refl, ap, sym, subst, ◌∙◌, ℕ, ℤ, pos, arith, ◌==◌, false, List, [], ◌∷◌, map, slice_get}
 use Rattle.std.proofs.lemmas.Bool.{eqb-true, eq-eqb}
-use Rattle.std.specs.Prelude.{◌^◌, ◌-◌, Some}
+use Rattle.std.specs.Prelude.{Some}
+use Rattle.away_values.specs.declared.operators.ChainOp.{ChainOp}
 use Rattle.away_values.specs.declared.operators.ChainOp.TheVariants as chain
 use Rattle.away_values.specs.declared.operators.CmpOp.{CmpOp}
 use Rattle.away_values.specs.declared.operators.CmpOp.TheVariants as cmp
-use Rattle.away_values.specs.declared.operators.IntOp.{IntOp}
 use Rattle.away_values.specs.declared.operators.IntOp.TheVariants as int
 use Rattle.away_values.specs.declared.operators.IsTest.TheVariants as is
 use Rattle.away_values.specs.declared.types.Ty.{Ty}
-use Rattle.away_values.specs.declared.types.Ty.TheVariants as ty
 use Rattle.away_values.specs.Operators.{literal_type}
 use Rattle.away_grammar.specs.declared.grammar.Level.{Level}
 use Rattle.away_grammar.specs.declared.grammar.Level.TheVariants as l
@@ -26,9 +25,10 @@ use Rattle.away_trees.proofs.Equations as eq
 use Rattle.elaboration.specs.Marks.{plain_op}
 use Rattle.away_names.specs.Lookups.{Scope}
 use Rattle.sql_meaning.specs.Placed.{column_of, placed, replacing, with_cast}
+use Rattle.sql_meaning.specs.Reads.{slots_of}
 use Rattle.block_forms.specs.declared.fixed_list.Fixed.{Fixed}
 use Rattle.block_forms.specs.declared.fixed_list.Fixed.TheVariants as fix
-use Rattle.block_forms.specs.FixedList.{a, b as second, null_as, a_is_null, of_two, compared, expression, entries, fixed_list}
+use Rattle.block_forms.specs.FixedList.{a, b as second, null_as, a_is_null, of_two, compared, greatest, least, expression, entries, fixed_list}
 use Rattle.type_soundness.specs.Sorts.{Every}
 use Rattle.qualified_names.specs.Trees.{qualified_expr}
 use Rattle.qualified_names.proofs.QualifyingRules as d
@@ -66,10 +66,13 @@ module _ (s : Scope) (ref : ℕ → Col) where
   is_null : (e : Expr) → At l.Compare e → At l.Is (expr.Is e is.Null false)
   is_null e h = by l.Is _ _ _ (eq.of_is P e is.Null false) (d.is_is _ is.Null false s.levels) (derive.derive_is false m.Null refl h)
 
-  two : (op : IntOp) (terminal : Mark) → operator_of l.Sum terminal ≡ Some (chain.Int op) → (x y : Expr) → At l.Product x → At l.Product y → At l.Sum (of_two op x y)
-  unfolding plain_op
+  minus : (e : Expr) → At l.Primary e → At l.Sign (expr.Neg e)
+  minus e h = by l.Sign _ _ _ (eq.of_neg P e) (d.neg_is _ s.levels) (derive.derive_neg (derive.derive_uncast h))
+
+  -- an operation is written without its mark
+  two : (op : ChainOp) (terminal : Mark) → operator_of l.Sum terminal ≡ Some (plain_op op) → (x y : Expr) → At l.Product x → At l.Product y → At l.Sum (of_two op x y)
   two op terminal e x y h k =
-      by l.Sum _ _ _ (eq.of_chain P x ((chain.Int op, y) ∷ [])) (d.chain_is _ _ s.levels) (derive.derive_chain tt h (derive.derive_link terminal e k derive.derive_no_link))
+      by l.Sum _ _ _ (eq.of_chain P x ((op, y) ∷ [])) (d.chain_is _ _ s.levels) (derive.derive_chain tt h (derive.derive_link terminal e k derive.derive_no_link))
 
   compare : (op : CmpOp) (terminal : Mark) → comparison_of terminal ≡ Some op → (x y : Expr) → At l.Range x → At l.Range y → At l.Compare (compared op x y)
   compare op terminal e x y h k = by l.Compare _ _ _ (eq.of_compare P op x y) (d.compare_is op _ _ s.levels) (derive.derive_compare terminal e h k)
@@ -107,43 +110,49 @@ module _ (schema : Schema) where
       (at_or l.Compare (compare s ref op terminal e a second (to_range s ref a (slot s ref 0 derivable (own 0 0 refl)))
       (to_range s ref second (slot s ref 1 derivable (own 1 1 refl)))))
 
-  limit_entry : (op : CmpOp) (terminal : Mark) → comparison_of terminal ≡ Some op → (step : IntOp) (plus : Mark) → operator_of l.Sum plus ≡ Some (chain.Int step)
-      → (x : ℤ) → Derivable 195 (at l.Or) (expr.Int x)
-      → IsWritableName schema (compared op (of_two step (expr.Int x) a) second)
-  unfolding b.hidden-the_row-Expr-0 b.hidden-the_row-Expr-Chain-1-2-1 denote.Hole.Carrier.hidden
-  limit_entry op terminal e step plus k x c t s ref tables derivable own =
-      whole s t ref (compared op (of_two step (expr.Int x) a) second)
-      (at_or l.Compare (compare s ref op terminal e (of_two step (expr.Int x) a) second
-      (loosen l.Range l.Sum (omega arith)
-      (two s ref step plus k (expr.Int x) a (to_product s ref (expr.Int x) (number s ref x c)) (to_product s ref a (slot s ref 0 derivable (own 0 0 refl)))))
-      (to_range s ref second (slot s ref 1 derivable (own 1 1 refl)))))
+  limit_entry : (op : CmpOp) (terminal : Mark) → comparison_of terminal ≡ Some op → (step : ChainOp) (plus : Mark) → operator_of l.Sum plus ≡ Some (plain_op step)
+      → (limit : Expr) → slots_of (compared op (of_two step limit a) second) ≡ 0 ∷ 1 ∷ [] → ((s : Scope) (ref : ℕ → Col) → At s ref l.Product limit)
+      → IsWritableName schema (compared op (of_two step limit a) second)
+  limit_entry op terminal e step plus k limit reads c t s ref tables derivable own =
+      let first = slot s ref 0 derivable (own 0 0 (ap (λ ks. slice_get ks 0) reads)) in
+      let other = slot s ref 1 derivable (own 1 1 (ap (λ ks. slice_get ks 1) reads)) in
+      whole s t ref (compared op (of_two step limit a) second)
+      (at_or l.Compare (compare s ref op terminal e (of_two step limit a) second
+      (loosen l.Range l.Sum (omega arith) (two s ref step plus k limit a (c s ref) (to_product s ref a first)))
+      (to_range s ref second other)))
 
-  step_entry : (op : IntOp) (plus : Mark) → operator_of l.Sum plus ≡ Some (chain.Int op) → IsWritableName schema (of_two op a second)
+  greatest_limit : (s : Scope) (ref : ℕ → Col) → At s ref l.Product greatest
+  greatest_limit s ref =
+      to_product s ref greatest (number s ref (pos 2147483647) (at_or l.Primary (derive.derive_number (omega arith))))
+
+  -- the minus stands over a literal, which has its cast
+  least_limit : (s : Scope) (ref : ℕ → Col) → At s ref l.Product least
+  least_limit s ref =
+      loosen l.Product l.Sign (omega arith)
+      (minus s ref (expr.Int (pos 2147483648)) (number s ref (pos 2147483648) (at_or l.Primary (derive.derive_number (omega arith)))))
+
+  step_entry : (op : ChainOp) (plus : Mark) → operator_of l.Sum plus ≡ Some (plain_op op) → IsWritableName schema (of_two op a second)
   unfolding b.hidden-the_row-Expr-0 b.hidden-the_row-Expr-Chain-1-2-1 denote.Hole.Carrier.hidden
   step_entry op plus k t s ref tables derivable own =
       whole s t ref (of_two op a second)
       (at_or l.Sum (two s ref op plus k a second (to_product s ref a (slot s ref 0 derivable (own 0 0 refl)))
       (to_product s ref second (slot s ref 1 derivable (own 1 1 refl)))))
 
-  one_entry : IsWritableName schema (expr.Cast (expr.Int (pos 1)) ty.Bigint)
+  one_entry : IsWritableName schema (expr.Int (pos 1))
   one_entry t s ref tables derivable own =
-      whole s t ref (expr.Cast (expr.Int (pos 1)) ty.Bigint)
-      (by s ref l.Or _ _ _ (eq.of_cast (P s ref) (expr.Int (pos 1)) ty.Bigint)
-      (d.cast_is _ ty.Bigint s.levels ∙ ap (λ v. expr.Cast v ty.Bigint)
-      (d.cast_is _ (literal_type (pos 1)) s.levels ∙ ap (λ v. expr.Cast v (literal_type (pos 1))) (d.int_is (pos 1) s.levels)))
-      (at_or l.Primary (derive_cast_to {d = 195} ty.Bigint
-      (at_or l.Primary (derive_cast_to {d = 194} (literal_type (pos 1)) (at_or l.Primary (derive.derive_number (omega arith))))))))
+      whole s t ref (expr.Int (pos 1)) (at_or l.Primary (number s ref (pos 1) (at_or l.Primary (derive.derive_number (omega arith)))))
 
   entry_derivable : (e : Fixed) → IsWritableName schema (expression e)
+  unfolding b.hidden-the_row-Expr-0 b.hidden-the_row-Expr-Chain-1-2-1 denote.Hole.Carrier.hidden plain_op
   entry_derivable (fix.Null t) = null_entry t
   entry_derivable (fix.IsNull t) = test_entry
   entry_derivable fix.NotPositive = not_positive_entry
   entry_derivable fix.AtMost = both_entry cmp.Le m.LessEqual refl
   entry_derivable fix.AtLeast = both_entry cmp.Ge m.GreaterEqual refl
-  entry_derivable fix.PastGreatest = limit_entry cmp.Lt m.Less refl int.Sub m.Minus refl (pos (2 ^ 63 - 1)) (at_or l.Primary (derive.derive_number (omega arith)))
-  entry_derivable fix.PastLeast = limit_entry cmp.Gt m.Greater refl int.Add m.Plus refl (negsuc (2 ^ 63 - 1)) (at_or l.Sign derive.derive_least)
-  entry_derivable fix.Sum = step_entry int.Add m.Plus refl
-  entry_derivable fix.Difference = step_entry int.Sub m.Minus refl
+  entry_derivable fix.PastGreatest = limit_entry cmp.Lt m.Less refl (chain.Small int.Sub) m.Minus refl greatest refl greatest_limit
+  entry_derivable fix.PastLeast = limit_entry cmp.Gt m.Greater refl (chain.Int int.Add) m.Plus refl least refl least_limit
+  entry_derivable fix.Sum = step_entry (chain.Small int.Add) m.Plus refl
+  entry_derivable fix.Difference = step_entry (chain.Small int.Sub) m.Minus refl
   entry_derivable fix.One = one_entry
   entry_derivable fix.Copy = first_entry
 

@@ -66,15 +66,15 @@ type_before [] ys x lt = absurd (omega (arith, lt))
 type_before (x ∷ xs) ys zero lt = refl
 type_before (x ∷ xs) ys (suc i) lt = type_before xs ys i (omega (arith, lt))
 
-bigint_there : (many : ℕ) (ys : List Slot) (j : ℕ) → j < many → type_at (replicate many (slot ty.Bigint) ++ ys) j ≡ ty.Bigint
-bigint_there zero ys j lt = absurd (omega (arith, lt))
-bigint_there (suc many) ys zero lt = refl
-bigint_there (suc many) ys (suc j) lt = bigint_there many ys j (omega (arith, lt))
+integer_there : (many : ℕ) (ys : List Slot) (j : ℕ) → j < many → type_at (replicate many (slot ty.Integer) ++ ys) j ≡ ty.Integer
+integer_there zero ys j lt = absurd (omega (arith, lt))
+integer_there (suc many) ys zero lt = refl
+integer_there (suc many) ys (suc j) lt = integer_there many ys j (omega (arith, lt))
 
 -- ---- the slots of a function
 
 abbrev of_fors : Function → List Slot
-of_fors f = replicate (3 * (laid f.body).size.fors) (slot ty.Bigint)
+of_fors f = replicate (3 * (laid f.body).size.fors) (slot ty.Integer)
 
 abbrev of_targets : Function → List Slot
 of_targets f = map (hidden_slot (shown_types f)) (into_targets f.body)
@@ -103,13 +103,13 @@ module _ (f : Function) (vars : (laid f.body).size.slot ≡ length (variables f.
   many : length (shown_slots f) ≡ (numbers_of f).counters
   many = omega (arith, vars, length-append (param_slots f.params) (variables f.body), params_many f)
 
-  pub for_slot : (i j : ℕ) → i ≡ (numbers_of f).counters + j → j < 3 * fors → type_at (own_slots f) i ≡ ty.Bigint
-  for_slot i j e lt = type_behind (shown_slots f) (behind_text f) i j (omega (arith, e, many)) ∙ bigint_there (3 * fors) (of_targets f) j lt
+  pub for_slot : (i j : ℕ) → i ≡ (numbers_of f).counters + j → j < 3 * fors → type_at (own_slots f) i ≡ ty.Integer
+  for_slot i j e lt = type_behind (shown_slots f) (behind_text f) i j (omega (arith, e, many)) ∙ integer_there (3 * fors) (of_targets f) j lt
 
   target_slot : (i j : ℕ) → i ≡ (numbers_of f).targets + j → type_at (own_slots f) i ≡ type_at (of_targets f) j
   target_slot i j e =
       type_behind (shown_slots f) (behind_text f) i (3 * fors + j) (omega (arith, e, many))
-      ∙ type_behind (of_fors f) (of_targets f) (3 * fors + j) j (omega (arith, length-replicate (3 * fors) (slot ty.Bigint)))
+      ∙ type_behind (of_fors f) (of_targets f) (3 * fors + j) j (omega (arith, length-replicate (3 * fors) (slot ty.Integer)))
 
   named_slot : (x : ℕ) → x < named_slots f → type_at (own_slots f) x ≡ type_of (shown_types f) (Some x)
   named_slot x lt = type_before (shown_slots f) (behind_text f) x (omega (arith, lt, many))

@@ -87,8 +87,8 @@ module _ (schema : Schema) (f : Function) (slots : List Slot) (known : Facts sch
   fixed : FixedAt s.numbers.fixed
   fixed = subst FixedAt (sym counted.count.exprs) text_fixed
 
-  own_for : (i j : ℕ) → i ≡ s.numbers.counters + j → j < 3 * fors → type_at slots i ≡ ty.Bigint
-  own_for i j e lt = subst (λ xs. type_at xs i ≡ ty.Bigint) (sym known.owned) (for_slot f counted.count.slots i j e lt)
+  own_for : (i j : ℕ) → i ≡ s.numbers.counters + j → j < 3 * fors → type_at slots i ≡ ty.Integer
+  own_for i j e lt = subst (λ xs. type_at xs i ≡ ty.Integer) (sym known.owned) (for_slot f counted.count.slots i j e lt)
 
   hidden : (k : ℕ) → k < fors → ForAt s k
   hidden k lt = record {

@@ -48,7 +48,7 @@ module _ (tables : List (List Ty)) (table : List Expr) (slots : List Slot) (resu
 
   -- and what they were converted by
   abbrev pub around : Around
-  around = record { places = places.places; result = result; counter = ty.Bigint }
+  around = record { places = places.places; result = result; counter = ty.Integer }
 
   -- a term over slots has the type
   abbrev pub Has : Ty → Term → Type 0

@@ -35,9 +35,9 @@ type_in (x ∷ xs) (suc i) = type_in xs i
 
 -- the counter, the last value and the step of a FOR with so many others before it
 pub record ForAt (s : Setting) (f : ℕ) : Type 0 where
-  pub counter : type_at s.slots (s.numbers.counters + 3 * f) ≡ ty.Bigint
-  pub last : type_at s.slots (s.numbers.counters + 3 * f + 1) ≡ ty.Bigint
-  pub step : type_at s.slots (s.numbers.counters + 3 * f + 2) ≡ ty.Bigint
+  pub counter : type_at s.slots (s.numbers.counters + 3 * f) ≡ ty.Integer
+  pub last : type_at s.slots (s.numbers.counters + 3 * f + 1) ≡ ty.Integer
+  pub step : type_at s.slots (s.numbers.counters + 3 * f + 2) ≡ ty.Integer
 
 module _ (tables : List (List Ty)) (table : List Expr) (result : Ty) (s : Setting) (fors : ℕ)
     (fixed : FixedHave tables table s.slots result s.numbers.fixed)
@@ -119,10 +119,10 @@ module _ (tables : List (List Ty)) (table : List Expr) (result : Ty) (s : Settin
 
   -- ---- loops
 
-  bound_has : (c x next : ℕ) (e : Term) → of_slot x ≡ ty.Bigint → HasIt ty.Bigint e → Have (bound_parts s.goto s.numbers c x e next)
-  bound_has c x next e at h = ((subst (λ t. HasIt t e) (sym at) h, tt), ((tt, fixed.null_tests ty.Bigint x at), ((tt, tt), tt)))
+  bound_has : (c x next : ℕ) (e : Term) → of_slot x ≡ ty.Integer → HasIt ty.Integer e → Have (bound_parts s.goto s.numbers c x e next)
+  bound_has c x next e at h = ((subst (λ t. HasIt t e) (sym at) h, tt), ((tt, fixed.null_tests ty.Integer x at), ((tt, tt), tt)))
 
-  step_has : (by : Option Expr) (k c step head : ℕ) → of_slot step ≡ ty.Bigint → At k (if_there by) → Clean (maybe_asked a ty.Bigint by)
+  step_has : (by : Option Expr) (k c step head : ℕ) → of_slot step ≡ ty.Integer → At k (if_there by) → Clean (maybe_asked a ty.Integer by)
       → Have (step_parts s.goto s.numbers by k c step head)
   step_has None k c step head at h n = ((subst (λ t. HasIt t (one s.numbers.fixed)) (sym at) fixed.ones, tt), tt)
   step_has (Some e) k c step head at h n =
@@ -130,19 +130,19 @@ module _ (tables : List (List Ty)) (table : List Expr) (result : Ty) (s : Settin
       let below = own test (branches false (not_positive s.numbers.fixed step) (yes_of s.goto test) head) in
       let rest : List Part = below ∷ shared (yes_of s.goto test) (fails invalid_parameter) ∷ [] in
       both (bound_parts s.goto s.numbers c step (source_term k e) test) rest
-      (bound_has c step test (source_term k e) at (source k ty.Bigint e h.0 n)) ((tt, fixed.positives step at), ((tt, tt), tt))
+      (bound_has c step test (source_term k e) at (source k ty.Integer e h.0 n)) ((tt, fixed.positives step at), ((tt, tt), tt))
 
-  turn_has : (reverse : Bool) (var cur last step head test body next : ℕ) → of_slot var ≡ ty.Bigint → of_slot cur ≡ ty.Bigint → of_slot last ≡ ty.Bigint
-      → of_slot step ≡ ty.Bigint
+  turn_has : (reverse : Bool) (var cur last step head test body next : ℕ) → of_slot var ≡ ty.Integer → of_slot cur ≡ ty.Integer → of_slot last ≡ ty.Integer
+      → of_slot step ≡ ty.Integer
       → Have (turn_parts s.goto s.numbers reverse var cur last step head test body next)
   turn_has reverse var cur last step head test body next v c l b =
-      let start = subst (λ t. HasIt t (copy s.numbers.fixed cur)) (sym v) (fixed.copies ty.Bigint cur c) in
+      let start = subst (λ t. HasIt t (copy s.numbers.fixed cur)) (sym v) (fixed.copies ty.Integer cur c) in
       let further = subst (λ t. HasIt t (moved s.numbers.fixed reverse cur step)) (sym c) (fixed.moves reverse cur step c b) in
       ((tt, fixed.ranges reverse cur last c l), ((start, tt), ((tt, fixed.ends reverse step cur b c), ((further, tt), tt))))
 
-  for_has : (reverse : Bool) (first last : Expr) (by : Option Expr) (p : Position) (body next : ℕ) → of_slot p.slot ≡ ty.Bigint → p.fors < fors
+  for_has : (reverse : Bool) (first last : Expr) (by : Option Expr) (p : Position) (body next : ℕ) → of_slot p.slot ≡ ty.Integer → p.fors < fors
       → At p.expr (first ∷ last ∷ if_there by)
-      → Clean (asked a ty.Bigint first) → Clean (asked a ty.Bigint last) → Clean (maybe_asked a ty.Bigint by)
+      → Clean (asked a ty.Integer first) → Clean (asked a ty.Integer last) → Clean (maybe_asked a ty.Integer by)
       → Have (for_parts s.goto s.numbers reverse first last by p body next)
   for_has reverse first last by p body next var room h n₁ n₂ n₃ =
       let b0 = node s.goto p.node in
@@ -161,8 +161,8 @@ module _ (tables : List (List Ty)) (table : List Expr) (result : Ty) (s : Settin
       let lasts = bound_parts s.goto s.numbers b1 (cur + 1) (source_term (p.expr + 1) last) b2 in
       let steps = step_parts s.goto s.numbers by (p.expr + 2) b2 (cur + 2) head in
       let turns = turn_parts s.goto s.numbers reverse p.slot cur (cur + 1) (cur + 2) head test body next in
-      both firsts (lasts ++ (steps ++ turns)) (bound_has b0 cur b1 (source_term p.expr first) counter (source p.expr ty.Bigint first h.0 n₁))
-      (both lasts (steps ++ turns) (bound_has b1 (cur + 1) b2 (source_term (p.expr + 1) last) end (source (p.expr + 1) ty.Bigint last second.0 n₂))
+      both firsts (lasts ++ (steps ++ turns)) (bound_has b0 cur b1 (source_term p.expr first) counter (source p.expr ty.Integer first h.0 n₁))
+      (both lasts (steps ++ turns) (bound_has b1 (cur + 1) b2 (source_term (p.expr + 1) last) end (source (p.expr + 1) ty.Integer last second.0 n₂))
       (both steps turns (step_has by (p.expr + 2) b2 (cur + 2) head step third n₃)
       (turn_has reverse p.slot cur (cur + 1) (cur + 2) head test body next var counter end step)))
 
@@ -171,6 +171,6 @@ module _ (tables : List (List Ty)) (table : List Expr) (result : Ty) (s : Settin
   kind_has kind.Plain p body next n h d room = ((tt, tt), tt)
   kind_has (kind.While e) p body next n h d room = ((tt, source p.expr ty.Boolean e h.0 n), tt)
   kind_has (kind.Count name reverse first last by) p body next n h d room =
-      let two = clean_parts (asked a ty.Bigint first) (joined (asked a ty.Bigint last) (maybe_asked a ty.Bigint by)) n in
-      let more = clean_parts (asked a ty.Bigint last) (maybe_asked a ty.Bigint by) two.1 in
+      let two = clean_parts (asked a ty.Integer first) (joined (asked a ty.Integer last) (maybe_asked a ty.Integer by)) n in
+      let more = clean_parts (asked a ty.Integer last) (maybe_asked a ty.Integer by) two.1 in
       for_has reverse first last by p body next (ap (λ o. type_or_bigint (type_of_slot o)) d.0) (omega (arith, room)) h two.0 more.0 more.1

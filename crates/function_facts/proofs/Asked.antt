@@ -1,7 +1,7 @@
 -- In a function that breaks no rule of types, no aggregate stands in an expression outside a select's list.
 use Rattle.std.proofs.Common.{◌≡◌, ℕ, Bool, true, false, not, ◌||◌, List, [], ◌∷◌, ◌++◌, fold, Option, Some, None, ◌∙◌}
 use Rattle.away_values.specs.declared.types.Ty.{Ty}
-use Rattle.away_values.specs.declared.types.Ty.TheVariants.{Bigint, Boolean}
+use Rattle.away_values.specs.declared.types.Ty.TheVariants.{Boolean, Integer}
 use Rattle.away_trees.specs.declared.queries.Expr.{Expr}
 use Rattle.away_trees.specs.declared.statements.Decl.{Decl}
 use Rattle.away_trees.specs.declared.statements.LoopKind.{LoopKind}
@@ -64,9 +64,9 @@ module _ (a : Asked) where
   head_single kind.Plain c = tt
   head_single (kind.While e) c = (one_single Boolean e c, tt)
   head_single (kind.Count var reverse first last step) c =
-      let both = clean_parts (asked a Bigint first) (joined (asked a Bigint last) (maybe_asked a Bigint step)) c in
-      let more = clean_parts (asked a Bigint last) (maybe_asked a Bigint step) both.1 in
-      (one_single Bigint first both.0, (one_single Bigint last more.0, maybe_single Bigint step more.1))
+      let both = clean_parts (asked a Integer first) (joined (asked a Integer last) (maybe_asked a Integer step)) c in
+      let more = clean_parts (asked a Integer last) (maybe_asked a Integer step) both.1 in
+      (one_single Integer first both.0, (one_single Integer last more.0, maybe_single Integer step more.1))
 
   defaults_single : (ds : List Decl) (acc : Note) → Clean (fold (λ n (d : Decl). joined n (maybe_asked a d.ty d.default)) acc ds)
       → Clean acc × AreSingle (defaults ds)

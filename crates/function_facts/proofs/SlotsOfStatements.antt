@@ -103,8 +103,8 @@ head_takes (kind.Count var reverse first last step) scope slots p c =
     let bounds = clean_parts _ _ names.1 in
     let ends = clean_parts _ _ bounds.1 in
     let now = length slots.shown in
-    let then_ = length (with_slot ty.Bigint false slots).shown in
-    let l = shown_push ty.Bigint false slots in
+    let then_ = length (with_slot ty.Integer false slots).shown in
+    let l = shown_push ty.Integer false slots in
     record {
       shown = refl;
       hidden = refl;
@@ -120,7 +120,7 @@ head_in_sight : (k : LoopKind) (scope : Scope) (slots : Slots) → VariablesBelo
 unfolding with_hidden
 head_in_sight kind.Plain scope slots h = h
 head_in_sight (kind.While e) scope slots h = h
-head_in_sight (kind.Count var reverse first last step) scope slots h = variable_taken var false ty.Bigint false slots scope.variables h
+head_in_sight (kind.Count var reverse first last step) scope slots h = variable_taken var false ty.Integer false slots scope.variables h
 
 loop_takes : (label : Option Name) (k : LoopKind) (gs : List (By Stmt)) (closing : Option Name) → Every (TakesBy found) gs → TakesBy found (n.statement (st.Loop label k gs closing))
 loop_takes label k gs closing h spot slots p c =

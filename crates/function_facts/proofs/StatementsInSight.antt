@@ -1,6 +1,6 @@
 -- In a function whose names are resolved and break no rule, each expression reads slots in sight alone.
 use Rattle.std.proofs.Common.{◌≡◌, refl, sym, ap, subst, ◌∙◌, ℕ, ◌+◌, Bool, true, false, List, [], ◌∷◌, ◌++◌, map, fold, length, Option, Some, None, option_map}
-use Rattle.away_values.specs.declared.types.Ty.TheVariants.{Bigint}
+use Rattle.away_values.specs.declared.types.Ty.TheVariants.{Integer}
 use Rattle.away_trees.specs.declared.queries.Expr.{Expr}
 use Rattle.away_trees.specs.declared.queries.Select.{Select}
 use Rattle.away_trees.specs.declared.statements.Arm.{Arm}
@@ -130,7 +130,7 @@ loop_good (kind.Count var reverse first last step) scope slots after ws c g =
     (every_append ReadsInSight (sight.one_expr a.it next seen).exprs ((sight.one_expr z.it next seen).exprs ++ (sight.maybe_expr by.it next seen).exprs) (expr_read first scope next bounds.0)
     (every_append ReadsInSight (sight.one_expr z.it next seen).exprs (sight.maybe_expr by.it next seen).exprs (expr_read last scope next ends.0) (maybe_read step scope next ends.1)))
     (subst (λ s. Good (sight.all_walks ws (next + 1) s) after) (slots_push var false slots scope.variables)
-    (subst (λ k. Good (sight.all_walks ws k (slots_of (with_variable var false slots scope.variables))) after) (shown_push Bigint false slots) g))
+    (subst (λ k. Good (sight.all_walks ws k (slots_of (with_variable var false slots scope.variables))) after) (shown_push Integer false slots) g))
 
 looped_good : (label : Option Name) (k : LoopKind) (fs : List (By Stmt)) (closing : Option Name) → Every (GoodBy of_stmt) fs → GoodBy of_stmt (n.statement (st.Loop label k fs closing))
 looped_good label k fs closing h spot slots c =

@@ -55,7 +55,7 @@ placed_more a b l s p = ((p.0.0, variables_more a b l s.variables p.0.1), p.1)
 -- ---- what takes its slots
 
 abbrev pub hidden_slots : ℕ → List Slot
-hidden_slots fors = replicate (3 * fors) (slot ty.Bigint)
+hidden_slots fors = replicate (3 * fors) (slot ty.Integer)
 
 abbrev pub targets_in : List Into → List Target
 targets_in is = flat_map (λ (i : Into). i.targets) is
@@ -103,7 +103,7 @@ takes_behind a b first between last s t =
     record {
       shown = t.shown ∙ (ap (λ xs. xs ++ b.variables) s.shown ∙ append_assoc first.shown a.variables b.variables);
       hidden = t.hidden ∙ (ap (λ xs. xs ++ hidden_slots b.fors) s.hidden ∙ (append_assoc first.hidden (hidden_slots a.fors) (hidden_slots b.fors)
-          ∙ ap (λ xs. first.hidden ++ xs) (replicate-append-replicate (3 * a.fors) (3 * b.fors) (slot ty.Bigint) ∙ ap (λ k. replicate k (slot ty.Bigint)) (omega arith))));
+          ∙ ap (λ xs. first.hidden ++ xs) (replicate-append-replicate (3 * a.fors) (3 * b.fors) (slot ty.Integer) ∙ ap (λ k. replicate k (slot ty.Integer)) (omega arith))));
       picked = λ later.
           let next = b.variables ++ later in
           let same : between.shown ++ next ≡ last.shown ++ later = sym (append_assoc between.shown b.variables later) ∙ ap (λ xs. xs ++ later) (sym t.shown) in

@@ -28,7 +28,7 @@ fn ask_bound(a: &Asking<'_>, b: usize, slot: usize, want: &Wanted<'_>, next: usi
 {
     let test = jump_of(a.goto, b);
     let fault = yes_of(a.goto, test);
-    let null = is_null(a.fixed, Ty::Bigint, slot);
+    let null = is_null(a.fixed, Ty::Integer, slot);
     join(
         ask_own(a, b, &Shape::Sets(slot, want, test)),
         join(

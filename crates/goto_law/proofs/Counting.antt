@@ -106,8 +106,8 @@ module _ (s : Sides) (known : Known s) where
         go : (r : Or Value) → Back s.frame s.form.goto r b env hid j test → GoesIn s around next b env hid h n (3 + w) (with_bound r act env n)
         go (Err c) l = heavier (at_fault l) (omega arith)
         go (Ok v) l =
-            let tested = known.null_tests ty.Bigint slot (env ++ with_value v) ∙ ap (λ y. Ok (val.Bool (is_null y))) (got v) in
-            decide (is_null v) v l (decides_at s.frame s.form.goto false (form.is_null s.form.numbers.fixed ty.Bigint slot) (env ++ with_value v)
+            let tested = known.null_tests ty.Integer slot (env ++ with_value v) ∙ ap (λ y. Ok (val.Bool (is_null y))) (got v) in
+            decide (is_null v) v l (decides_at s.frame s.form.goto false (form.is_null s.form.numbers.fixed ty.Integer slot) (env ++ with_value v)
             (is_null v) test tested stand.1.0)
 
   module _ (around : Around) (next b on slot j k : ℕ) (env hid : Env) (h n w : ℕ) (act : Value → Step) (wide : length env ≡ width s)

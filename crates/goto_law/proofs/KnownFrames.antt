@@ -85,18 +85,18 @@ types_same (x ∷ xs) ys (suc i) lt = types_same xs ys i (omega (arith, lt))
 
 -- those behind the ones that the text names
 abbrev hidden_slots : Function → List Slot
-hidden_slots f = replicate (3 * (laid f.body).size.fors) (slot ty.Bigint) ++ map (hidden_slot (shown_types f)) (into_targets f.body)
+hidden_slots f = replicate (3 * (laid f.body).size.fors) (slot ty.Integer) ++ map (hidden_slot (shown_types f)) (into_targets f.body)
 
 shown_long : (f : Function) → length (shown_slots f) ≡ (numbers_of f).counters
 shown_long f =
-    let hidden = replicate (3 * (laid f.body).size.fors) (slot ty.Bigint) in
+    let hidden = replicate (3 * (laid f.body).size.fors) (slot ty.Integer) in
     let picked = map (hidden_slot (shown_types f)) (into_targets f.body) in
     omega (
       arith,
       own_slots_counted f (own_slots f) refl,
       length-append (shown_slots f) (hidden ++ picked),
       length-append hidden picked,
-      length-replicate (3 * (laid f.body).size.fors) (slot ty.Bigint),
+      length-replicate (3 * (laid f.body).size.fors) (slot ty.Integer),
       length-map (into_targets f.body) (hidden_slot (shown_types f)),
       targets_counted f.body,
     )

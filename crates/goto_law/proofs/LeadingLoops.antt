@@ -19,7 +19,7 @@ module _ (s : Setting) where
   step_leads None k c step head stand h = record { begins = in_list s.goto.blocks c _ stand.0; parts = (h, tt) }
   step_leads (Some e) k c step head stand h =
       let test = no_of s.goto (jump_of s.goto c) in
-      let bound = set_leads s true ty.Bigint c step test (source_term k e) (stand.0, (stand.1.0, (stand.1.1.0, tt)))
+      let bound = set_leads s true ty.Integer c step test (source_term k e) (stand.0, (stand.1.0, (stand.1.1.0, tt)))
       (in_list s.goto.blocks test _ stand.1.1.1.0) in
       record {
         begins = bound.begins;
@@ -91,9 +91,9 @@ module _ (s : Setting) where
     for_leads hb hn =
         let steps = step_leads by (p.expr + 2) b2 (cur + 2) head (left s.goto.blocks by_parts turning_parts behind_last) head_within in
         let third = both s b2 head by_parts turning_parts steps (turns_lead hb hn) in
-        let lasts = set_leads s true ty.Bigint b1 (cur + 1) b2 (source_term (p.expr + 1) last) last_stand steps.begins in
+        let lasts = set_leads s true ty.Integer b1 (cur + 1) b2 (source_term (p.expr + 1) last) last_stand steps.begins in
         let second = both s b1 b2 last_parts (by_parts ++ turning_parts) lasts third in
-        let firsts = set_leads s true ty.Bigint b0 cur b1 (source_term p.expr first) first_stand lasts.begins in
+        let firsts = set_leads s true ty.Integer b0 cur b1 (source_term p.expr first) first_stand lasts.begins in
         both s b0 b1 first_parts (last_parts ++ (by_parts ++ turning_parts)) firsts second
 
   -- ---- the statements

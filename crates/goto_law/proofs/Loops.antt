@@ -68,7 +68,7 @@ module _ (s : Setting) where
       let bad = yes_of s.goto test in
       let S : Slots = with_slot V step in
       let positive : Term = not_positive s.numbers.fixed step in
-      set_safe s true ty.Bigint k b step test (source_term j e) V (stand.0, (stand.1.0, (stand.1.1.0, tt))) r
+      set_safe s true ty.Integer k b step test (source_term j e) V (stand.0, (stand.1.0, (stand.1.1.0, tt))) r
       (safe_branch s.goto.blocks k test bad head false positive S stand.1.1.1.0 (reads_one S step positive.expr (inr refl))
       (safe_fail s.goto.blocks k bad invalid_parameter S stand.1.1.1.1.0) h)
 
@@ -159,9 +159,9 @@ module _ (s : Setting) where
         → ((k : ℕ) → SafeAt k test (turning V cur p.slot) → Onward s k around next V → SafeAt k body (turning V cur p.slot))
         → (k : ℕ) → Onward s k around next V → SafeAt k b0 V
     for_safe r1 r2 rb around h k on =
-        set_safe s true ty.Bigint k b0 cur b1 (source_term p.expr first) V
+        set_safe s true ty.Integer k b0 cur b1 (source_term p.expr first) V
         (left s.goto.blocks first_parts (last_parts ++ (by_parts ++ turning_parts)) stand) r1
-        (set_safe s true ty.Bigint k b1 (cur + 1) b2 (source_term (p.expr + 1) last) A
+        (set_safe s true ty.Integer k b1 (cur + 1) b2 (source_term (p.expr + 1) last) A
         (left s.goto.blocks last_parts (by_parts ++ turning_parts) second) (reads_more V A (λ i v. inl v) (source_term (p.expr + 1) last) r2)
         (step_safe by (p.expr + 2) k b2 (cur + 2) head B (left s.goto.blocks by_parts turning_parts third) (by_more by rb)
         (head_counts reverse p.slot cur head test body next (right s.goto.blocks by_parts turning_parts third) V around h k on)))

@@ -30,18 +30,18 @@ module _ (s : Setting) where
   Found = (reverse : Bool) (f b next back : ℕ) → slice_get B b ≡ Some (branches false (leaves_range S reverse (s.numbers.counters + 3 * f + 2) (s.numbers.counters + 3 * f)) next back) → for_test s.goto s.numbers reverse f ≡ b
 
   abbrev Bound : ℕ → Term → ℕ → List Block
-  Bound slot e start = set_blocks s.numbers true ty.Bigint slot e (start + 3) start
+  Bound slot e start = set_blocks s.numbers true ty.Integer slot e (start + 3) start
 
   -- what follows a bound
   second_is : (slot : ℕ) (e : Term) (b : ℕ) → Seg B b (Bound slot e b) → after_bound s.goto b ≡ b + 3
   second_is slot e b bs =
-      let test = branches false (is_null S ty.Bigint slot) (b + 2) (b + 3) in
+      let test = branches false (is_null S ty.Integer slot) (b + 2) (b + 3) in
       let h0 : slice_get B b ≡ Some (sets slot e (b + 1)) = seg_head B (test ∷ fails null_not_allowed ∷ []) (sets slot e (b + 1)) b bs in
       let h1 : slice_get B (b + 1) ≡ Some test = seg_head B (fails null_not_allowed ∷ []) test (b + 1) (seg_tail B (test ∷ fails null_not_allowed ∷ []) (sets slot e (b + 1)) b bs) in
       ap (no_of s.goto) (ap (end_in jump_in) h0) ∙ ap (end_in no_in) h1
 
   bound_stands : (slot : ℕ) (e : Term) (b : ℕ) → Seg B b (Bound slot e b) → Fine B b 3 (bound_parts s.goto s.numbers b slot e (after_bound s.goto b))
-  bound_stands slot e b bs = subst (λ k. Fine B b 3 (bound_parts s.goto s.numbers b slot e k)) (sym (second_is slot e b bs)) (set_stands s true ty.Bigint b slot e (b + 3) bs)
+  bound_stands slot e b bs = subst (λ k. Fine B b 3 (bound_parts s.goto s.numbers b slot e k)) (sym (second_is slot e b bs)) (set_stands s true ty.Integer b slot e (b + 3) bs)
 
   -- the step, and where the head is
   steps_stand : (by : Option Expr) (k slot head start : ℕ) → Seg B start (step_blocks s.numbers by k slot head start) → Fine B start (step_many by) (step_parts s.goto s.numbers by k start slot head) × (head_after s.goto by start ≡ head)
@@ -174,7 +174,7 @@ module _ (s : Setting) where
         let at_begin : start + (3 + 3 + step_many by + 4) ≡ begin = omega arith in
         let b2 : Seg B begin inside = subst (λ k. Seg B k inside) at_begin b1 in
         let n1 : Seg s.goto.nodes (p.node + 1) firsts = seg_tail s.goto.nodes firsts start p.node ns in
-        let v1 : Seg s.slots (p.slot + 1) (row_vars ys) = seg_tail s.slots (row_vars ys) (slot ty.Bigint) p.slot vs in
+        let v1 : Seg s.slots (p.slot + 1) (row_vars ys) = seg_tail s.slots (row_vars ys) (slot ty.Integer) p.slot vs in
         let fors = for_stands found reverse e1 e2 by p first next start b0 in
         let first_is : first_block s (length xs) (p.node + 1) again ≡ first = row_first_is s xs ys good (p.node + 1) begin again n1 in
         let rows = row_stands s xs ys good q (record { label = label; exit = next; again = Some again } ∷ around) again begin (omega (arith, late)) b2 n1 v1 in

@@ -195,7 +195,7 @@ module _ (n : Numbers) where
   step_keys None k slot head start = refl
   step_keys (Some e) k slot head start =
       keys_append S (bound_blocks n slot (source_term k e) start) (branches false (not_positive S slot) (start + 3 + 1) head ∷ fails invalid_parameter ∷ [])
-      ∙ (λ i. set_keys true ty.Bigint slot (source_term k e) (start + 3) start i ++ (entry_key fix.NotPositive (slot ∷ []) (start + 3 + 1) head (λ h. absurd (omega arith)) (λ h. absurd (omega arith)) i ++ []))
+      ∙ (λ i. set_keys true ty.Integer slot (source_term k e) (start + 3) start i ++ (entry_key fix.NotPositive (slot ∷ []) (start + 3 + 1) head (λ h. absurd (omega arith)) (λ h. absurd (omega arith)) i ++ []))
 
   range_key : (reverse : Bool) (cur last y m : ℕ) → key S (Branch (in_range S reverse cur last) y m) ≡ []
   range_key false cur last y m = entry_key fix.AtMost (cur ∷ last ∷ []) y m (λ h. absurd (omega arith)) (λ h. absurd (omega arith))
@@ -210,8 +210,8 @@ module _ (n : Numbers) where
       let four = turn_blocks n reverse p body next (head_at by start) in
       let two_ = bound_blocks n (cur_at n p + 1) (source_term (p.expr + 1) e2) (start + 3) in
       keys_append S (bound_blocks n (cur_at n p) (source_term p.expr e1) start) (two_ ++ (three ++ four))
-      ∙ (λ i. set_keys true ty.Bigint (cur_at n p) (source_term p.expr e1) (start + 3) start i ++ keys_append S two_ (three ++ four) i)
-      ∙ (λ i. set_keys true ty.Bigint (cur_at n p + 1) (source_term (p.expr + 1) e2) (start + 3 + 3) (start + 3) i ++ keys_append S three four i)
+      ∙ (λ i. set_keys true ty.Integer (cur_at n p) (source_term p.expr e1) (start + 3) start i ++ keys_append S two_ (three ++ four) i)
+      ∙ (λ i. set_keys true ty.Integer (cur_at n p + 1) (source_term (p.expr + 1) e2) (start + 3 + 3) (start + 3) i ++ keys_append S three four i)
       ∙ (λ i. step_keys by (p.expr + 2) (cur_at n p + 2) (head_at by start) (start + 3 + 3) i ++ turn_keys reverse p body next (head_at by start) i)
 
   count_keyed : (label : Label) (reverse : Bool) (e1 e2 : Expr) (by : Option Expr) (ys : List Built) → AllKeyed ys → Keyed (spec.counted n label reverse e1 e2 by ys)

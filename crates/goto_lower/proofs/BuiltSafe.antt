@@ -240,7 +240,7 @@ module _ (n : Numbers) (limit : ℕ) (room : n.counters ≤ limit) where
   step_safe None k slot head start h lt p = (safe_sets slot (one n.fixed) head lt (term_below (one n.fixed) tt) p, tt)
   step_safe (Some e) k slot head start h lt p =
       safe_join (bound_blocks n slot (source_term k e) start) (branches false (not_positive n.fixed slot) (start + 3 + 1) head ∷ fails invalid_parameter ∷ [])
-      (set_safe true ty.Bigint slot (source_term k e) (start + 3) start lt (source_below k e h.0) (omega arith))
+      (set_safe true ty.Integer slot (source_term k e) (start + 3) start lt (source_below k e h.0) (omega arith))
       (safe_branch false (not_positive n.fixed slot) (start + 3 + 1) head (term_below (not_positive n.fixed slot) (lt, tt)) (omega arith) p, (safe_fail invalid_parameter, tt))
 
   turn_safe : (reverse : Bool) (p : Position) (body next head : ℕ) → p.slot < n.counters → n.counters + 3 * (p.fors + 1) ≤ limit → 1 ≤ body → 1 ≤ next → 1 ≤ head → AllSafe (turn_blocks n reverse p body next head)
@@ -266,8 +266,8 @@ module _ (n : Numbers) (limit : ℕ) (room : n.counters ≤ limit) where
       let three = step_blocks n by (p.expr + 2) (cur_at n p + 2) (head_at by start) (start + 3 + 3) in
       let four = turn_blocks n reverse p body next (head_at by start) in
       let two = bound_blocks n (cur_at n p + 1) (source_term (p.expr + 1) e2) (start + 3) in
-      safe_join (bound_blocks n (cur_at n p) (source_term p.expr e1) start) (two ++ (three ++ four)) (set_safe true ty.Bigint (cur_at n p) (source_term p.expr e1) (start + 3) start c0 (source_below p.expr e1 r1) (omega arith))
-      (safe_join two (three ++ four) (set_safe true ty.Bigint (cur_at n p + 1) (source_term (p.expr + 1) e2) (start + 3 + 3) (start + 3) c1 (source_below (p.expr + 1) e2 r2) (omega arith))
+      safe_join (bound_blocks n (cur_at n p) (source_term p.expr e1) start) (two ++ (three ++ four)) (set_safe true ty.Integer (cur_at n p) (source_term p.expr e1) (start + 3) start c0 (source_below p.expr e1 r1) (omega arith))
+      (safe_join two (three ++ four) (set_safe true ty.Integer (cur_at n p + 1) (source_term (p.expr + 1) e2) (start + 3 + 3) (start + 3) c1 (source_below (p.expr + 1) e2 r2) (omega arith))
       (safe_join three four (step_safe by (p.expr + 2) (cur_at n p + 2) (head_at by start) (start + 3 + 3) r3 c2 (omega arith)) (turn_safe reverse p body next (head_at by start) lt h q r (omega arith))))
 
   pub count_secure : (label : Label) (reverse : Bool) (e1 e2 : Expr) (by : Option Expr) (ys : List Built) → AllCounted ys → AllSecure ys → OwnReads e1 → OwnReads e2 → Every OwnReads (if_there by) → Secure (spec.counted n label reverse e1 e2 by ys)

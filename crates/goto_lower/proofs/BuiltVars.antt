@@ -22,7 +22,7 @@ module _ (n : Numbers) (slots : List Slot) (finish : ℕ) where
     vars_same (b.Cases' m arms (b.Some' k body)) = λ i. arms_same arms i ++ row_same body i
     vars_same (b.Loop' label kind.Plain m body closing) = row_same body
     vars_same (b.Loop' label (kind.While e) m body closing) = row_same body
-    vars_same (b.Loop' label (kind.Count var reverse e1 e2 by) m body closing) = ap (λ xs. slot ty.Bigint ∷ xs) (row_same body)
+    vars_same (b.Loop' label (kind.Count var reverse e1 e2 by) m body closing) = ap (λ xs. slot ty.Integer ∷ xs) (row_same body)
     vars_same (b.Exit label when) = refl
     vars_same (b.Continue label when) = refl
     vars_same (b.Return e) = refl

@@ -76,7 +76,7 @@ own_vars : (f : Function) (slots : List Slot) → OwnSlots f slots → Seg slots
 unfolding variables built_of
 own_vars f slots owned =
     let params = param_slots f.params in
-    let hidden = replicate (3 * (laid f.body).size.fors) (slot ty.Bigint) ++ map (hidden_slot (shown_types f)) (into_targets f.body) in
+    let hidden = replicate (3 * (laid f.body).size.fors) (slot ty.Integer) ++ map (hidden_slot (shown_types f)) (into_targets f.body) in
     let vars = variables f.body in
     let all : Seg slots 0 (params ++ (vars ++ hidden)) = subst (λ xs. Seg slots 0 xs) (owned.slots_are ∙ append_assoc params vars hidden) (whole slots) in
     let rest : Seg slots (0 + length f.params) (vars ++ hidden) = seg_right slots params (vars ++ hidden) 0 (length f.params) (length-map f.params (λ (p : List ℕ × Ty). slot p.1)) all in

@@ -307,7 +307,7 @@ count_size by = place 1 (2 + one_if by) 1 1 0
 module _ (n : Numbers) where
   -- a bound is set and is not NULL; the next block follows
   abbrev pub bound_blocks : ℕ → Term → ℕ → List Block
-  bound_blocks slot e start = set_blocks n true ty.Bigint slot e (start + 3) start
+  bound_blocks slot e start = set_blocks n true ty.Integer slot e (start + 3) start
 
   abbrev pub step_blocks : Option Expr → ℕ → ℕ → ℕ → ℕ → List Block
   step_blocks None k slot head start = sets slot (one n.fixed) head ∷ []
@@ -344,7 +344,7 @@ module _ (n : Numbers) where
         ++ row_blocks body (after p (count_size by)) (record { label = label; exit = next; again = Some (head_at by start + 1 + 1) }
         ∷ around) (head_at by start + 1 + 1) (head_at by start + 4);
     firsts = λ start next. start ∷ row_firsts body (head_at by start + 4) (head_at by start + 1 + 1);
-    vars = slot ty.Bigint ∷ [] ++ row_vars body;
+    vars = slot ty.Integer ∷ [] ++ row_vars body;
   }
 
 -- ---- all statements

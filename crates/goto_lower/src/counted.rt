@@ -52,7 +52,7 @@ fn push_bound(
 {
     let next = sum(draft.here()?, 3)?;
     let target = Target {
-        ty: Ty::Bigint,
+        ty: Ty::Integer,
         slot,
         term,
     };

@@ -18,7 +18,7 @@ use Rattle.plsql_meaning.specs.Loops.{Turning, started, Verdict, again, leave, v
 use Rattle.away_values.specs.declared.types.Ty.{Ty}
 use Rattle.away_trees.specs.declared.queries.Expr.TheViews.{out-Select}
 use Rattle.plsql_meaning.specs.Conversions.{conversions, converted_row}
-use Rattle.plsql_meaning.specs.Statements.{Setting, is_not_null, stored, put, assign, initial, declare, pick, choose, jump, give, in_row, in_arms, in_else, bounded, with_bound, judged, with_step, loop, put_all, put_converted, put_row, head_or_null, rest_of, into_as, into, running}
+use Rattle.plsql_meaning.specs.Statements.{Setting, is_not_null, stored, put, assign, initial, declare, pick, choose, jump, give, in_row, in_arms, in_else, bounded, with_bound, judged, with_step, loop, put_all, put_converted, put_row, head_or_null, rest_of, into_as, running}
 
 abbrev pub Spends : Step → Type 0
 Spends f = (env : Env) (n : ℕ) → (f env n).left ≤ n

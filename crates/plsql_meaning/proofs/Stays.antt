@@ -22,7 +22,7 @@ use Rattle.plsql_meaning.specs.Functions.{answer_of, begun, function_answer}
 use Rattle.away_values.specs.declared.types.Ty.{Ty}
 use Rattle.away_trees.specs.declared.queries.Expr.TheViews.{out-Select}
 use Rattle.plsql_meaning.specs.Conversions.{conversions, converted_row}
-use Rattle.plsql_meaning.specs.Statements.{Setting, meaning, is_not_null, stored, put, assign, initial, declare, pick, choose, jump, give, in_row, in_arms, in_else, bounded, with_bound, judged, with_step, loop, put_all, put_converted, put_row, head_or_null, rest_of, into_as, into, running}
+use Rattle.plsql_meaning.specs.Statements.{Setting, meaning, is_not_null, stored, put, assign, initial, declare, pick, choose, jump, give, in_row, in_arms, in_else, bounded, with_bound, judged, with_step, loop, put_all, put_converted, put_row, head_or_null, rest_of, into_as, running}
 use Rattle.plsql_meaning.proofs.Spends.{Spends, row_spends}
 
 abbrev pub Over : Outcome → Type 0

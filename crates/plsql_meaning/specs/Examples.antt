@@ -98,11 +98,15 @@ summing reverse first last by = block (var (Some (n 0)) ∷ []) (for reverse fir
 abbrev pub counting : Bool → Expr → Expr → Stmt
 counting reverse first last = block (var (Some (n 0)) ∷ []) (for reverse first last None (add_to 0 (n 1) ∷ []) ∷ stmt.Return (slot 0) ∷ [])
 
+-- the greatest and the least integer, and a bound that is converted to integer and doesn't fit
 abbrev pub max : Expr
-max = n 9223372036854775807
+max = n 2147483647
 
 abbrev pub min : Expr
-min = expr.Int (negsuc 9223372036854775807)
+min = expr.Int (negsuc 2147483647)
+
+abbrev pub too_great : Expr
+too_great = expr.Cast (n 2147483648) ty.Integer
 
 -- DECLARE c := 0; BEGIN <<a>> LOOP LOOP c := c + 1; EXIT a WHEN c > 3; CONTINUE a WHEN c > 1; END
 -- LOOP; END LOOP; RETURN c; END

@@ -20,7 +20,6 @@ use Rattle.away_values.specs.declared.types.Ty.{Ty}
 use Rattle.away_values.specs.declared.values.Answer.TheVariants as answer
 use Rattle.away_values.specs.declared.values.Value.{Value}
 use Rattle.away_values.specs.declared.values.Value.TheVariants as val
-use Rattle.away_values.specs.ArithmeticLaws.{IsBigint}
 use Rattle.away_trees.specs.declared.queries.Expr.{Expr}
 use Rattle.away_trees.specs.declared.queries.Query.{Query}
 use Rattle.away_trees.specs.declared.schemas.Schema.{Schema}
@@ -33,7 +32,7 @@ use Rattle.sql_meaning.specs.Equivalent.{IsEquivalent}
 use Rattle.sql_meaning.specs.OneReturn.{answer_of_return}
 use Rattle.sql_meaning.specs.Typed.{AreTyped}
 use Rattle.sql_meaning.specs.Working.{sql}
-use Rattle.plsql_meaning.specs.Counters.{CountsTo}
+use Rattle.plsql_meaning.specs.Counters.{CountsTo, IsInteger}
 use Rattle.plsql_meaning.specs.Equivalent.{answers, Equivalent, IsOneReturn, types_of}
 use Rattle.plsql_meaning.specs.Functions.{answer_of, begun, function_answer, over}
 use Rattle.plsql_meaning.specs.Loops.{counts}
@@ -93,12 +92,12 @@ OneReturnEquivalent =
 
 abbrev pub CountsUp : Type 0
 CountsUp =
-    (last : Value) (var : ℕ) (c by : ℤ) → IsBigint c → IsBigint by → pos 0 <ℤ by
+    (last : Value) (var : ℕ) (c by : ℤ) → IsInteger c → IsInteger by → pos 0 <ℤ by
     → CountsTo (c +ℤ by) ((counts false last (val.Int by) var).next (val.Int c))
 
 abbrev pub CountsDown : Type 0
 CountsDown =
-    (last : Value) (var : ℕ) (c by : ℤ) → IsBigint c → IsBigint by → pos 0 <ℤ by
+    (last : Value) (var : ℕ) (c by : ℤ) → IsInteger c → IsInteger by → pos 0 <ℤ by
     → CountsTo (c -ℤ by) ((counts true last (val.Int by) var).next (val.Int c))
 
 -- ---- sights

@@ -21,9 +21,10 @@ use Rattle.std.specs.Prelude.{
 use Rattle.away_values.specs.declared.values.Value.{Value}
 use Rattle.away_values.specs.declared.values.Value.TheVariants as val
 use Rattle.away_values.specs.declared.operators.CmpOp.TheVariants as cmp
+use Rattle.away_values.specs.declared.operators.IntOp.{IntOp}
 use Rattle.away_values.specs.declared.operators.IntOp.TheVariants as int
-use Rattle.away_values.specs.Operators.{int_op, compare, is_true}
-use Rattle.away_values.specs.Results.{Or, mapped}
+use Rattle.away_values.specs.Operators.{int_op, compare, is_true, small}
+use Rattle.away_values.specs.Results.{Or, and_then, mapped}
 use Rattle.plsql_meaning.specs.Outcomes.{
   Env,
   Label,
@@ -104,27 +105,32 @@ abbrev pub while : (Env → Or Value) → Turning (Unit {0})
 while test = record { begin = λ s env. mapped (λ v. going (is_true v) env) (test env); next = λ s. Ok (Some s) }
 
 -- ---- FOR (PostgreSQL manual, PL/pgSQL: FOR (Integer Variant)): its counter, its last value and
--- its step are values apart from the variable, under the operators of SQL
+-- its step are integers apart from the variable, under the operators of SQL
 
 abbrev pub greatest : Value
-greatest = val.Int (pos (2 ^ 63 - 1))
+greatest = val.Int (pos (2 ^ 31 - 1))
 
 abbrev pub least : Value
-least = val.Int (negsuc (2 ^ 63 - 1))
+least = val.Int (negsuc (2 ^ 31 - 1))
+
+-- an operation on integers alone
+abbrev pub small_op : IntOp → Value → Value → Or Value
+small_op op x y = and_then (int_op op x y) small
 
 -- whether the counter hasn't passed the last value
 abbrev pub reaches : Bool → Value → Value → Value
 reaches false c last = compare cmp.Le c last
 reaches true c last = compare cmp.Ge c last
 
--- whether the next counter would leave the range of bigint
+-- Whether the next counter would leave the range of integer. The least integer is written as the
+-- minus of a literal that is a bigint, so the sum over it is bigint's.
 abbrev pub leaves : Bool → Value → Value → Or Value
-leaves false by c = mapped (λ d. compare cmp.Lt d c) (int_op int.Sub greatest by)
+leaves false by c = mapped (λ d. compare cmp.Lt d c) (small_op int.Sub greatest by)
 leaves true by c = mapped (λ d. compare cmp.Gt d c) (int_op int.Add least by)
 
 abbrev pub counted : Bool → Value → Value → Or Value
-counted false c by = int_op int.Add c by
-counted true c by = int_op int.Sub c by
+counted false c by = small_op int.Add c by
+counted true c by = small_op int.Sub c by
 
 abbrev pub stepping : Bool → Or Value → Or (Option Value)
 stepping true next = Ok None

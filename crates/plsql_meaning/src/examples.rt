@@ -38,6 +38,7 @@ ghost use Rattle.plsql_meaning.specs.Examples.{
   starting_as,
   strict_slot,
   summing,
+  too_great,
   unmatched,
   while_only,
 };
@@ -60,12 +61,13 @@ pub fn for_has_its_own_counter()
     ensures fewer { answer_at (summing false (n 1) (n 4) None) 3 ≡ answer.More }
     ensures down { answer_at (summing true (n 4) (n 1) (Some (n 2))) 2 ≡ answer.Value (int 6) }
     ensures none { answer_at (summing false (n 4) (n 1) None) 0 ≡ answer.Value (int 0) }
-    ensures at_the_end { answer_at (counting false (n 9223372036854775806) max) 2
-        ≡ answer.Value (int 2) }
-    ensures at_the_least { answer_at (counting true (expr.Int (negsuc 9223372036854775806)) min) 2
+    ensures at_the_end { answer_at (counting false (n 2147483646) max) 2 ≡ answer.Value (int 2) }
+    ensures at_the_least { answer_at (counting true (expr.Int (negsuc 2147483646)) min) 2
         ≡ answer.Value (int 2) }
     ensures by_the_greatest { answer_at (summing false (n 5) (n 9) (Some max)) 1
         ≡ answer.Value (int 5) }
+    ensures down_by_the_greatest { answer_at (summing true (n 1) min (Some max)) 2
+        ≡ answer.Value (val.Int (negsuc 2147483644)) }
     ensures assigned { answer_at assigning_its_variable 3 ≡ answer.Value (int 60) }
     ensures continued { answer_at odd_numbers 9 ≡ answer.Value (int 25) }
     ensures bound { answer_at moving_its_bound 2 ≡ answer.Value (int 12) }
@@ -79,6 +81,14 @@ pub fn for_has_its_own_counter()
         ≡ answer.Fault (class (codes "22023")) }
     ensures fault_first { answer_at (summing false by_zero expr.Null None) 0
         ≡ answer.Fault (class (codes "22012")) }
+    ensures first_converted { answer_at (summing false too_great expr.Null None) 0
+        ≡ answer.Fault (class (codes "22003")) }
+    ensures first_null { answer_at (summing false expr.Null too_great None) 0
+        ≡ answer.Fault (class (codes "22004")) }
+    ensures last_converted { answer_at (summing false (n 5) too_great (Some (n 0))) 0
+        ≡ answer.Fault (class (codes "22003")) }
+    ensures step_converted { answer_at (summing false (n 1) (n 2) (Some too_great)) 0
+        ≡ answer.Fault (class (codes "22003")) }
 {}
 
 /// IF, CASE, EXIT and CONTINUE take a condition only where it is true; a CASE without a match and without ELSE raises 20000.

@@ -30,7 +30,7 @@ pub fn one_return_is_a_function()
     ensures equivalent { OneReturnEquivalent }
 {}
 
-/// Between bigints FOR counts by its step while the next counter is a bigint. Where it isn't, the loop ends without a fault.
+/// Between integers FOR counts by its step while the next counter is an integer. Where it isn't, the loop ends without a fault.
 pub fn counters_end_without_a_fault()
     ensures up { CountsUp }
     ensures down { CountsDown }

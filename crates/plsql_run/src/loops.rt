@@ -12,7 +12,7 @@ use crate::frames::{Counting, Frame, Signal, Stretch, Way};
 use crate::names::names_loop;
 use crate::setting::Setting;
 use away_trees::Expr;
-use away_values::{Class, CmpOp, IntOp, Name, OpError, Value, compare, int_op};
+use away_values::{Class, CmpOp, IntOp, Name, OpError, Value, compare, int_op, small};
 use lateral_rows::is_true;
 use sqlite_items::Items;
 use std::alloc::Global;
@@ -124,15 +124,23 @@ pub(crate) fn begin_count<'a>(
     begin(stack, Frame::Count(counter, counting), first)
 }
 
-/// Whether the next counter would leave the range of bigint.
+/// An operation on integers alone.
+fn small_op(op: IntOp, x: &Value, y: &Value) -> Result<Value, Class>
+    ensures { result ≡ spec.small_op op x.now y.now }
+{
+    let v = int_op(op, x, y)?;
+    small(&v)
+}
+
+/// Whether the next counter would leave the range of integer. Over the least integer the sum is bigint's, as over the literal that it is written as.
 fn leaves(reverse: bool, step: &Value, counter: &Value) -> Result<Value, Class>
     ensures { result ≡ spec.leaves reverse step.now counter.now }
 {
     if reverse {
-        let end = int_op(IntOp::Add, &Value::Int(i64::MIN), step)?;
+        let end = int_op(IntOp::Add, &Value::Int(-2_147_483_648), step)?;
         Ok(compare(CmpOp::Gt, &end, counter))
     } else {
-        let end = int_op(IntOp::Sub, &Value::Int(i64::MAX), step)?;
+        let end = small_op(IntOp::Sub, &Value::Int(2_147_483_647), step)?;
         Ok(compare(CmpOp::Lt, &end, counter))
     }
 }
@@ -141,13 +149,13 @@ fn counted(reverse: bool, counter: &Value, step: &Value) -> Result<Value, Class>
     ensures { result ≡ spec.counted reverse counter.now step.now }
 {
     if reverse {
-        int_op(IntOp::Sub, counter, step)
+        small_op(IntOp::Sub, counter, step)
     } else {
-        int_op(IntOp::Add, counter, step)
+        small_op(IntOp::Add, counter, step)
     }
 }
 
-/// The counter of the next turn, or nothing where it would leave the range of bigint.
+/// The counter of the next turn, or nothing where it would leave the range of integer.
 fn next_count(reverse: bool, counter: &Value, step: &Value) -> Result<Option<Value>, Class>
     ensures { result ≡ spec.advanced (spec.leaves reverse step.now counter.now)
         (spec.counted reverse counter.now step.now) }

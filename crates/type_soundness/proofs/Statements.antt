@@ -2,7 +2,7 @@
 use Rattle.std.proofs.Common.{◌≡◌, sym, subst, ℕ, not, ◌||◌, List, [], ◌∷◌, ◌++◌, fold, map, Option, Some, None, option_map}
 use Rattle.std.specs.Prelude.{slice_get}
 use Rattle.away_values.specs.declared.types.Ty.{Ty}
-use Rattle.away_values.specs.declared.types.Ty.TheVariants.{Bigint, Boolean}
+use Rattle.away_values.specs.declared.types.Ty.TheVariants.{Boolean, Integer}
 use Rattle.away_trees.specs.declared.queries.Expr.{Expr}
 use Rattle.away_trees.specs.declared.schemas.Schema.{Schema}
 use Rattle.away_trees.specs.declared.statements.Arm.{Arm}
@@ -85,9 +85,9 @@ module _ (keeps : KeepsRows) (found : Found) (s : Schema) (slots : List Slot) (r
   head_typed kind.Plain c = tt
   head_typed (kind.While e) c = (one_typed Boolean e c, tt)
   head_typed (kind.Count var reverse first last step) c =
-      let both = clean_parts (asked a Bigint first) (joined (asked a Bigint last) (maybe_asked a Bigint step)) c in
-      let more = clean_parts (asked a Bigint last) (maybe_asked a Bigint step) both.1 in
-      (one_typed Bigint first both.0, (one_typed Bigint last more.0, maybe_typed Bigint step more.1))
+      let both = clean_parts (asked a Integer first) (joined (asked a Integer last) (maybe_asked a Integer step)) c in
+      let more = clean_parts (asked a Integer last) (maybe_asked a Integer step) both.1 in
+      (one_typed Integer first both.0, (one_typed Integer last more.0, maybe_typed Integer step more.1))
 
   defaults_typed : (ds : List Decl) (acc : Note) → Clean (fold (λ n (d : Decl). joined n (maybe_asked a d.ty d.default)) acc ds) → Clean acc × AllGive (here.defaults ds)
   defaults_typed [] acc c = (c, tt)

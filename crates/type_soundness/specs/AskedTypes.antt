@@ -18,7 +18,7 @@ use Rattle.std.specs.Prelude.{
 }
 use Rattle.std.specs.List.{flat_map}
 use Rattle.away_values.specs.declared.types.Ty.{Ty}
-use Rattle.away_values.specs.declared.types.Ty.TheVariants.{Bigint, Boolean}
+use Rattle.away_values.specs.declared.types.Ty.TheVariants.{Boolean, Integer}
 use Rattle.away_values.specs.declared.values.Value.{Value}
 use Rattle.away_trees.specs.declared.queries.Expr.{Expr}
 use Rattle.away_trees.specs.declared.queries.Select.{Select}
@@ -78,7 +78,8 @@ slot_type slots (Some i) = slice_get slots i
 abbrev pub head : LoopKind → Asked
 head kind.Plain = []
 head (kind.While e) = one Boolean e
-head (kind.Count var reverse first last step) = one Bigint first ++ (one Bigint last ++ maybe Bigint step)
+head (kind.Count var reverse first last step) =
+    one Integer first ++ (one Integer last ++ maybe Integer step)
 
 -- from a place on, the picks for targets, each by its place
 abbrev pub picks : List Ty → (ℕ → Expr) → List Target → ℕ → Asked
@@ -92,7 +93,7 @@ into slots strict targets q =
     ++ picks slots (pick_entry (target_types slots targets) q) targets 0
 
 -- The default of a declaration and what is assigned have the variable's type, conditions are
--- boolean, the bounds and the step of a FOR bigint, and what is returned has the type of the
+-- boolean, the bounds and the step of a FOR integer, and what is returned has the type of the
 -- result. The tests of SELECT INTO are boolean, and its picks have their targets' types.
 abbrev pub statement : Stmt-F Asks Asks → Asks
 statement (st.Block label decls body closing) slots result = defaults decls ++ all body slots result

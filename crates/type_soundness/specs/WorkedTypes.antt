@@ -58,7 +58,14 @@ abbrev slot : Ty → Slot
 slot t = record { ty = t; not_null = false }
 
 abbrev pub its_slots : List Slot
-its_slots = slot ty.Boolean ∷ slot ty.Text ∷ slot ty.Bigint ∷ slot ty.Bigint ∷ slot ty.Bigint ∷ slot ty.Bigint ∷ []
+its_slots =
+    slot ty.Boolean
+    ∷ slot ty.Text
+    ∷ slot ty.Integer
+    ∷ slot ty.Integer
+    ∷ slot ty.Integer
+    ∷ slot ty.Integer
+    ∷ []
 
 abbrev pub asked_of_each : Asked
 asked_of_each =
@@ -66,9 +73,9 @@ asked_of_each =
     ∷ (Some ty.Boolean, condition)
     ∷ (Some ty.Boolean, expr.Bool true)
     ∷ (Some ty.Text, expr.Null)
-    ∷ (Some ty.Bigint, n 1)
-    ∷ (Some ty.Bigint, n 2)
-    ∷ (Some ty.Bigint, n 3)
+    ∷ (Some ty.Integer, n 1)
+    ∷ (Some ty.Integer, n 2)
+    ∷ (Some ty.Integer, n 3)
     ∷ (Some ty.Boolean, condition)
     ∷ (Some ty.Boolean, condition)
     ∷ (Some ty.Boolean, condition)

@@ -1,5 +1,5 @@
 use Rattle.std.proofs.Common.{◌≡◌, ap, sym, ◌∙◌, false, Option}
-use Rattle.away_values.specs.declared.types.Ty.TheVariants.{Bigint}
+use Rattle.away_values.specs.declared.types.Ty.TheVariants.{Integer}
 use Rattle.away_trees.specs.declared.queries.Expr.{Expr}
 use Rattle.away_trees.specs.declared.statements.LoopKind.TheVariants as kind
 use Rattle.away_names.specs.declared.note.Noted.{Noted}
@@ -32,7 +32,7 @@ returns-in_ok-with_hidden-in-Count c =
     c.joined-in-Count.ensures ∙ (λ i. joined (ap (λ (x : Noted Expr). x.note) c.in_ok-a-in-Count.ensures i) (ends i)) in
     let note : c.joined-in-Count-2.result ≡ joined (written s c.in-Count.var) (joined a.note (joined b.note o.note)) =
     c.joined-in-Count-2.ensures ∙ (λ i. joined (c.written.ensures i) (bounds i)) in
-    let hidden : c.in_ok-with_hidden-in-Count.field-0 ≡ with_hidden (with_slot Bigint false slots) =
+    let hidden : c.in_ok-with_hidden-in-Count.field-0 ≡ with_hidden (with_slot Integer false slots) =
     c.in_ok-with_hidden-in-Count.ensures ∙ ap with_hidden c.in_ok-slots-in-Count.ensures in
     let here : Headed = record {
       it = c.in_ok-new-in-Count.field-0;
