@@ -59,6 +59,12 @@ const ENTRIES: [Fixed; 17] = [
     Fixed::IsNull(Ty::Integer),
 ];
 
+/// The slot a.
+const A: u32 = 0;
+
+/// The slot b.
+const B: u32 = 1;
+
 fn compared(alloc: Global, op: CmpOp, x: Expr, y: Expr) -> Result<Expr, NoMemory>
     ensures { IfOk result (λ e. e ≡ spec.compared op x y) }
 {
@@ -76,24 +82,43 @@ fn of_two(alloc: Global, op: ChainOp, x: Expr, y: Expr) -> Result<Expr, NoMemory
     Ok(Expr::Chain(x, links))
 }
 
+fn null_as(alloc: Global, ty: Ty) -> Result<Expr, NoMemory>
+    ensures { IfOk result (λ e. e ≡ spec.null_as ty) }
+{
+    Ok(Expr::Cast(Boxed::new(alloc, Expr::Null)?, ty))
+}
+
+fn a_is_null(alloc: Global) -> Result<Expr, NoMemory>
+    ensures { IfOk result (λ e. e ≡ spec.a_is_null) }
+{
+    Ok(Expr::Is(Boxed::new(alloc, Expr::Slot(A))?, IsTest::Null, false))
+}
+
+/// An operation on a and b as integers.
+fn small(alloc: Global, op: IntOp) -> Result<Expr, NoMemory>
+    ensures { IfOk result (λ e. e ≡ spec.of_two (chain.Small op) spec.a spec.b) }
+{
+    of_two(alloc, ChainOp::Small(op), Expr::Slot(A), Expr::Slot(B))
+}
+
 /// Whether the greatest integer less a is less than b.
-fn past_greatest(alloc: Global, a: Expr, b: Expr) -> Result<Expr, NoMemory>
+fn past_greatest(alloc: Global) -> Result<Expr, NoMemory>
     ensures { IfOk result (λ e. e
-        ≡ spec.compared cmp.Lt (spec.of_two (chain.Small int.Sub) spec.greatest a) b) }
+        ≡ spec.compared cmp.Lt (spec.of_two (chain.Small int.Sub) spec.greatest spec.a) spec.b) }
 {
     let greatest = Expr::Int(2_147_483_647);
-    let most = of_two(alloc, ChainOp::Small(IntOp::Sub), greatest, a)?;
-    compared(alloc, CmpOp::Lt, most, b)
+    let most = of_two(alloc, ChainOp::Small(IntOp::Sub), greatest, Expr::Slot(A))?;
+    compared(alloc, CmpOp::Lt, most, Expr::Slot(B))
 }
 
 /// Whether the least integer and a are greater than b; its literal is a bigint, and so is the sum.
-fn past_least(alloc: Global, a: Expr, b: Expr) -> Result<Expr, NoMemory>
+fn past_least(alloc: Global) -> Result<Expr, NoMemory>
     ensures { IfOk result (λ e. e
-        ≡ spec.compared cmp.Gt (spec.of_two (chain.Int int.Add) spec.least a) b) }
+        ≡ spec.compared cmp.Gt (spec.of_two (chain.Int int.Add) spec.least spec.a) spec.b) }
 {
     let least = Expr::Neg(Boxed::new(alloc, Expr::Int(2_147_483_648))?);
-    let sum = of_two(alloc, ChainOp::Int(IntOp::Add), least, a)?;
-    compared(alloc, CmpOp::Gt, sum, b)
+    let sum = of_two(alloc, ChainOp::Int(IntOp::Add), least, Expr::Slot(A))?;
+    compared(alloc, CmpOp::Gt, sum, Expr::Slot(B))
 }
 
 impl Fixed {
@@ -159,19 +184,18 @@ impl Fixed {
     fn expression(self, alloc: Global) -> Result<Expr, NoMemory>
         ensures { IfOk result (λ e. e ≡ spec.expression self) }
     {
-        let (a, b) = (Expr::Slot(0), Expr::Slot(1));
         match self {
-            Fixed::Null(ty) => Ok(Expr::Cast(Boxed::new(alloc, Expr::Null)?, ty)),
-            Fixed::IsNull(_) => Ok(Expr::Is(Boxed::new(alloc, a)?, IsTest::Null, false)),
-            Fixed::NotPositive => compared(alloc, CmpOp::Le, a, Expr::Int(0)),
-            Fixed::AtMost => compared(alloc, CmpOp::Le, a, b),
-            Fixed::AtLeast => compared(alloc, CmpOp::Ge, a, b),
-            Fixed::PastGreatest => past_greatest(alloc, a, b),
-            Fixed::PastLeast => past_least(alloc, a, b),
-            Fixed::Sum => of_two(alloc, ChainOp::Small(IntOp::Add), a, b),
-            Fixed::Difference => of_two(alloc, ChainOp::Small(IntOp::Sub), a, b),
+            Fixed::Null(ty) => null_as(alloc, ty),
+            Fixed::IsNull(_) => a_is_null(alloc),
+            Fixed::NotPositive => compared(alloc, CmpOp::Le, Expr::Slot(A), Expr::Int(0)),
+            Fixed::AtMost => compared(alloc, CmpOp::Le, Expr::Slot(A), Expr::Slot(B)),
+            Fixed::AtLeast => compared(alloc, CmpOp::Ge, Expr::Slot(A), Expr::Slot(B)),
+            Fixed::PastGreatest => past_greatest(alloc),
+            Fixed::PastLeast => past_least(alloc),
+            Fixed::Sum => small(alloc, IntOp::Add),
+            Fixed::Difference => small(alloc, IntOp::Sub),
             Fixed::One => Ok(Expr::Int(1)),
-            Fixed::Copy => Ok(a),
+            Fixed::Copy => Ok(Expr::Slot(A)),
         }
     }
 }
