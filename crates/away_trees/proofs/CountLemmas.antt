@@ -1,6 +1,6 @@
 -- The nodes of a statement, by its parts.
 use Rattle.std.proofs.Common.{◌≡◌, ℕ, ◌+◌, List, length, Option, Some, None, sum, sum_by, Bool, refl, ap, ◌∙◌, map}
-use Rattle.std.proofs.lemmas.List.Sums.{sum-map, sum_by-cons, sum_by_more, sum_by_more_le}
+use Rattle.std.proofs.lemmas.List.Sums.{sum-map, sum_by_more, sum_by_more_le}
 use Rattle.away_trees.specs.declared.queries.Expr.{Expr}
 use Rattle.away_trees.specs.declared.queries.Select.{Select}
 use Rattle.away_trees.specs.declared.statements.Arm.{Arm}
@@ -82,6 +82,3 @@ unfolding nodes_of_else
 else_nodes body = refl
 
 pub ruleset node_rules = (block_nodes, loop_nodes, if_nodes, cases_nodes, into_nodes, assign_nodes, exit_nodes, continue_nodes, return_nodes, raise_nodes, nothing_nodes, arm_nodes, no_else, else_nodes, sum_by_more, sum_by_more_le)
-
--- for a tree that is written out
-pub ruleset written_rules = (node_rules, sum_by-cons)

@@ -14,8 +14,3 @@ pub use statements::{Arm, Decl, Function, LoopKind, Raised, Stmt};
 pub use tree_laws::{
     nodes_of_worked_functions, queries_go_by_their_parts, statements_go_by_their_parts,
 };
-
-#[cfg(test)]
-mod count_tests;
-#[cfg(test)]
-mod made;

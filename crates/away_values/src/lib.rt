@@ -28,6 +28,3 @@ pub use texts::text_op;
 pub use types::Ty;
 pub use values::{Answer, Class, Table, Tables, Value};
 pub use words::{LONGEST_NAME, LONGEST_TEXT, Name, Word};
-
-#[cfg(test)]
-mod operator_tests;

@@ -13,6 +13,3 @@ pub use cells::read_value;
 pub use laws::{fields_write, files_hold, the_first_decides};
 pub use refusal::TableRefusal;
 pub use table::read_table;
-
-#[cfg(test)]
-mod tests;

@@ -24,6 +24,3 @@ pub use ordering::{order, ordered_rows};
 pub use rows::{Rows, copied};
 pub use truth::{is_null, is_true};
 pub use widening::extend;
-
-#[cfg(test)]
-mod tests;

@@ -1,18 +1,12 @@
 //! The nodes of two functions, built as trees.
 
-ghost use Rattle.std.specs.Prelude.{◌≡◌, ◌+◌, sum_by};
-ghost use Rattle.away_trees.specs.Count as spec;
-
 use crate::made::{arithmetic, boxed, comparison, named, one, simple, two, variable, whole};
-use crate::{Arm, Decl, Expr, Function, LoopKind, Stmt, nodes, weight};
+use away_trees::{Arm, Decl, Expr, Function, LoopKind, Stmt, node_count, nodes, weight};
 use away_values::{CmpOp, IntOp, Ty};
 use sqlite_items::Items;
 use std::process::Abort;
 
-#[tactic(auto, using(crate::proofs::CountLemmas::written_rules))]
-fn assignment(rt: &(impl Abort + AllocGlobal), text: &str, value: Expr) -> Stmt
-    ensures { spec.nodes_of result ≡ 1 }
-{
+fn assignment(rt: &(impl Abort + AllocGlobal), text: &str, value: Expr) -> Stmt {
     Stmt::Assign(named(rt, text), None, value)
 }
 
@@ -27,10 +21,7 @@ fn decl(rt: &(impl Abort + AllocGlobal), text: &str, default: Option<Expr>) -> D
 }
 
 /// n := n / 2
-#[tactic(auto, using(crate::proofs::CountLemmas::written_rules))]
-fn halved(rt: &(impl Abort + AllocGlobal)) -> Stmt
-    ensures { spec.nodes_of result ≡ 1 }
-{
+fn halved(rt: &(impl Abort + AllocGlobal)) -> Stmt {
     assignment(
         rt,
         "n",
@@ -39,10 +30,7 @@ fn halved(rt: &(impl Abort + AllocGlobal)) -> Stmt
 }
 
 /// n := 3 * n + 1
-#[tactic(auto, using(crate::proofs::CountLemmas::written_rules))]
-fn tripled(rt: &(impl Abort + AllocGlobal)) -> Stmt
-    ensures { spec.nodes_of result ≡ 1 }
-{
+fn tripled(rt: &(impl Abort + AllocGlobal)) -> Stmt {
     let three_n = arithmetic(rt, IntOp::Mul, Expr::Int(3), variable(rt, "n"));
     assignment(rt, "n", arithmetic(rt, IntOp::Add, three_n, Expr::Int(1)))
 }
@@ -53,10 +41,7 @@ fn is_even(rt: &(impl Abort + AllocGlobal)) -> Expr {
 }
 
 /// WHEN n is even: halved
-#[tactic(auto, using(crate::proofs::CountLemmas::written_rules))]
-fn even(rt: &(impl Abort + AllocGlobal)) -> Arm
-    ensures { spec.nodes_of_arm result ≡ 2 }
-{
+fn even(rt: &(impl Abort + AllocGlobal)) -> Arm {
     let half = halved(rt);
     Arm {
         test: is_even(rt),
@@ -64,19 +49,13 @@ fn even(rt: &(impl Abort + AllocGlobal)) -> Arm
     }
 }
 
-#[tactic(auto, using(crate::proofs::CountLemmas::written_rules))]
-fn halved_or_tripled(rt: &(impl Abort + AllocGlobal)) -> Stmt
-    ensures { spec.nodes_of result ≡ 5 }
-{
+fn halved_or_tripled(rt: &(impl Abort + AllocGlobal)) -> Stmt {
     let arms = one(rt, even(rt));
     let other = one(rt, tripled(rt));
     Stmt::If(arms, Some(other))
 }
 
-#[tactic(auto, using(crate::proofs::CountLemmas::written_rules))]
-fn steps_to_one(rt: &(impl Abort + AllocGlobal)) -> Stmt
-    ensures { spec.nodes_of result ≡ 7 }
-{
+fn steps_to_one(rt: &(impl Abort + AllocGlobal)) -> Stmt {
     let more = arithmetic(rt, IntOp::Add, variable(rt, "steps"), Expr::Int(1));
     let counted = assignment(rt, "steps", more);
     let test = comparison(rt, CmpOp::Ne, variable(rt, "n"), Expr::Int(1));
@@ -88,10 +67,7 @@ fn steps_to_one(rt: &(impl Abort + AllocGlobal)) -> Stmt
     }
 }
 
-#[tactic(auto, using(crate::proofs::CountLemmas::written_rules), unfolding(crate::specs::Count::nodes))]
-fn collatz(rt: &(impl Abort + AllocGlobal)) -> Function
-    ensures { spec.nodes result ≡ 11 }
-{
+fn collatz(rt: &(impl Abort + AllocGlobal)) -> Function {
     let result = Stmt::Return(variable(rt, "steps"));
     Function {
         name: named(rt, "collatz"),
@@ -108,10 +84,7 @@ fn collatz(rt: &(impl Abort + AllocGlobal)) -> Function
 }
 
 /// best := (SELECT max(r.cost) FROM route r WHERE r.src = s)
-#[tactic(auto, using(crate::proofs::CountLemmas::written_rules))]
-fn dearest(rt: &(impl Abort + AllocGlobal)) -> Stmt
-    ensures { spec.nodes_of result ≡ 1 }
-{
+fn dearest(rt: &(impl Abort + AllocGlobal)) -> Stmt {
     let cost = Expr::Dotted(named(rt, "r"), named(rt, "cost"));
     let most = Expr::Call(named(rt, "max"), one(rt, cost));
     let src = Expr::Dotted(named(rt, "r"), named(rt, "src"));
@@ -120,10 +93,7 @@ fn dearest(rt: &(impl Abort + AllocGlobal)) -> Stmt
     assignment(rt, "best", Expr::Scalar(boxed(rt, query)))
 }
 
-#[tactic(auto, using(crate::proofs::CountLemmas::written_rules))]
-fn counted_to(rt: &(impl Abort + AllocGlobal), text: &str, last: i64, body: Items<Stmt>) -> Stmt
-    ensures { spec.nodes_of result ≡ 1 + sum_by spec.nodes_of body }
-{
+fn counted_to(rt: &(impl Abort + AllocGlobal), text: &str, last: i64, body: Items<Stmt>) -> Stmt {
     Stmt::Loop {
         label: None,
         kind: LoopKind::Count {
@@ -138,10 +108,7 @@ fn counted_to(rt: &(impl Abort + AllocGlobal), text: &str, last: i64, body: Item
     }
 }
 
-#[tactic(auto, using(crate::proofs::CountLemmas::written_rules))]
-fn inner_loop(rt: &(impl Abort + AllocGlobal)) -> Stmt
-    ensures { spec.nodes_of result ≡ 3 }
-{
+fn inner_loop(rt: &(impl Abort + AllocGlobal)) -> Stmt {
     let best = Expr::Call(
         named(rt, "coalesce"),
         two(rt, variable(rt, "best"), Expr::Int(0)),
@@ -153,10 +120,7 @@ fn inner_loop(rt: &(impl Abort + AllocGlobal)) -> Stmt
     counted_to(rt, "d", 9, two(rt, added, exit))
 }
 
-#[tactic(auto, using(crate::proofs::CountLemmas::written_rules), unfolding(crate::specs::Count::nodes))]
-fn walk(rt: &(impl Abort + AllocGlobal)) -> Function
-    ensures { spec.nodes result ≡ 10 }
-{
+fn walk(rt: &(impl Abort + AllocGlobal)) -> Function {
     let outer_loop = counted_to(rt, "s", 99, two(rt, dearest(rt), inner_loop(rt)));
     let total = Stmt::Return(variable(rt, "total"));
     Function {
@@ -177,12 +141,16 @@ fn walk(rt: &(impl Abort + AllocGlobal)) -> Function
     }
 }
 
+/// The nodes and the weight.
+fn counted(rt: &(impl Abort + AllocGlobal), f: &Function) -> (u64, u64) {
+    match node_count(f) {
+        Some(count) if count < 4_294_967_296 => (nodes(f), weight(f)),
+        _ => rt.abort(),
+    }
+}
+
 #[test]
 fn nodes_and_weights(rt: HostRuntime) {
-    let first = collatz(&rt);
-    assert_eq!(rt; nodes(&first), 11);
-    assert_eq!(rt; weight(&first), 192);
-    let second = walk(&rt);
-    assert_eq!(rt; nodes(&second), 10);
-    assert_eq!(rt; weight(&second), 176);
+    assert_eq!(rt; counted(&rt, &collatz(&rt)), (11, 192));
+    assert_eq!(rt; counted(&rt, &walk(&rt)), (10, 176));
 }

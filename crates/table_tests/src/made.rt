@@ -1,8 +1,6 @@
 //! Parts of trees for tests. A test that finds no memory stops.
 
-ghost use Rattle.std.specs.Prelude.{◌≡◌, [], ◌∷◌};
-
-use crate::{Expr, FromItem, Item, Query, Select, Source};
+use away_trees::{Expr, FromItem, Item, Query, Select, Source};
 use away_values::{ChainOp, CmpOp, IntOp, Name, Word, name, word};
 use sqlite_items::{Boxed, Items};
 use std::process::Abort;
@@ -21,17 +19,13 @@ pub(crate) fn variable(rt: &(impl Abort + AllocGlobal), text: &str) -> Expr {
     Expr::Named(named(rt, text))
 }
 
-pub(crate) fn one<T: Drop>(rt: &(impl Abort + AllocGlobal), only: T) -> Items<T>
-    ensures { result ≡ only ∷ [] }
-{
+pub(crate) fn one<T: Drop>(rt: &(impl Abort + AllocGlobal), only: T) -> Items<T> {
     let mut all = Items::new(rt.alloc());
     all.push(only).expect(rt, "memory");
     all
 }
 
-pub(crate) fn two<T: Drop>(rt: &(impl Abort + AllocGlobal), first: T, second: T) -> Items<T>
-    ensures { result ≡ first ∷ second ∷ [] }
-{
+pub(crate) fn two<T: Drop>(rt: &(impl Abort + AllocGlobal), first: T, second: T) -> Items<T> {
     let mut all = Items::new(rt.alloc());
     all.push(first).expect(rt, "memory");
     all.push(second).expect(rt, "memory");

@@ -1,7 +1,7 @@
 //! Each part of a select once, on rows of integers.
 
-use crate::{Aggregate, Rows, aggregate, cut, extend, keep, keep_into, order};
 use away_values::Value;
+use lateral_rows::{Aggregate, Rows, aggregate, cut, extend, keep, keep_into, order};
 use sqlite_items::Items;
 use std::process::Abort;
 
