@@ -6,6 +6,3 @@ mod calls;
 mod exits;
 
 pub use build::to_calls;
-
-#[cfg(test)]
-mod tests;

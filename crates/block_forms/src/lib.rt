@@ -10,8 +10,6 @@ mod places;
 mod same;
 mod shown_types;
 mod stage;
-#[cfg(test)]
-mod tests;
 
 pub use expressions::{ExprTable, expr_table};
 pub use fixed_list::Fixed;

@@ -4,8 +4,6 @@
 mod form;
 mod forms;
 mod laws;
-#[cfg(test)]
-mod tests;
 
 pub use form::{AnfForm, TailForm};
 pub use forms::{Anf, AnfBlock, Call, CallEnd, Forms, Tail};

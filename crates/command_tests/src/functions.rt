@@ -16,7 +16,7 @@ const U: (&str, &[u8]) = ("d/u.csv", b"v\n5\n9\n\\N\n");
 const W: (&str, &[u8]) = ("d/w.csv", b"z\n1\n2\n3\n");
 
 /// A function of these parameters and this result, with this body.
-fn function(alloc: Global, head: &str, body: &str) -> Result<Vec<u8>, AllocError> {
+pub fn function(alloc: Global, head: &str, body: &str) -> Result<Vec<u8>, AllocError> {
     let text = format!(in alloc;
         "CREATE FUNCTION public.f({head} LANGUAGE plpgsql AS $$ {body} $$;"
     )?;
@@ -24,7 +24,7 @@ fn function(alloc: Global, head: &str, body: &str) -> Result<Vec<u8>, AllocError
 }
 
 /// Runs a function's file over the tables t, u and w.
-fn run<'x>(
+pub fn run<'x>(
     alloc: Global,
     func: &'x [u8],
     bound: &'x str,
@@ -37,7 +37,7 @@ fn run<'x>(
     execute(alloc, &words, &files, &[], &[])
 }
 
-fn show(rt: &impl Abort, run: &Run, status: u8, output: &str) {
+pub fn show(rt: &impl Abort, run: &Run, status: u8, output: &str) {
     assert_eq!(rt; code(&run.status), status);
     assert_eq!(rt; run.sink.written(), output.as_bytes());
 }
@@ -47,22 +47,19 @@ const COLLATZ: &str =
 
 const NUMBER: &str = "n bigint) RETURNS bigint";
 
-const BIGINT: &str = ") RETURNS bigint";
+pub const BIGINT: &str = ") RETURNS bigint";
 
-const OF_A: &str = "a bigint) RETURNS bigint";
+pub const OF_A: &str = "a bigint) RETURNS bigint";
 
 const CHOICE: &str =
     "BEGIN IF x <> 0 AND 10 / x > 1 THEN RETURN 100 / x + (SELECT max(u.v) FROM u); ELSE RETURN (SELECT count(*) FROM w); END IF; END;";
 
 const FOUND: &str = "BEGIN RETURN (SELECT t.v FROM t WHERE t.k = q); END;";
 
-const SUM: &str =
-    "DECLARE t bigint := 0; BEGIN FOR i IN 1..m LOOP t := t + i; END LOOP; RETURN t; END;";
-
 const PART: &str = "BEGIN RETURN substr(s, p, n); END;";
 
 /// The head and the body of a function, the bound, arguments, the status and the output.
-static ANSWERS: [(&str, &str, &str, &[&str], u8, &str); 37] = [
+static ANSWERS: [(&str, &str, &str, &[&str], u8, &str); 35] = [
     (
         "a bigint, b bigint) RETURNS bigint",
         "BEGIN RETURN a + b * 2; END;",
@@ -110,7 +107,7 @@ static ANSWERS: [(&str, &str, &str, &[&str], u8, &str); 37] = [
     (
         OF_A,
         "BEGIN FOR i IN a..3 BY 0 LOOP NULL; END LOOP; RETURN 0; END;",
-        "100",
+        "0",
         &["\\N"],
         7,
         "fault 22004\n",
@@ -118,7 +115,7 @@ static ANSWERS: [(&str, &str, &str, &[&str], u8, &str); 37] = [
     (
         OF_A,
         "BEGIN FOR i IN a..3 BY 0 LOOP NULL; END LOOP; RETURN 0; END;",
-        "100",
+        "0",
         &["1"],
         7,
         "fault 22023\n",
@@ -188,7 +185,7 @@ static ANSWERS: [(&str, &str, &str, &[&str], u8, &str); 37] = [
         7,
         "fault 21000\n",
     ),
-    (BIGINT, "BEGIN NULL; END;", "100", &[], 7, "fault 2F005\n"),
+    (BIGINT, "BEGIN NULL; END;", "0", &[], 7, "fault 2F005\n"),
     (
         BIGINT,
         "BEGIN CASE WHEN FALSE THEN RETURN 1; END CASE; END;",
@@ -208,26 +205,10 @@ static ANSWERS: [(&str, &str, &str, &[&str], u8, &str); 37] = [
     (
         BIGINT,
         "BEGIN RAISE EXCEPTION SQLSTATE 'AB123'; END;",
-        "100",
+        "0",
         &[],
         7,
         "fault AB123\n",
-    ),
-    (
-        "m bigint) RETURNS bigint",
-        SUM,
-        "20000",
-        &["20000"],
-        0,
-        "value 200010000\n",
-    ),
-    (
-        "m bigint) RETURNS bigint",
-        SUM,
-        "19999",
-        &["20000"],
-        6,
-        "more\n",
     ),
     (
         BIGINT,
@@ -264,7 +245,7 @@ static ANSWERS: [(&str, &str, &str, &[&str], u8, &str); 37] = [
     (
         OF_A,
         "DECLARE x bigint NOT NULL := 1; BEGIN x := a; RETURN x; END;",
-        "100",
+        "0",
         &["\\N"],
         7,
         "fault 22004\n",

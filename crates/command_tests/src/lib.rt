@@ -37,6 +37,8 @@ mod rules;
 #[cfg(test)]
 mod selects_into;
 #[cfg(test)]
+mod statements;
+#[cfg(test)]
 mod system;
 #[cfg(test)]
 mod walks;

@@ -14,6 +14,3 @@ mod writer;
 pub use laws::the_tree_is_the_templates;
 pub use starts::{calls_of_rows, ended_calls};
 pub use template::{carry, template_tree};
-
-#[cfg(test)]
-mod tests;

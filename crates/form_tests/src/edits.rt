@@ -4,6 +4,7 @@
 #[derive(Drop)]
 pub struct Edit {
     changed: Option<(usize, u32)>,
+    raised: Option<usize>,
     left_out: Option<usize>,
     doubled: Option<usize>,
     numbers: usize,
@@ -15,6 +16,7 @@ impl Edit {
     pub fn none() -> Edit {
         Edit {
             changed: None,
+            raised: None,
             left_out: None,
             doubled: None,
             numbers: 0,
@@ -25,38 +27,31 @@ impl Edit {
 
     /// Another number at this place.
     pub fn number(place: usize, to: u32) -> Edit {
-        Edit {
-            changed: Some((place, to)),
-            left_out: None,
-            doubled: None,
-            numbers: 0,
-            parts: 0,
-            same: false,
-        }
+        let mut edit = Edit::none();
+        edit.changed = Some((place, to));
+        edit
+    }
+
+    /// One more at this place.
+    pub fn raised(place: usize) -> Edit {
+        let mut edit = Edit::none();
+        edit.raised = Some(place);
+        edit
     }
 
     /// The part at this place left out.
     pub fn without(place: usize) -> Edit {
-        Edit {
-            changed: None,
-            left_out: Some(place),
-            doubled: None,
-            numbers: 0,
-            parts: 0,
-            same: false,
-        }
+        let mut edit = Edit::none();
+        edit.left_out = Some(place);
+        edit
     }
 
     /// The part at this place twice, if it is a pair.
     pub fn twice(place: usize) -> Edit {
-        Edit {
-            changed: None,
-            left_out: None,
-            doubled: Some(place),
-            numbers: 0,
-            parts: 0,
-            same: true,
-        }
+        let mut edit = Edit::none();
+        edit.doubled = Some(place);
+        edit.same = true;
+        edit
     }
 
     pub fn numbers(&self) -> usize {
@@ -75,6 +70,9 @@ impl Edit {
     pub fn of(&mut self, number: u32) -> u32 {
         let here = self.numbers;
         self.numbers = here.saturating_add(1);
+        if self.raised == Some(here) {
+            return number.wrapping_add(1);
+        }
         match self.changed {
             Some((place, to)) if place == here => {
                 self.same = to == number;

@@ -40,6 +40,7 @@ pub enum EndOf<'a> {
     Jump(u32),
     Branch(u32, &'a [u32], u32, u32),
     Return(u32, &'a [u32]),
+    Fail([u8; 5]),
     NoReturn,
 }
 
@@ -95,15 +96,15 @@ fn end(rt: &(impl Abort + AllocGlobal), edit: &mut Edit, end: EndOf) -> End {
             End::Branch(test, edit.of(c), edit.of(d))
         }
         EndOf::Return(expr, names) => End::Return(term(rt, edit, expr, names)),
-        EndOf::NoReturn => {
-            let code = if edit.of(5) == 5 {
-                *b"2F005"
-            } else {
-                *b"2F002"
-            };
-            End::Fail(Class { code })
-        }
+        EndOf::Fail(code) => fail(edit, code),
+        EndOf::NoReturn => fail(edit, *b"2F005"),
     }
+}
+
+/// The end that fails with the class, or with another one.
+fn fail(edit: &mut Edit, code: [u8; 5]) -> End {
+    let code = if edit.of(5) == 5 { code } else { *b"2F002" };
+    End::Fail(Class { code })
 }
 
 fn set(rt: &(impl Abort + AllocGlobal), edit: &mut Edit, set: SetOf) -> Option<(u32, Term)> {
@@ -116,7 +117,7 @@ fn set(rt: &(impl Abort + AllocGlobal), edit: &mut Edit, set: SetOf) -> Option<(
     }
 }
 
-fn block(
+pub fn block(
     rt: &(impl Abort + AllocGlobal),
     edit: &mut Edit,
     head: bool,
@@ -132,7 +133,7 @@ fn block(
 }
 
 /// A block, where a φ has a name and its operands.
-fn ssa_block(
+pub fn ssa_block(
     rt: &(impl Abort + AllocGlobal),
     edit: &mut Edit,
     map: &[(u32, u32)],

@@ -44,3 +44,25 @@ pub fn checked(
         Err(_) => rt.abort(),
     }
 }
+
+/// The function with these parameters, attributes and body.
+pub fn function(
+    rt: &(impl Abort + AllocGlobal),
+    params: &str,
+    attributes: &str,
+    body: &str,
+) -> Boxed<CheckedFunction> {
+    let text = format!(in rt.alloc();
+        "CREATE FUNCTION f({params}) RETURNS bigint LANGUAGE plpgsql {attributes} AS $$ {body}; $$;"
+    ).expect(rt, "memory");
+    let schema = no_tables(rt);
+    checked(rt, &schema, text.as_str())
+}
+
+/// The body of collatz, whose parameter is n.
+pub const COLLATZ: &str =
+    "DECLARE steps bigint := 0; BEGIN WHILE n <> 1 LOOP IF n % 2 = 0 THEN n := n / 2; ELSE n := 3 * n + 1; END IF; \
+    steps := steps + 1; END LOOP; RETURN steps; END";
+
+/// The body of a function of a with one test.
+pub const SIGN_OF: &str = "BEGIN IF a > 0 THEN RETURN 1; END IF; RETURN 2; END";

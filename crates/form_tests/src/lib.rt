@@ -3,6 +3,8 @@
 #![tactic(auto)]
 
 #[cfg(test)]
+mod built;
+#[cfg(test)]
 mod called;
 #[cfg(test)]
 mod edits;
@@ -11,10 +13,28 @@ mod forms;
 #[cfg(test)]
 mod functions;
 #[cfg(test)]
+mod goto_forms;
+#[cfg(test)]
+mod joined;
+#[cfg(test)]
 mod lowered;
 #[cfg(test)]
 mod named;
 #[cfg(test)]
+mod normal;
+#[cfg(test)]
 mod owners;
+#[cfg(test)]
+mod queries;
+#[cfg(test)]
+mod selects;
+#[cfg(test)]
+mod sizes;
+#[cfg(test)]
+mod ssa_forms;
+#[cfg(test)]
+mod tables;
+#[cfg(test)]
+mod tails;
 #[cfg(test)]
 mod templated;

@@ -1,13 +1,12 @@
 //! Forms of small functions, written out in words: `*` marks a head, `s2=#4(0,1)` sets slot 2 to expression 4 of slots 0 and 1, `>5` goes to block 5,
 //! `?#0(0)>2:3` branches, `=#1()` returns and `!22004` fails. A test that finds no memory stops.
 
-use crate::functions::{checked, no_tables};
-use away_types::CheckedFunction;
+use crate::functions::function;
 use away_values::Class;
 use block_forms::{Block, End, Goto, Term};
 use goto_check::check_lowered;
 use goto_lower::lower;
-use sqlite_items::{Boxed, Items};
+use sqlite_items::Items;
 use std::fmt::Write;
 use std::process::Abort;
 
@@ -118,20 +117,6 @@ fn told(rt: &(impl Abort + AllocGlobal), g: &Goto) -> String {
         write!(&mut out, " {}", g.nodes.as_slice()[i]).expect(rt, "memory");
     }
     out
-}
-
-/// The function with these parameters, attributes and body.
-fn function(
-    rt: &(impl Abort + AllocGlobal),
-    params: &str,
-    attributes: &str,
-    body: &str,
-) -> Boxed<CheckedFunction> {
-    let text = format!(in rt.alloc();
-        "CREATE FUNCTION f({params}) RETURNS bigint LANGUAGE plpgsql {attributes} AS $$ {body}; $$;"
-    ).expect(rt, "memory");
-    let schema = no_tables(rt);
-    checked(rt, &schema, text.as_str())
 }
 
 /// The form of the function with these parameters, attributes and body.

@@ -49,6 +49,21 @@ fn a_block_belongs_to_one_node(rt: HostRuntime) {
         ),
         // one head for both loops
         (loops, &[2, 2, 2, 2], &[entry, finish, again(2)], false),
+        // a block that is no node's, behind the others and between them
+        (
+            loops,
+            &[2, 2, 2, 3],
+            &[entry, finish, again(3), again(3), null(2)],
+            false,
+        ),
+        (
+            loops,
+            &[2, 2, 2, 4],
+            &[entry, finish, again(4), null(2), again(4)],
+            false,
+        ),
+        // a block too few
+        (loops, &[2, 2, 2, 3], &[entry, finish, again(3)], false),
         (
             nulls,
             &[2, 2, 2, 2, 3, 4, 4, 5],

@@ -20,6 +20,3 @@ mod stand;
 mod targets;
 
 pub use check::check_lowered;
-
-#[cfg(test)]
-mod tests;

@@ -15,6 +15,3 @@ mod setting;
 mod single_statements;
 
 pub use function::run_function;
-
-#[cfg(test)]
-mod tests;

@@ -5,8 +5,6 @@ mod entries;
 mod laws;
 mod picked;
 mod slots;
-#[cfg(test)]
-mod tests;
 mod wrapping;
 
 pub use entries::push_entries;

@@ -39,4 +39,3 @@ mod FewNames
 mod ByPlaces
 mod AddedNames
 mod Sized
-mod Dead

@@ -16,6 +16,3 @@ mod writing;
 
 pub use build::build_ssa;
 pub use laws::names_are_few;
-
-#[cfg(test)]
-mod tests;

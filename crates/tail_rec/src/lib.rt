@@ -9,6 +9,3 @@ mod tail;
 mod walk;
 
 pub use tail::to_tail;
-
-#[cfg(test)]
-mod tests;

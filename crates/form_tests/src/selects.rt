@@ -1,8 +1,8 @@
 //! The entries and the slots of a small SELECT INTO. A test that finds no memory stops.
 
-use crate::{push_entries, select_slots};
 use away_trees::{Expr, FromItem, Item, Select, Source};
 use away_values::{CmpOp, Name, Ty, name};
+use select_into::{push_entries, select_slots};
 use sqlite_items::Items;
 use std::process::Abort;
 

@@ -1,12 +1,14 @@
-//! Worked forms, and one of many blocks. A test that finds no memory stops.
+//! The normal forms of worked SSA forms, and of one with many blocks. A test that finds no memory stops.
 
-mod forms;
-
-use crate::build::{normal_form, to_calls};
-use away_values::Class;
-use block_forms::{Block, End, Goto, Ssa, SsaBlock};
-use forms::{block, fails, goto_of, joins, phi, sets, shown, term};
-use sqlite_items::Items;
+use crate::functions::function;
+use crate::ssa_forms::{block, fails, goto_of, joins, phi, sets, shown, term};
+use anf_build::to_calls;
+use away_types::CheckedFunction;
+use block_forms::{End, Ssa, SsaBlock};
+use call_forms::Anf;
+use sqlite_items::{Boxed, Items};
+use ssa_check::check_named;
+use std::fmt::Write;
 use std::process::Abort;
 
 fn ssa(rt: &(impl Abort + AllocGlobal), slots: &[u32], blocks: Items<SsaBlock>) -> Ssa {
@@ -16,11 +18,11 @@ fn ssa(rt: &(impl Abort + AllocGlobal), slots: &[u32], blocks: Items<SsaBlock>) 
     }
 }
 
-fn normal(rt: &(impl Abort + AllocGlobal), z: &Ssa) -> String {
+/// The normal form of an SSA form over the slots of the function.
+fn normal(rt: &(impl Abort + AllocGlobal), f: &CheckedFunction, z: &Ssa) -> Anf {
     let g = goto_of(rt, z);
-    assert!(rt; g.blocks.len() == z.blocks.len());
-    let anf = normal_form(rt.alloc(), &g, z).expect(rt, "memory");
-    shown(rt, &anf)
+    assert!(rt; check_named(f, &g, z));
+    to_calls(rt.alloc(), &g, z).expect(rt, "memory")
 }
 
 /// sign_of(a): IF a > 0: RETURN 1; RETURN 2.
@@ -82,7 +84,7 @@ fn endless_loop(rt: &(impl Abort + AllocGlobal)) -> Ssa {
     let mut blocks = Items::new(rt.alloc());
     for y in [
         block(rt, &[(0, 0), (1, 1)], End::Jump(1)),
-        sets(rt, &[(0, 0), (1, 1)], 2, &[], 2),
+        sets(rt, &[(0, 0)], 2, &[], 2),
         block(rt, &[(0, 0), (1, 2)], End::Branch(term(rt, &[2]), 1, 1)),
     ] {
         blocks.push(y).expect(rt, "memory");
@@ -90,22 +92,55 @@ fn endless_loop(rt: &(impl Abort + AllocGlobal)) -> Ssa {
     ssa(rt, &[0, 1, 1], blocks)
 }
 
+/// One block, which fails.
+fn one_block(rt: &(impl Abort + AllocGlobal)) -> Ssa {
+    let mut blocks = Items::new(rt.alloc());
+    blocks.push(fails(rt, &[])).expect(rt, "memory");
+    ssa(rt, &[], blocks)
+}
+
 #[test]
 fn worked_forms(rt: HostRuntime) {
-    for (z, text) in [
-        (sign_of(&rt), " (0)>1(0) (0)?(0)>2()>3() ()=() ()=() ()!"),
+    for (params, body, z, text) in [
         (
+            "a bigint",
+            "BEGIN END",
+            sign_of(&rt),
+            " (0)>1(0) (0)?(0)>2()>3() ()=() ()=() ()!",
+        ),
+        (
+            "a bigint",
+            "DECLARE b bigint; BEGIN END",
             collatz(&rt),
             " (0)>2(0) ()! (0)1=()>3(0 1) (2 3)?(2)>4(2 3)>8(3) (2 3)?(2)>5(2 3)>6(2 3) (2 3)4=(2)>7(4 3) (2 3)5=(2)>7(5 3) (6 3)7=(3)>3(6 7) (3)=(3)",
         ),
         (
+            "a bigint",
+            "DECLARE b bigint; BEGIN END",
             unreachable_loop(&rt),
             " (0)>1(0) (0)=(0) (0 1)?(1)>3(0 1)>1(0) (0 1)1=(1)>2(0 1)",
         ),
-        (endless_loop(&rt), " ()>1() ()2=()>2(2) (2)?(2)>1()>1()"),
+        (
+            "a bigint, b bigint",
+            "BEGIN END",
+            endless_loop(&rt),
+            " ()>1() ()2=()>2(2) (2)?(2)>1()>1()",
+        ),
+        ("", "BEGIN END", one_block(&rt), " ()!"),
     ] {
-        assert!(&rt; normal(&rt, &z).as_str() == text);
+        let f = function(&rt, params, "", body);
+        let anf = normal(&rt, f.get(), &z);
+        assert_eq!(&rt; shown(&rt, &anf).as_str(), text);
     }
+}
+
+/// A function of 32 parameters.
+fn of_32(rt: &(impl Abort + AllocGlobal)) -> Boxed<CheckedFunction> {
+    let mut params = String::from_str(rt.alloc(), "p0 bigint").expect(rt, "memory");
+    for k in 1..32u32 {
+        write!(&mut params, ", p{k} bigint").expect(rt, "memory");
+    }
+    function(rt, params.as_str(), "", "BEGIN END")
 }
 
 /// 8,015 blocks test 32 slots in turn, and go on to the next block or back to one of half the number; the last block returns one slot.
@@ -113,67 +148,25 @@ fn worked_forms(rt: HostRuntime) {
 fn many_blocks(rt: HostRuntime) {
     let slots: u32 = 32;
     let mut map = Items::new(rt.alloc());
-    for slot in 0..slots {
-        map.push((slot, slot)).expect(&rt, "memory");
-    }
     let mut names = Items::new(rt.alloc());
     for slot in 0..slots {
+        map.push((slot, slot)).expect(&rt, "memory");
         names.push(slot).expect(&rt, "memory");
     }
     let mut blocks = Items::new(rt.alloc());
     for at in 0..8_015u32 {
-        let y = block(
-            &rt,
-            map.as_slice(),
-            End::Branch(term(&rt, &[at % slots]), at + 1, at / 2),
-        );
+        let end = End::Branch(term(&rt, &[at % slots]), at + 1, at / 2);
+        let y = block(&rt, map.as_slice(), end);
         blocks.push(y).expect(&rt, "memory");
     }
     let last = block(&rt, map.as_slice(), End::Return(term(&rt, &[31])));
     blocks.push(last).expect(&rt, "memory");
-    let z = Ssa { names, blocks };
-    let g = goto_of(&rt, &z);
-    assert!(rt; g.blocks.len() == z.blocks.len());
-    let anf = normal_form(rt.alloc(), &g, &z).expect(&rt, "memory");
+    let anf = normal(&rt, of_32(&rt).get(), &Ssa { names, blocks });
     assert!(rt; anf.blocks.len() == 8_016);
     for block in anf.blocks.as_slice().iter().take(8_015) {
         assert!(rt; block.params.len() == 32);
     }
-    let ends = anf.blocks.as_slice().iter().skip(8_015);
-    for block in ends {
+    for block in anf.blocks.as_slice().iter().skip(8_015) {
         assert!(rt; block.params.len() == 1);
     }
-}
-
-/// One block, which fails.
-#[test]
-fn one_block(rt: HostRuntime) {
-    let code = *b"2F005";
-    let mut from = Items::new(rt.alloc());
-    let x = Block {
-        head: false,
-        set: None,
-        end: End::Fail(Class { code }),
-    };
-    from.push(x).expect(&rt, "memory");
-    let mut blocks = Items::new(rt.alloc());
-    let y = SsaBlock {
-        map: Items::new(rt.alloc()),
-        phis: Items::new(rt.alloc()),
-        set: None,
-        end: End::Fail(Class { code }),
-    };
-    blocks.push(y).expect(&rt, "memory");
-    let g = Goto {
-        entry: 0,
-        finish: 0,
-        nodes: Items::new(rt.alloc()),
-        blocks: from,
-    };
-    let z = Ssa {
-        names: Items::new(rt.alloc()),
-        blocks,
-    };
-    let anf = to_calls(rt.alloc(), &g, &z).expect(&rt, "memory");
-    assert!(rt; shown(&rt, &anf).as_str() == " ()!");
 }
