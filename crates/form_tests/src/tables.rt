@@ -6,7 +6,7 @@ use block_forms::expr_table;
 
 /// Its expressions are, or compare with, the numbers from 0 to 7 in order.
 const TEXT: &str =
-    "CREATE FUNCTION f() RETURNS bigint LANGUAGE plpgsql AS $$ DECLARE v bigint := 0; BEGIN FOR i IN 1 .. 2 BY 3 LOOP \
+    "CREATE FUNCTION f() RETURNS integer LANGUAGE plpgsql AS $$ DECLARE v integer := 0; BEGIN FOR i IN 1 .. 2 BY 3 LOOP \
     IF v = 4 THEN v := 5; ELSE EXIT WHEN v = 6; END IF; END LOOP; RETURN 7; END; $$;";
 
 fn number_of(e: &Expr) -> Option<i64> {
