@@ -49,7 +49,7 @@ fn all_blocks(
 }
 
 /// The normal form, by tables of live slots.
-fn normal_form(alloc: Global, goto: &Goto, ssa: &Ssa) -> Result<Anf, AllocError>
+pub(crate) fn normal_form(alloc: Global, goto: &Goto, ssa: &Ssa) -> Result<Anf, AllocError>
     requires as_many { length goto.now.blocks ≡ length ssa.now.blocks }
     ensures { IfOk result (λ anf. IsNormalForm goto.now ssa.now anf) }
 {

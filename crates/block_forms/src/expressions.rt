@@ -147,7 +147,7 @@ fn push_arm(alloc: Global, types: &[Ty], arm: &Arm, list: &mut Items<Expr>) -> R
 }
 
 /// The expressions of a function whose names are resolved.
-fn expressions_of(alloc: Global, f: &Function) -> Result<ExprTable, NoMemory>
+pub(crate) fn expressions_of(alloc: Global, f: &Function) -> Result<ExprTable, NoMemory>
     ensures { IfOk result (λ t. t.list ≡ spec.expressions f.now) }
 {
     let types = shown_types(alloc, f)?;

@@ -168,7 +168,7 @@ fn named(
 }
 
 /// The recursive table of these first rows, each of which carries further values.
-fn carried_table(
+pub(crate) fn carried_table(
     alloc: Global,
     w: &Writer<'_>,
     first: Items<Select>,
@@ -184,7 +184,12 @@ fn carried_table(
 }
 
 /// The tree with its names, of one call: its rows carry nothing.
-fn tree(alloc: Global, w: &Writer<'_>, entry: u32, tables: usize) -> Result<Query, NoMemory>
+pub(crate) fn tree(
+    alloc: Global,
+    w: &Writer<'_>,
+    entry: u32,
+    tables: usize,
+) -> Result<Query, NoMemory>
     requires classes { Each FailsByClass w.now.anf.now.blocks }
     requires one { w.now.carried.now ≡ [] }
     ensures is { IfOk result (λ q. q ≡ spec.tree (making w.now) entry tables) }

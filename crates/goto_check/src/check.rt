@@ -33,7 +33,7 @@ fn has_nodes(f: &Function, many: usize) -> bool
 }
 
 #[tactic(auto, using(crate::proofs::NodeCounts::whole_room, crate::proofs::NodeCounts::body_small))]
-fn is_lowered(f: &Function, slots: &[Slot], g: &Goto) -> bool
+pub(crate) fn is_lowered(f: &Function, slots: &[Slot], g: &Goto) -> bool
     ensures { IsTrue result ↔ Lowered f.now slots.now g.now }
 {
     if !has_nodes(f, nodes_given(g)) {

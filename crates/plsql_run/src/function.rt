@@ -114,7 +114,7 @@ fn is_null_for(f: &Function, args: &[Value]) -> bool
     f.strict && any_null(args)
 }
 
-fn run_over(
+pub(crate) fn run_over(
     alloc: Global,
     setting: &Setting<'_>,
     f: &Function,

@@ -28,7 +28,7 @@ use goto_law::{
 use std::alloc::{AllocError, Global};
 
 /// The SSA form of a goto form with that layout.
-fn build_form(alloc: Global, layout: Layout, g: &Goto) -> Result<Ssa, AllocError>
+pub(crate) fn build_form(alloc: Global, layout: Layout, g: &Goto) -> Result<Ssa, AllocError>
     requires is_layout { IsLayout layout }
     requires sized { length g.now.blocks ≡ layout.blocks }
     requires entered { layout.entry ≡ g.now.entry }

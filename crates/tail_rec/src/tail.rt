@@ -20,7 +20,7 @@ use call_forms::{Anf, Tail};
 use std::alloc::{AllocError, Global};
 
 /// The tail form over these slots.
-fn tail_form(
+pub(crate) fn tail_form(
     alloc: Global,
     slots: &[Slot],
     goto: &Goto,
