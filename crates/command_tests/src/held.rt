@@ -1,8 +1,9 @@
 //! Files, words and sinks for the tests.
 
-use away_top::{MemoryFiles, MemorySink, Status, away};
+use away_top::{MemoryFiles, MemorySink, Status, away, code};
 use away_values::NoMemory;
 use std::alloc::{AllocError, Global};
+use std::process::Abort;
 use std::test::Fail;
 
 /// The bytes of files, by their names.
@@ -46,6 +47,12 @@ pub fn execute(
         }
         Err(NoMemory) => Err(AllocError),
     }
+}
+
+/// That a run ended with this status and wrote this.
+pub fn show(rt: &impl Abort, run: &Run, status: u8, output: &str) {
+    assert_eq!(rt; code(&run.status), status);
+    assert_eq!(rt; run.sink.written(), output.as_bytes());
 }
 
 /// A function of this body over the parameters a and b.

@@ -3,41 +3,25 @@
 #![tactic(auto)]
 
 #[cfg(test)]
-mod batches;
+mod certified;
 #[cfg(test)]
 mod checks;
-#[cfg(test)]
-mod compiled;
-#[cfg(test)]
-mod counters;
 #[cfg(test)]
 mod demos;
 #[cfg(test)]
 mod edited;
 #[cfg(test)]
-mod functions;
+mod faults;
 #[cfg(test)]
 mod held;
 #[cfg(test)]
-mod integer_queries;
+mod in_memory;
 #[cfg(test)]
-mod integers;
+mod limits;
 #[cfg(test)]
 mod long;
 #[cfg(test)]
 mod printed_queries;
-#[cfg(test)]
-mod queries;
-#[cfg(test)]
-mod row_queries;
-#[cfg(test)]
-mod rows;
-#[cfg(test)]
-mod rules;
-#[cfg(test)]
-mod selects_into;
-#[cfg(test)]
-mod statements;
 #[cfg(test)]
 mod system;
 #[cfg(test)]

@@ -1,9 +1,8 @@
 //! A walk over a table of 1,000 rows, and its query.
 
-use crate::held::{Run, execute};
+use crate::held::{execute, show};
 use away_top::code;
 use std::alloc::{AllocError, Global};
-use std::process::Abort;
 use std::test::Fail;
 
 const WALK: &[u8] =
@@ -17,11 +16,6 @@ fn routes(alloc: Global) -> Result<Vec<u8>, AllocError> {
         text.push_str(&format!(in alloc; "{src},{dst},{cost}\n")?)?;
     }
     Ok(text.into_bytes())
-}
-
-fn show(rt: &impl Abort, run: &Run, status: u8, output: &str) {
-    assert_eq!(rt; code(&run.status), status);
-    assert_eq!(rt; run.sink.written(), output.as_bytes());
 }
 
 const SCHEMA: &[u8] =

@@ -1,0 +1,1 @@
+CREATE TABLE calls (id bigint, n bigint, m bigint);

@@ -1,0 +1,10 @@
+CREATE FUNCTION f() RETURNS bigint LANGUAGE plpgsql AS $$
+DECLARE
+  c bigint := 0;
+BEGIN
+  FOR i IN REVERSE -2147483640..-2147483648 BY 5 LOOP
+    c := c + 1;
+  END LOOP;
+  RETURN c;
+END;
+$$

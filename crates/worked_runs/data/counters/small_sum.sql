@@ -1,0 +1,10 @@
+CREATE FUNCTION f() RETURNS bigint LANGUAGE plpgsql AS $$
+DECLARE
+  c bigint := 0;
+BEGIN
+  FOR i IN 1..1 LOOP
+    c := i + 2147483647;
+  END LOOP;
+  RETURN c;
+END;
+$$

@@ -1,0 +1,1 @@
+CREATE FUNCTION f(a bigint, b bigint) RETURNS bigint LANGUAGE plpgsql AS $$ BEGIN RETURN ((B)); END; $$;

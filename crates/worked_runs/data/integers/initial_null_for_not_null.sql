@@ -1,0 +1,7 @@
+CREATE FUNCTION f(a bigint) RETURNS integer LANGUAGE plpgsql AS $$
+DECLARE
+  x integer NOT NULL := a;
+BEGIN
+  RETURN x;
+END;
+$$

@@ -1,0 +1,7 @@
+CREATE FUNCTION f() RETURNS bigint LANGUAGE plpgsql AS $$
+DECLARE
+  x bigint := 2000000000 + 2000000000::bigint;
+BEGIN
+  RETURN x;
+END;
+$$

@@ -1,0 +1,8 @@
+CREATE FUNCTION f() RETURNS bigint LANGUAGE plpgsql AS $$
+DECLARE
+  x bigint;
+BEGIN
+  SELECT n.i * 2147483647 INTO x FROM n WHERE n.i = 2;
+  RETURN x;
+END;
+$$

@@ -1,0 +1,8 @@
+CREATE FUNCTION f() RETURNS integer LANGUAGE plpgsql AS $$
+DECLARE
+  x integer;
+BEGIN
+  SELECT n.b INTO x FROM n ORDER BY n.i DESC;
+  RETURN x;
+END;
+$$

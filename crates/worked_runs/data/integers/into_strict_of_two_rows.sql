@@ -1,0 +1,8 @@
+CREATE FUNCTION f() RETURNS integer LANGUAGE plpgsql AS $$
+DECLARE
+  x integer;
+BEGIN
+  SELECT n.b + 3000000000 INTO STRICT x FROM n;
+  RETURN x;
+END;
+$$

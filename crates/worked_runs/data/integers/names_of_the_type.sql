@@ -1,0 +1,1 @@
+CREATE FUNCTION f(int int) RETURNS int4 LANGUAGE plpgsql AS $$ BEGIN RETURN int; END; $$

@@ -1,0 +1,1 @@
+SELECT $1::int + $1::bigint, CAST(NULL AS text)

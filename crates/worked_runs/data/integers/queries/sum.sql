@@ -1,0 +1,1 @@
+SELECT sum(t.i), CAST(NULL AS text) FROM t

@@ -1,0 +1,1 @@
+CREATE FUNCTION f(a integer) RETURNS boolean LANGUAGE plpgsql AS $$ BEGIN RETURN a::boolean; END; $$

@@ -1,0 +1,1 @@
+CREATE FUNCTION f(a integer) RETURNS text LANGUAGE plpgsql AS $$ BEGIN RETURN a; END; $$

@@ -1,0 +1,8 @@
+CREATE FUNCTION f() RETURNS integer LANGUAGE plpgsql AS $$
+DECLARE
+  x integer;
+BEGIN
+  SELECT sum(n.b) INTO x FROM n;
+  RETURN x;
+END;
+$$

@@ -1,0 +1,1 @@
+SELECT t.k, CAST(NULL AS text) FROM t

@@ -1,0 +1,1 @@
+WITH RECURSIVE t(i) AS (SELECT 1 UNION ALL SELECT t.i + 1 FROM t WHERE t.i < 5) SELECT CAST(sum(t.i) AS bigint), CAST(NULL AS text) FROM t

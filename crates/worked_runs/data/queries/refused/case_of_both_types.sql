@@ -1,0 +1,1 @@
+SELECT CASE WHEN $1::bigint IS NULL THEN $1::text END, NULL

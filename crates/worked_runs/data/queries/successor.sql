@@ -1,0 +1,1 @@
+SELECT CAST($1 AS bigint) + 1, CAST(NULL AS text)

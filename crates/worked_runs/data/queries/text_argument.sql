@@ -1,0 +1,1 @@
+SELECT CAST($1 AS text), CAST(NULL AS text)

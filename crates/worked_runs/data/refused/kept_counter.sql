@@ -1,0 +1,8 @@
+CREATE FUNCTION f() RETURNS bigint LANGUAGE plpgsql AS $$
+BEGIN
+  FOR away_i IN 1..2 LOOP
+    NULL;
+  END LOOP;
+  RETURN 1;
+END;
+$$;

@@ -1,0 +1,1 @@
+CREATE FUNCTION away_f() RETURNS bigint LANGUAGE plpgsql AS $$ BEGIN RETURN 1; END; $$;

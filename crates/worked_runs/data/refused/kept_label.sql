@@ -1,0 +1,1 @@
+CREATE FUNCTION f() RETURNS bigint LANGUAGE plpgsql AS $$ BEGIN <<away_l>> LOOP EXIT; END LOOP; RETURN 1; END; $$;

@@ -1,0 +1,5 @@
+CREATE FUNCTION f() RETURNS bigint LANGUAGE plpgsql AS $$
+BEGIN
+  RETURN (SELECT count(s.m) FROM (SELECT min(TRUE) AS m) AS s);
+END;
+$$;

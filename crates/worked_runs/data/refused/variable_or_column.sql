@@ -1,0 +1,1 @@
+CREATE FUNCTION f() RETURNS bigint LANGUAGE plpgsql AS $$ DECLARE k bigint; BEGIN RETURN (SELECT k FROM t); END; $$;

@@ -1,0 +1,1 @@
+SELECT t.v FROM t ORDER BY t.k DESC, t.v LIMIT 2

@@ -1,0 +1,1 @@
+SELECT 'a,b', 'say "hi"', 'plain text', '\N'

@@ -1,0 +1,1 @@
+SELECT 1 WHERE max(1) > 0

@@ -1,0 +1,1 @@
+SELECT t.w FROM t

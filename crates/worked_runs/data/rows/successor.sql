@@ -1,0 +1,1 @@
+SELECT $1::bigint + 1

@@ -1,0 +1,1 @@
+SELECT t.k, t.v FROM t

@@ -1,0 +1,1 @@
+CREATE TABLE away_t (k bigint);

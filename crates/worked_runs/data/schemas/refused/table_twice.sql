@@ -1,0 +1,1 @@
+CREATE TABLE t (k bigint); CREATE TABLE t (v text);

@@ -1,0 +1,1 @@
+CREATE TABLE u (k bigint NOT NULL); CREATE TABLE t (v text);

@@ -1,0 +1,8 @@
+CREATE FUNCTION f() RETURNS bigint LANGUAGE plpgsql AS $$
+DECLARE
+  a bigint := 5;
+BEGIN
+  SELECT 1 INTO STRICT a FROM t LIMIT 0;
+  RETURN a;
+END;
+$$

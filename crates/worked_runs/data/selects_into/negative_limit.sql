@@ -1,0 +1,8 @@
+CREATE FUNCTION f() RETURNS bigint LANGUAGE plpgsql AS $$
+DECLARE
+  a bigint := 5;
+BEGIN
+  SELECT 1 INTO a FROM t WHERE FALSE LIMIT -1;
+  RETURN a;
+END;
+$$

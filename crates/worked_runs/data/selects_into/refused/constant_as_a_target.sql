@@ -1,0 +1,8 @@
+CREATE FUNCTION f() RETURNS bigint LANGUAGE plpgsql AS $$
+DECLARE
+  c CONSTANT bigint := 1;
+BEGIN
+  SELECT 'x' INTO c;
+  RETURN c;
+END;
+$$

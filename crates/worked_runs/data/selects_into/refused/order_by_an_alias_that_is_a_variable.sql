@@ -1,0 +1,10 @@
+CREATE FUNCTION f() RETURNS bigint LANGUAGE plpgsql AS $$
+DECLARE
+  a bigint;
+  b bigint;
+  z bigint;
+BEGIN
+  SELECT t.k AS z INTO a FROM t ORDER BY z LIMIT 1;
+  RETURN a;
+END;
+$$

@@ -1,0 +1,1 @@
+CREATE FUNCTION f() RETURNS bigint LANGUAGE plpgsql AS $$ DECLARE a bigint; b bigint; BEGIN SELECT 1; RETURN a; END; $$

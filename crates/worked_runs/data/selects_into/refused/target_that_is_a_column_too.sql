@@ -1,0 +1,8 @@
+CREATE FUNCTION f() RETURNS bigint LANGUAGE plpgsql AS $$
+DECLARE
+  k bigint;
+BEGIN
+  SELECT k INTO k FROM t;
+  RETURN k;
+END;
+$$

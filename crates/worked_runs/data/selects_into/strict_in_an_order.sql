@@ -1,0 +1,8 @@
+CREATE FUNCTION f() RETURNS text LANGUAGE plpgsql AS $$
+DECLARE
+  r text;
+BEGIN
+  SELECT t.v INTO STRICT r FROM t WHERE t.k = 2 ORDER BY t.v DESC LIMIT 1;
+  RETURN r;
+END;
+$$

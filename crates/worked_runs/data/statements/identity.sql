@@ -1,0 +1,1 @@
+CREATE FUNCTION public.f(a bigint) RETURNS bigint LANGUAGE plpgsql AS $$ BEGIN RETURN a; END; $$;

@@ -1,0 +1,1 @@
+CREATE FUNCTION f(a bigint) RETURNS bigint LANGUAGE plpgsql AS $$ BEGIN RETURN a % -1; END; $$

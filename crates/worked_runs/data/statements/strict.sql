@@ -1,0 +1,1 @@
+CREATE FUNCTION f(a bigint) RETURNS bigint LANGUAGE plpgsql STRICT AS $$ BEGIN RETURN a; END; $$

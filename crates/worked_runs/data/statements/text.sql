@@ -1,0 +1,5 @@
+CREATE FUNCTION public.f() RETURNS text LANGUAGE plpgsql AS $$
+BEGIN
+  RETURN 'héllo';
+END;
+$$;

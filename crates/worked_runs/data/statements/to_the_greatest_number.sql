@@ -1,0 +1,10 @@
+CREATE FUNCTION f(a bigint) RETURNS bigint LANGUAGE plpgsql AS $$
+DECLARE
+  c bigint := 0;
+BEGIN
+  FOR i IN 9223372036854775806..9223372036854775807 LOOP
+    c := c + 1;
+  END LOOP;
+  RETURN c;
+END;
+$$
