@@ -7,5 +7,6 @@ use Rattle.worked_runs.proofs.words.words_of.Goals as goal
 
 pub returns-clause-joined : goal.returns-clause-joined
 returns-clause-joined c =
-    let parts : map string_bytes c.loop-part.words.items ≡ slice_split (λ byte. byte == separator c.args.line.now) c.args.line.now = grind (arith, common_steps) in
+    let parts : map string_bytes c.loop-part.words.items
+    ≡ slice_split (λ byte. byte == separator c.args.line.now) c.args.line.now = grind (arith, common_steps) in
     rw parts (join_with_byte-slice_split (separator c.args.line.now) c.args.line.now)
