@@ -106,5 +106,6 @@ fn a_marked_item_is_cast_around_its_pick(rt: HostRuntime) {
         _ => return,
     };
     let query = within(pick).expect(&rt, "a select");
-    assert!(rt; query.list.as_slice()[1].alias.is_none());
+    let item = query.list.as_slice().get(1).expect(&rt, "an item");
+    assert!(rt; item.alias.is_none());
 }
