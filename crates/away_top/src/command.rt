@@ -28,6 +28,9 @@ pub(crate) enum Command<'a> {
         query: &'a str,
         cert: &'a str,
     },
+    Format {
+        func: &'a str,
+    },
     Demo {
         number: &'a str,
     },
@@ -76,6 +79,9 @@ impl<'a> Command<'a> {
         }
         if word == "check" {
             return check(rest);
+        }
+        if word == "format" {
+            return format(rest);
         }
         if word == "demo" {
             return demo(rest);
@@ -137,6 +143,17 @@ fn check<'a>(rest: &'a [String]) -> Command<'a>
             func: func.as_str(),
             query: query.as_str(),
             cert: cert.as_str(),
+        },
+        _ => Command::NoForm,
+    }
+}
+
+fn format<'a>(rest: &'a [String]) -> Command<'a>
+    ensures { as_command result ≡ form.with_one form.format (map string_bytes rest.now) }
+{
+    match rest {
+        [func] => Command::Format {
+            func: func.as_str(),
         },
         _ => Command::NoForm,
     }

@@ -13,6 +13,8 @@ mod demos;
 #[cfg(test)]
 mod edited;
 #[cfg(test)]
+mod formats;
+#[cfg(test)]
 mod functions;
 #[cfg(test)]
 mod held;

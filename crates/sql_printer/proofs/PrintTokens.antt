@@ -81,11 +81,11 @@ digits_number : (v : ℕ) (ds : List ℕ) → AllDigits 10 ds → number_from v 
 digits_number v [] h = refl
 digits_number v (c ∷ cs) h = ap (λ d. number_from (v * 10 + d) cs) (digit_is c h.0).1 ∙ digits_number (v * 10 + digit_value c) cs h.1
 
-number_decimal : (n : ℕ) → n < 2 ^ 64 → number (decimal n) ≡ n
+pub number_decimal : (n : ℕ) → n < 2 ^ 64 → number (decimal n) ≡ n
 unfolding number
 number_decimal n h = let d = decimal_is_IsNumeral n h in digits_number 0 (decimal n) d.0.1 ∙ d.1
 
-decimal_digits : (n : ℕ) → n < 2 ^ 64 → list_all is_ascii_digit (decimal n) ≡ true
+pub decimal_digits : (n : ℕ) → n < 2 ^ 64 → list_all is_ascii_digit (decimal n) ≡ true
 decimal_digits n h = digits_all (decimal n) (decimal_is_IsNumeral n h).0.1
 
 pub integer_spells : (n : ℕ) → n ≤ 2 ^ 63 → IsInteger (decimal n)
