@@ -1,0 +1,3 @@
+pub mod StandingRules
+pub mod BecomingRules
+pub mod Answering

@@ -1,0 +1,16 @@
+pub mod Moving
+pub mod Expanding
+pub mod Untailing
+pub mod Parts
+pub mod Placing
+pub mod Judging
+pub mod Judges
+pub mod Reaching
+pub mod Refusing
+pub mod CallPlaces
+pub mod Leaves
+pub mod Plans
+pub mod Growing
+pub mod Sizes
+pub mod Laws
+pub mod Worked

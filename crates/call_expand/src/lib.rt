@@ -1,0 +1,31 @@
+//! Functions in which calls of others are expanded, and in which self calls are turns of a loop.
+#![tactic(auto)]
+
+mod calls;
+mod examples;
+mod expand;
+mod grown;
+mod heads;
+pub mod judged;
+mod judging;
+mod leaves;
+mod made;
+pub mod places;
+mod program;
+mod reaching;
+mod refusals;
+mod seeing;
+mod self_caller;
+mod strict;
+mod turns;
+mod walk;
+
+pub use examples::{
+    a_program_is_expanded, calls_are_judged, hidden_names_are_told_apart, numbers_are_converted,
+    self_calls_are_turns_of_a_loop, sizes_are_counted,
+};
+pub use expand::{expanded, untailed};
+pub use grown::Grown;
+pub use program::check_program;
+pub use refusals::{ProgramRefusal, SelfRefusal};
+pub use self_caller::check_self;
