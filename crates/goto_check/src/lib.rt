@@ -6,6 +6,7 @@ mod below;
 mod check;
 mod classes;
 mod enclosing;
+mod leaves;
 mod loops;
 mod once;
 mod parameters;

@@ -1,100 +1,28 @@
 //! What the patterns of statements ask.
 
-ghost use Rattle.std.specs.Prelude.{◌≡◌, ◌+◌, ◌≤◌, ◌<◌, ◌^◌, [], ◌∷◌, Some, None};
-ghost use Rattle.block_forms.specs.FixedList.{many};
+ghost use Rattle.std.specs.Prelude.{◌≡◌, ◌<◌, Some, None};
 ghost use Rattle.block_forms.specs.Laid as l;
 ghost use Rattle.block_forms.specs.Patterns as form;
-ghost use Rattle.plsql_meaning.specs.Statements as meaning;
-ghost use Rattle.block_forms.specs.Laid.{a_node, after, laid, laid_row, laid_arms, row_size, arms_size, decls_size, kind_size, row_parts, arms_parts, decls_parts};
+ghost use Rattle.block_forms.specs.Laid.{a_node, after, laid, laid_row, laid_arms, row_size, arms_size, decls_size, kind_size, row_parts, arms_parts};
 ghost use Rattle.goto_check.specs.Asking.{IsAsked, numbers_in, setting_in};
 ghost use Rattle.goto_check.specs.AnswerRuns.{answer_run};
 ghost use Rattle.goto_check.specs.Enclosing.{around_of};
 ghost use Rattle.goto_check.specs.Room.{here, Room, Small};
 ghost use Rattle.goto_check.specs.Runs.{join};
-ghost use Rattle.goto_check.specs.Wanted.{wanted};
 
 use crate::asking::{Answer, Asking, Question, ask_own, ask_same, ask_shared};
-use crate::classes::class_of;
 use crate::enclosing::{Enclosing, again_to, exit_to};
+use crate::leaves::{ask_assign, ask_decls, ask_raise, ask_return, first_block};
 use crate::loops::{ask_kind, turns_to};
-use crate::patterns::{ask_exit, ask_leave, ask_slot, null_of, slot_at, source_term};
+use crate::patterns::{ask_exit, ask_leave, source_term};
 use crate::read::{no_of, node};
 use crate::runs::{Run, join};
-use crate::shapes::{Shape, Wanted};
-use crate::sizes::{decl_size, decls_size, kind_size, size_of};
+use crate::shapes::Shape;
+use crate::sizes::{decls_size, kind_size, size_of};
 use crate::spots::{Spot, after, spot_of};
 use crate::targets::ask_into;
-use away_trees::{Arm, Decl, Expr, LoopKind, Raised, Stmt};
-use away_values::{Class, Name, Ty, sqlstate};
-use block_forms::Goto;
-
-/// The first block of so many nodes, or what follows where there is none.
-pub(crate) fn first_block(a: &Asking<'_>, many: usize, i: usize, next: usize) -> usize
-    ensures { result ≡ l.first_block (setting_in a.now) many i next }
-{
-    if many == 0 { next } else { node(a.goto, i) }
-}
-
-fn default_term<'a>(a: &Asking<'_>, default: &'a Option<Expr>, ty: Ty, expr: usize) -> Wanted<'a>
-    requires { a.now.fixed + many ≤ 2 ^ 64 }
-    ensures { wanted result ≡ l.default_term (setting_in a.now) default.now ty expr }
-{
-    match default {
-        None => null_of(a.fixed, ty),
-        Some(e) => source_term(expr, e),
-    }
-}
-
-fn ask_decl(a: &Asking<'_>, d: &Decl, p: Spot, next: usize) -> Run
-    requires { Room (numbers_in a.now) (here p) }
-    ensures { result ≡ answer_run a.now (l.decl_parts (setting_in a.now) d.now (here p) next) }
-{
-    let default = default_term(a, &d.default, d.ty, p.expr);
-    ask_slot(
-        a,
-        slot_at(a.slots, p.slot),
-        node(a.goto, p.node),
-        p.slot,
-        &default,
-        next,
-    )
-}
-
-#[tactic(auto, using(crate::proofs::AnswerRules::answer_rules, crate::proofs::Rooms::room_rules))]
-fn ask_decls(a: &Asking<'_>, decls: &[Decl], p: Spot, next: usize) -> Run
-    requires { Room (numbers_in a.now) (after (here p) (decls_size decls.now)) }
-    ensures { result ≡ answer_run a.now (decls_parts (setting_in a.now) decls.now (here p) next) }
-{
-    match decls {
-        [] => Run::Empty,
-        [d, rest @ ..] => join(
-            ask_decl(a, d, p, first_block(a, rest.len(), p.node + 1, next)),
-            ask_decls(a, rest, after(p, decl_size(d)), next),
-        ),
-    }
-}
-
-fn ask_assign(a: &Asking<'_>, slot: Option<u32>, e: &Expr, p: Spot, next: usize) -> Run
-    requires { Room (numbers_in a.now) (here p) }
-    ensures { result ≡ answer_run a.now
-        (l.assign_parts (setting_in a.now) slot e.now (here p) next) }
-{
-    match slot {
-        None => ask_own(a, node(a.goto, p.node), &Shape::Jump(false, next)),
-        Some(slot) => {
-            let slot = slot as usize;
-            let term = source_term(p.expr, e);
-            ask_slot(
-                a,
-                slot_at(a.slots, slot),
-                node(a.goto, p.node),
-                slot,
-                &term,
-                next,
-            )
-        }
-    }
-}
+use away_trees::{Arm, Decl, LoopKind, Stmt};
+use away_values::{Class, Name, sqlstate};
 
 /// What the node and the arms of an IF or a CASE answer, where the text behind them begins, and the block where no arm is taken.
 #[derive(Clone, Copy)]
@@ -149,21 +77,6 @@ fn follows(a: &Asking<'_>, s: &Stmt, p: Spot, many: usize, next: usize) -> usize
         Question::Shares(_) => next,
         Question::Which => next,
     }
-}
-
-fn ask_return(a: &Asking<'_>, e: &Expr, p: Spot) -> Run
-    ensures { result ≡ answer_run a.now (form.own (form.node a.now.goto.now p.node)
-        (form.returns (form.source_term p.expr e.now)) ∷ []) }
-{
-    let term = source_term(p.expr, e);
-    ask_own(a, node(a.goto, p.node), &Shape::Return(&term))
-}
-
-fn ask_raise(a: &Asking<'_>, raised: &Raised, p: Spot) -> Run
-    ensures { result ≡ answer_run a.now (form.shared (form.node a.now.goto.now p.node)
-        (form.fails (meaning.class_of raised.now)) ∷ []) }
-{
-    ask_shared(a, node(a.goto, p.node), &Shape::Fail(class_of(raised)))
 }
 
 #[cycle(stand)]

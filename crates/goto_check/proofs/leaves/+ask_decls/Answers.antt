@@ -5,7 +5,7 @@ use Rattle.goto_check.specs.AnswerRuns.{answer_run}
 use Rattle.goto_check.specs.Room.{here}
 use Rattle.goto_check.proofs.AnswerRules.{two, none}
 use Rattle.goto_check.proofs.Lists.{first_rest, is_nil}
-use Rattle.goto_check.proofs.stand.+ask_decls.Goals as goal
+use Rattle.goto_check.proofs.leaves.+ask_decls.Goals as goal
 
 pub returns-in-empty : goal.returns-in-empty
 returns-in-empty t c = sym (none c.args.a.now) ∙ ap (λ l. answer_run c.args.a.now (decls_parts (setting_in c.args.a.now) l (here c.args.p) c.args.next)) (sym (is_nil c.args.decls.now c.in-empty.len_below))
