@@ -42,14 +42,14 @@ compiled wanted tables function text output status e =
     (so.1.0, subst (IsTranslation wanted tables function) (sym so.1.1) (translation wanted tables function e.schema e.called text so.0))
 
 module _ {D : Type 0} (F : Files D) where
-  no_stop : (before after : D) (name : List ℕ) (limit : ℕ) (status : Status) (output : List ℕ) → status ≡ Done → StopsAt F before name limit after status output → ⊥
+  pub no_stop : (before after : D) (name : List ℕ) (limit : ℕ) (status : Status) (output : List ℕ) → status ≡ Done → StopsAt F before name limit after status output → ⊥
   no_stop before after name limit status output done (inl (u, e)) = let wrong : ReadFault ≡ Done = sym e.0 ∙ done in cc
   no_stop before after name limit status output done (inr (long, e)) = let wrong : Refused ≡ Done = sym e.0 ∙ done in cc
 
-  no_refusal : (name : List ℕ) (Rules : List ℕ → Type 0) (status : Status) (output : List ℕ) → status ≡ Done → RefusedBy name Rules status output → ⊥
+  pub no_refusal : (name : List ℕ) (Rules : List ℕ → Type 0) (status : Status) (output : List ℕ) → status ≡ Done → RefusedBy name Rules status output → ⊥
   no_refusal name Rules status output done (rule, is, e) = let wrong : Refused ≡ Done = sym e.0 ∙ done in cc
 
-  same_bytes : (now : D) (name : List ℕ) (limit : ℕ) (bytes known : List ℕ) → F.held now name ≡ Some known → Holds F now name limit bytes → bytes ≡ known
+  pub same_bytes : (now : D) (name : List ℕ) (limit : ℕ) (bytes known : List ℕ) → F.held now name ≡ Some known → Holds F now name limit bytes → bytes ≡ known
   same_bytes now name limit bytes known is holds = subst (λ o. IfSome o (λ h. bytes ≡ h)) is holds.same
 
   -- a run that is done has read and judged the bytes that are told

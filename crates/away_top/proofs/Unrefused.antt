@@ -25,7 +25,7 @@ use Rattle.away_top.specs.declared.over_tables.program.Runnable.TheVariants as r
 use Rattle.away_top.specs.Certificates.{IsCert, IsCertRule, RefusesCert}
 use Rattle.away_top.specs.Files.{asked_of, callable_of, row_query_of}
 use Rattle.away_top.specs.Programs.{IsProgram, arguments_of, function, program_of, query, rows}
-use Rattle.away_top.specs.Refusals.{IsFunction, IsQuery, IsRowQuery, IsRule, IsSchema, RefusesFunction, RefusesQuery, RefusesRead, RefusesRowQuery, RefusesSchema}
+use Rattle.away_top.specs.Refusals.{IsFunction, IsQuery, IsRowQuery, IsRule, IsSchema, ReadsAsFunction, RefusesFunction, RefusesQuery, RefusesRead, RefusesRowQuery, RefusesSchema}
 
 -- ---- what reads as a tree that breaks no rule
 
@@ -42,10 +42,12 @@ schema_unrefused s rule (inr (other, read, breaks)) =
     let broken = breaks.least in
     cc
 
+-- what reads as a function within the limits is refused by no rule of its reader
+pub read_unrefused : (bytes : List ℕ) (f : Function) → ReadsAsFunction bytes f → (rule : List ℕ) → ¬ (RefusesRead (functions.Refuses bytes) rule)
+read_unrefused bytes f read rule = read_kept (functions.Refuses bytes) rule (function_kept bytes read.may_be_read f read.reads read.within_limits)
+
 pub function_kept_over : (schema : Schema) (bytes : List ℕ) → IsFunction schema bytes → (rule : List ℕ) → ¬ (RefusesFunction schema bytes rule)
-function_kept_over schema bytes f rule (inl h) =
-    let read = f.reads_as in
-    read_kept (functions.Refuses bytes) rule (function_kept bytes read.may_be_read f.written read.reads read.within_limits) h
+function_kept_over schema bytes f rule (inl h) = read_unrefused bytes f.written f.reads_as rule h
 function_kept_over schema bytes f rule (inr (other, read, breaks)) =
     let kept : HasNoFinding (function_note schema other) = subst (λ g. HasNoFinding (function_note schema g)) (one_function f.reads_as.reads read.reads) f.unbroken in
     let found = breaks.first in

@@ -17,6 +17,7 @@ use Rattle.std.specs.Prelude.{
 use Rattle.std.specs.List.{AllByRecursion}
 use Rattle.away_trees.specs.declared.schemas.Schema.{Schema}
 use Rattle.away_trees.specs.declared.schemas.TableSchema.{TableSchema}
+use Rattle.away_trees.specs.declared.statements.Function.{Function}
 use Rattle.away_types.specs.FunctionChecks.{resolved_function}
 use Rattle.batch_calls.specs.CallTables.{IsCallTable}
 use Rattle.away_top.specs.declared.status.Status.{Status}
@@ -37,10 +38,11 @@ use Rattle.away_top.specs.CheckCourse.{IsVerdict, verdict_line, verdict_status}
 use Rattle.away_top.specs.Course.{Course, gives, ends, judges, reads, Outcome}
 use Rattle.away_top.specs.DemoCourse.{IsShown}
 use Rattle.away_top.specs.Files.{asked_of, callable_of}
+use Rattle.away_top.specs.FormatCourse.{IsFormatted}
 use Rattle.cert_json.specs.Lines.{IsLine}
 use Rattle.away_top.specs.Lines.{line, read_fault}
 use Rattle.away_top.specs.Programs.{IsProgram, arguments_of, most_bytes, program_of}
-use Rattle.away_top.specs.Refusals.{IsFunction, IsQuery, IsSchema}
+use Rattle.away_top.specs.Refusals.{IsFunction, IsQuery, IsSchema, ReadsAsFunction}
 use Rattle.away_top.specs.RunAnswers.{Held, IsAnswer, IsAnswered}
 use Rattle.away_top.specs.TableFiles.{table_file}
 use Rattle.away_top.specs.Translation.{IsTranslation}
@@ -137,6 +139,24 @@ abbrev pub Batched : RoomySink → RoomySink → Status → List ℕ → List �
 Batched before after result tables function table =
     (result ≡ NoMemory)
     ⊎ ((text : List ℕ) × IsBatchFor tables function table text
+    × (length text ≤ before.room → IsWritten before after result text))
+
+-- ---- format
+
+-- The function's file is held, is within its limit and reads as a function, and no read is to fail.
+pub record MayFormat (files : HeldFiles) (func function : List ℕ) : Type 0 where
+  pub holds_function : held_at files.held func ≡ Some function
+  pub short : length function ≤ 1048576
+  pub written : Function
+  pub reads_as : ReadsAsFunction function written
+  pub no_failure : files.fails ≡ []
+
+-- Memory was wanting, or there is the text of the function that the call writes, where the room
+-- holds it.
+abbrev pub Formatted : RoomySink → RoomySink → Status → List ℕ → Type 0
+Formatted before after result function =
+    (result ≡ NoMemory)
+    ⊎ ((text : List ℕ) × IsFormatted function text
     × (length text ≤ before.room → IsWritten before after result text))
 
 -- ---- demo

@@ -1,7 +1,7 @@
 //! What the words ask for.
 
 ghost use Rattle.std.specs.Prelude.{◌≡◌, map, string_bytes};
-ghost use Rattle.away_top.specs.Commands.{as_command, asked_by, command_of, forms};
+ghost use Rattle.away_top.specs.Commands.{as_command, asked_by, command_of, forms, table_forms};
 ghost use Rattle.away_top.specs.Commands as form;
 
 use crate::compile::Wanted;
@@ -27,6 +27,9 @@ pub(crate) enum Command<'a> {
         func: &'a str,
         query: &'a str,
         cert: &'a str,
+    },
+    Format {
+        func: &'a str,
     },
     Demo {
         number: &'a str,
@@ -77,9 +80,19 @@ impl<'a> Command<'a> {
         if word == "check" {
             return check(rest);
         }
+        if word == "format" {
+            return format(rest);
+        }
         if word == "demo" {
             return demo(rest);
         }
+        Command::named_over_tables(word, rest)
+    }
+
+    /// The command of this name that runs something over tables.
+    fn named_over_tables(word: &str, rest: &'a [String]) -> Command<'a>
+        ensures { as_command result ≡ asked_by table_forms word.now (map string_bytes rest.now) }
+    {
         if word == "sql" {
             return over_tables(Runnable::Query, rest);
         }
@@ -137,6 +150,17 @@ fn check<'a>(rest: &'a [String]) -> Command<'a>
             func: func.as_str(),
             query: query.as_str(),
             cert: cert.as_str(),
+        },
+        _ => Command::NoForm,
+    }
+}
+
+fn format<'a>(rest: &'a [String]) -> Command<'a>
+    ensures { as_command result ≡ form.with_one form.format (map string_bytes rest.now) }
+{
+    match rest {
+        [func] => Command::Format {
+            func: func.as_str(),
         },
         _ => Command::NoForm,
     }

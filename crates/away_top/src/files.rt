@@ -34,7 +34,7 @@ use std::alloc::{AllocError, Global};
 pub(crate) const MAX_FILE: u64 = 67_108_864;
 
 /// The most bytes of a function's file.
-const MAX_FUNCTION: u64 = 1_048_576;
+pub(crate) const MAX_FUNCTION: u64 = 1_048_576;
 
 /// The schema that a file reads as, judged.
 pub fn schema_of<F: Files>(alloc: Global, name: &str, files: &mut F) -> Result<CheckedSchema, Halt>
@@ -227,7 +227,7 @@ pub(crate) fn bytes_of<F: Files>(
 }
 
 /// How the run ends where a reader refuses a file.
-fn refuse(alloc: Global, name: &str, error: ReadRefusal) -> Result<Ending, AllocError>
+pub(crate) fn refuse(alloc: Global, name: &str, error: ReadRefusal) -> Result<Ending, AllocError>
     ensures { IfOk result (ReadRefused name.now error) }
 {
     match error {

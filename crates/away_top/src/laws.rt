@@ -11,11 +11,13 @@ ghost use Rattle.away_top.specs.InMemory.{
   Batched,
   BeginsWith,
   Ended,
+  Formatted,
   HoldsCertified,
   Judged,
   MayBatch,
   MayCheck,
   MayCompile,
+  MayFormat,
   MayRun,
   Shown,
   Translated,
@@ -34,7 +36,8 @@ use std::alloc::Global;
 /// rule, that end is a translation.
 /// Where they are those of `batch`, and the table is one of the schema whose rows are calls of the function, it is a query for these calls.
 /// Where they are those of `check`, it is the verdict on its files, where they are those of `sql` or `fn`, the answer of the query or
-/// the function, where they are those of `rows`, the rows of the query, and where they are `demo` and a number, a summary of that case.
+/// the function, where they are those of `rows`, the rows of the query, where they are those of `format`, the text of the function, and where
+/// they are `demo` and a number, a summary of that case.
 pub fn away_in_memory(
     alloc: Global,
     words: &[String],
@@ -57,6 +60,10 @@ pub fn away_in_memory(
         → map string_bytes words.now ≡ codes "check" ∷ schema ∷ func ∷ query ∷ cert ∷ []
         → MayCheck files.old schema func query cert tables function asked forms → out.old.fails ≡ []
         → Judged out.old out.new result tables function asked forms }
+    ensures format { (func function : List ℕ)
+        → map string_bytes words.now ≡ codes "format" ∷ func ∷ []
+        → MayFormat files.old func function → out.old.fails ≡ []
+        → Formatted out.old out.new result function }
     ensures demo { (word : List ℕ) → map string_bytes words.now ≡ codes "demo" ∷ word ∷ []
         → IsSome (bound_of word)
         → out.old.fails ≡ [] → Shown out.old out.new result word }

@@ -17,7 +17,7 @@ use Rattle.cte_prints.specs.Derivation.{IsReadWithin}
 use Rattle.cte_prints.specs.TerminalNesting.{TerminalsNestWithin, NestWithin}
 use Rattle.cte_prints.proofs.RoomLeft.{room}
 use Rattle.cte_prints.proofs.Bodies.{PartWalk, walked}
-use Rattle.cte_prints.proofs.InsideWritable.{inner_writable}
+use Rattle.sql_printer.proofs.InsideWritable.{inner_writable}
 use Rattle.cte_prints.proofs.TokenChanges.{changes_alike}
 
 each_of : {X : Type 0} (P : X → Type 0) (xs : List X) → Every P xs → Each P xs

@@ -20,7 +20,6 @@ pub mod Reading
 pub mod ReadElsewhere
 pub mod ReadSelects
 pub mod Bodies
-pub mod InsideWritable
 pub mod Files
 pub mod WritableReadings
 pub mod WritableColumns

@@ -3,6 +3,7 @@ use Rattle.std.proofs.Common.{◌≡◌, ◌≤◌, ◌<◌, ℕ, zero, suc, ◌
 use Rattle.std.proofs.lemmas.Bool.Decides.{nat_tests}
 use Rattle.std.proofs.lemmas.List.{drop_all, length-map}
 use Rattle.away_values.specs.declared.errors.NoMemory.{NoMemory}
+use Rattle.away_grammar.specs.declared.grammar.Mark.{Mark}
 use Rattle.away_grammar.specs.declared.grammar.Mark.TheVariants as m
 use Rattle.away_grammar.specs.Terminals.{Terminal, mark}
 use Rattle.away_grammar.specs.Grammar.{perhaps}
@@ -84,25 +85,35 @@ twice_if : (b : Bool) (s t : Terminal) (ts : List Terminal) → perhaps b s [] +
 twice_if true s t ts = refl
 twice_if false s t ts = refl
 
-abbrev comma : List Terminal
-comma = mark m.Comma ∷ []
-
 abbrev pub union : List Terminal
 union = mark m.Union ∷ mark m.All ∷ []
 
+-- what a loop with the same mark between any two has left
+abbrev pub MarksLead : {A : Type 0} → Mark → (A → List Terminal) → List A → List Terminal → ℕ → List Terminal → Type 0
+MarksLead between f xs before i now = Leads (joined (mark between ∷ []) (map f xs)) before (left_at (mark between ∷ []) i (map f xs)) now
+
+pub mark_on : {A : Type 0} (between : Mark) (f : A → List Terminal) (xs : List A) (i : ℕ) (x : A) {before now next last : List Terminal} {u v : Unit {0}} → x ≡ get_or xs i x → i < length xs
+    → MarksLead between f xs before i now → Adds (perhaps (nat_lt 0 i) (mark between) []) now (Ok u) next → Adds (f x) next (Ok v) last → MarksLead between f xs before (i + 1) last
+mark_on between f xs i x is lt h k j =
+    let one = mark between ∷ [] in
+    let step = between_more one f xs i x is lt ∙ ap (λ s. s ++ (f x ++ left_at one (i + 1) (map f xs))) (sym (perhaps_if (nat_lt 0 i) (mark between))) in
+    goes_on (goes_on (turned step h) k) j
+
+pub marks_end : {A : Type 0} (between : Mark) (f : A → List Terminal) (xs : List A) (i : ℕ) {before now : List Terminal} {u : Unit {0}} → length xs ≤ i
+    → MarksLead between f xs before i now → Adds (joined (mark between ∷ []) (map f xs)) before (Ok u) now
+marks_end between f xs i le h = ends (turned (none_left (mark between ∷ []) f xs i le) h)
+
 -- what a loop with commas has left
 abbrev pub CommasLead : {A : Type 0} → (A → List Terminal) → List A → List Terminal → ℕ → List Terminal → Type 0
-CommasLead f xs before i now = Leads (with_commas (map f xs)) before (left_at comma i (map f xs)) now
+CommasLead f xs before i now = MarksLead m.Comma f xs before i now
 
 pub comma_on : {A : Type 0} (f : A → List Terminal) (xs : List A) (i : ℕ) (x : A) {before now next last : List Terminal} {u v : Unit {0}} → x ≡ get_or xs i x → i < length xs
     → CommasLead f xs before i now → Adds (perhaps (nat_lt 0 i) (mark m.Comma) []) now (Ok u) next → Adds (f x) next (Ok v) last → CommasLead f xs before (i + 1) last
-comma_on f xs i x is lt h k j =
-    let step = between_more comma f xs i x is lt ∙ ap (λ s. s ++ (f x ++ left_at comma (i + 1) (map f xs))) (sym (perhaps_if (nat_lt 0 i) (mark m.Comma))) in
-    goes_on (goes_on (turned step h) k) j
+comma_on f xs i x is lt h k j = mark_on m.Comma f xs i x is lt h k j
 
 pub commas_end : {A : Type 0} (f : A → List Terminal) (xs : List A) (i : ℕ) {before now : List Terminal} {u : Unit {0}} → length xs ≤ i
     → CommasLead f xs before i now → Adds (with_commas (map f xs)) before (Ok u) now
-commas_end f xs i le h = ends (turned (none_left comma f xs i le) h)
+commas_end f xs i le h = marks_end m.Comma f xs i le h
 
 -- what a loop with UNION ALL has left
 abbrev pub UnionsLead : {A : Type 0} → (A → List Terminal) → List A → List Terminal → ℕ → List Terminal → Type 0

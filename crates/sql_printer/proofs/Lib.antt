@@ -8,6 +8,7 @@ pub mod PrintWritable
 pub mod PrintTokens
 pub mod PrintTexts
 pub mod TextTerminals
+pub mod InsideWritable
 pub mod Adding
 pub mod Doubled
 pub mod LaidOut

@@ -25,7 +25,7 @@ use Rattle.sql_printer.specs.Writable.{Writable}
 use Rattle.std.proofs.lemmas.Option.{same_Some}
 use Rattle.sql_printer.proofs.PrintExpressions.{NonEmpty}
 
-abbrev mark_is_dot : Mark → Bool
+abbrev pub mark_is_dot : Mark → Bool
 mark_is_dot m.Dot = true
 mark_is_dot m.Dots = true
 mark_is_dot _ = false
@@ -60,7 +60,7 @@ an_integer n h d = behind h (λ e. no_dot e) d
 pub a_parameter : (i : ℕ) → Writable (parameter i) → {ts : List Terminal} → Clear ts → Clear (parameter i ∷ ts)
 a_parameter i h d = behind h (λ e. no_dot e) d
 
-still_name : (ts us : List Terminal) → BeginsWithName ts → BeginsWithName (ts ++ us)
+pub still_name : (ts us : List Terminal) → BeginsWithName ts → BeginsWithName (ts ++ us)
 still_name (name n ∷ ts) us h = tt
 still_name (mark n ∷ ts) us h = absurd h
 still_name (integer n ∷ ts) us h = absurd h
@@ -116,7 +116,7 @@ ClearList xs = NonEmpty xs × Clear (list_terminals (map (λ x. printed x) xs))
 abbrev pub ClearArms : List (Expr × Expr) → Type 0
 ClearArms more = Clear (arms_terminals (map (λ x. eq.arm_of printing x) more))
 
-operator_clear : (o : ChainOp) → mark_is_dot (operator_mark o) ≡ false
+pub operator_clear : (o : ChainOp) → mark_is_dot (operator_mark o) ≡ false
 operator_clear op.Or = refl
 operator_clear op.And = refl
 operator_clear op.Concat = refl
@@ -151,7 +151,7 @@ pub is_clear : (x : Expr) (t : IsTest) (n : Bool) → Fine x → Fine (e.Is x t 
 is_clear x t n d =
     fine_by (eq.of_is printing x t n) (both (at_place l.Compare x d) (a_mark m.Is refl (perhaps_not n (a_mark (test_mark t) (test_clear t) nothing))))
 
-comparison_clear : (o : CmpOp) → mark_is_dot (comparison_mark o) ≡ false
+pub comparison_clear : (o : CmpOp) → mark_is_dot (comparison_mark o) ≡ false
 comparison_clear cmp.Eq = refl
 comparison_clear cmp.Ne = refl
 comparison_clear cmp.Lt = refl

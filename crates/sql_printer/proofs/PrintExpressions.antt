@@ -49,9 +49,9 @@ perhaps_behind false s ts after = refl
 -- ---- chains
 
 -- An operator is written as its mark, at its level.
-record IsOperator (level : Level) (terminal : Mark) (o : ChainOp) : Type 0 where
-  written : operator_mark o ≡ terminal
-  level_is : operator_level o ≡ level
+pub record IsOperator (level : Level) (terminal : Mark) (o : ChainOp) : Type 0 where
+  pub written : operator_mark o ≡ terminal
+  pub level_is : operator_level o ≡ level
 
 is_the : (level : Level) (terminal : Mark) (o p : ChainOp) → Some o ≡ Some p → IsOperator level terminal o → IsOperator level terminal p
 is_the level terminal o p h is = subst (IsOperator level terminal) (same_Some _ _ h) is
@@ -79,7 +79,7 @@ product_is m.Slash o h = is_the l.Product m.Slash (op.Int int.Div) o h (record {
 product_is m.Percent o h = is_the l.Product m.Percent (op.Int int.Rem) o h (record { written = refl; level_is = refl })
 product_is _ o h = absurd (cc h)
 
-operator_is : (level : Level) (terminal : Mark) (o : ChainOp) → operator_of level terminal ≡ Some o → IsOperator level terminal o
+pub operator_is : (level : Level) (terminal : Mark) (o : ChainOp) → operator_of level terminal ≡ Some o → IsOperator level terminal o
 operator_is l.Or terminal o h = or_is terminal o h
 operator_is l.And terminal o h = and_is terminal o h
 operator_is l.Concat terminal o h = bars_is terminal o h
@@ -120,7 +120,7 @@ is_back x t n b =
     back_by (eq.of_is printing x t n) (λ after.
     simp (append_assoc, perhaps_behind) (tested (test_mark t) (test_is t) (place l.Compare x (mark m.Is ∷ perhaps n (mark m.Not) (mark (test_mark t) ∷ after)) b)))
 
-comparison_is : (o : CmpOp) → comparison_of (comparison_mark o) ≡ Some o
+pub comparison_is : (o : CmpOp) → comparison_of (comparison_mark o) ≡ Some o
 comparison_is cmp.Eq = refl
 comparison_is cmp.Ne = refl
 comparison_is cmp.Lt = refl
@@ -174,7 +174,7 @@ pub qualified_back : (n c : List ℕ) → Back (e.Dotted n c)
 qualified_back n c after = qualified
 
 -- The name that a type prints as is its name.
-type_is : (t : List ℕ) (ty : Ty) → type_named t ≡ Some ty → type_named (type_name ty) ≡ Some ty
+pub type_is : (t : List ℕ) (ty : Ty) → type_named t ≡ Some ty → type_named (type_name ty) ≡ Some ty
 unfolding type_named
 type_is t types.Bigint h = refl
 type_is t types.Boolean h = refl

@@ -74,11 +74,11 @@ loosen l.Sign from h d = sign_from from h d
 loosen l.Cast from h d = cast_from from h d
 loosen l.Primary from h d = primary_from from h d
 
-least_rank : (level : Level) → rank l.Or ≤ rank level
+pub least_rank : (level : Level) → rank l.Or ≤ rank level
 least_rank l.Or = omega arith
 least_rank _ = omega arith
 
-greatest_rank : (level : Level) → rank level ≤ rank l.Primary
+pub greatest_rank : (level : Level) → rank level ≤ rank l.Primary
 greatest_rank l.Or = omega arith
 greatest_rank _ = omega arith
 

@@ -26,7 +26,7 @@ mark_dot : (terminal : Mark) → is_one 46 (mark_spelled terminal) ≡ true → 
 mark_dot m.Dot h = refl
 mark_dot _ h = absurd (cc h)
 
-one_dot : (s : Terminal) → is_one 46 (spelled s) ≡ true → is_dot s ≡ true
+pub one_dot : (s : Terminal) → is_one 46 (spelled s) ≡ true → is_dot s ≡ true
 one_dot (mark terminal) h = mark_dot terminal h
 one_dot (name n) h = absurd (cc h)
 one_dot (integer n) h = absurd (cc h)
@@ -48,7 +48,7 @@ mark_begins m.Dot e = refl
 mark_begins m.Dots e = refl
 mark_begins _ e = absurd (omega (arith, e))
 
-begins_dot : (s : Terminal) → Writable s → byte (spelled s).text 0 ≡ 46 → is_dot s ≡ true
+pub begins_dot : (s : Terminal) → Writable s → byte (spelled s).text 0 ≡ 46 → is_dot s ≡ true
 begins_dot (mark terminal) h e = mark_begins terminal e
 begins_dot (name n) h e = absurd (name_begins n h.0 e)
 begins_dot (integer n) h e = absurd (digits_begin (decimal n) (integer_spells n h) e)
@@ -56,7 +56,7 @@ begins_dot (string t) h e = absurd (omega (arith, e))
 begins_dot (parameter i) h e = absurd (omega (arith, e))
 begins_dot (quote z) h e = absurd (quote_begins z h e)
 
-dot_begins : (t : Terminal) (ts : List Terminal) → is_dot t ≡ true → BeginsWithName (t ∷ ts) → ⊥
+pub dot_begins : (t : Terminal) (ts : List Terminal) → is_dot t ≡ true → BeginsWithName (t ∷ ts) → ⊥
 dot_begins (mark terminal) ts h k = k
 dot_begins (name n) ts h k = cc h
 dot_begins (integer n) ts h k = k
@@ -81,10 +81,10 @@ all_writable : {ts : List Terminal} → Clear ts → AllWritable ts
 all_writable nothing = tt
 all_writable (behind h k d) = (h, all_writable d)
 
-abbrev terminal_of : Written → Terminal
+abbrev pub terminal_of : Written → Terminal
 terminal_of w = terminal_by_kind w.kind w.text
 
-placed_terminals : (ws : List Written) (at : ℕ) → token_terminals (lexemes_from at ws) ≡ map terminal_of ws
+pub placed_terminals : (ws : List Written) (at : ℕ) → token_terminals (lexemes_from at ws) ≡ map terminal_of ws
 placed_terminals [] at = refl
 placed_terminals (w ∷ ws) at = ap (λ ts. terminal_of w ∷ ts) (placed_terminals ws ((if w.spaced then at + 1 else at) + length w.text))
 

@@ -1,5 +1,5 @@
 -- Each writable terminal is spelled as a token that says it.
-use Rattle.std.proofs.Common.{◌≡◌, ℕ, ◌+◌, ◌*◌, ◌-◌, ◌<◌, ◌≤◌, ◌^◌, Bool, true, false, ◌&&◌, ◌||◌, List, [], ◌∷◌, ◌++◌, length, take, map, chars, Some, None, refl, ap, ◌∙◌, arith, length-append, if◌then◌else◌}
+use Rattle.std.proofs.Common.{◌≡◌, ℕ, ◌+◌, ◌*◌, ◌-◌, ◌<◌, ◌≤◌, ◌^◌, Bool, true, false, ◌&&◌, ◌||◌, List, [], ◌∷◌, map, chars, Some, None, refl, ap, ◌∙◌, arith, if◌then◌else◌}
 use Rattle.std.proofs.lemmas.Bool.Decides.{nat_tests}
 use Rattle.std.proofs.lemmas.Fmt.{decimal_is_IsNumeral}
 use Rattle.std.proofs.lemmas.Str.{chars-encodes}
@@ -81,11 +81,11 @@ digits_number : (v : ℕ) (ds : List ℕ) → AllDigits 10 ds → number_from v 
 digits_number v [] h = refl
 digits_number v (c ∷ cs) h = ap (λ d. number_from (v * 10 + d) cs) (digit_is c h.0).1 ∙ digits_number (v * 10 + digit_value c) cs h.1
 
-number_decimal : (n : ℕ) → n < 2 ^ 64 → number (decimal n) ≡ n
+pub number_decimal : (n : ℕ) → n < 2 ^ 64 → number (decimal n) ≡ n
 unfolding number
 number_decimal n h = let d = decimal_is_IsNumeral n h in digits_number 0 (decimal n) d.0.1 ∙ d.1
 
-decimal_digits : (n : ℕ) → n < 2 ^ 64 → list_all is_ascii_digit (decimal n) ≡ true
+pub decimal_digits : (n : ℕ) → n < 2 ^ 64 → list_all is_ascii_digit (decimal n) ≡ true
 decimal_digits n h = digits_all (decimal n) (decimal_is_IsNumeral n h).0.1
 
 pub integer_spells : (n : ℕ) → n ≤ 2 ^ 63 → IsInteger (decimal n)

@@ -22,7 +22,7 @@ use Rattle.away_grammar.specs.declared.grammar.Mark.TheVariants as m
 use Rattle.away_values.specs.declared.operators.ChainOp.{ChainOp}
 use Rattle.away_trees.specs.declared.queries.Expr.{Expr}
 use Rattle.away_grammar.specs.Reserved.{calls}
-use Rattle.away_grammar.specs.Terminals.{Terminal, mark, name, integer, string, parameter}
+use Rattle.away_grammar.specs.Terminals.{Terminal, mark, name, integer, string, parameter, quote}
 use Rattle.away_grammar.specs.Spacing.{is_glued}
 use Rattle.away_grammar.specs.Printing.{Printed, names_terminals, printed, spelled}
 use Rattle.sql_printer.specs.declared.terminal_list.PrintedTerminal as code
@@ -32,6 +32,7 @@ use Rattle.sql_printer.specs.declared.terminal_list.PrintedTerminal.TheVariants.
   Integer,
   Text,
   Parameter,
+  Quote,
 }
 
 -- what a terminal of the code is
@@ -41,6 +42,7 @@ terminal_of (Name n) = name n.now
 terminal_of (Integer n) = integer n
 terminal_of (Text t) = string t.now
 terminal_of (Parameter i) = parameter i
+terminal_of (Quote z) = quote z.now
 
 -- After a success the terminals stand behind those that were there.
 pub record Adds (terminals before : List Terminal) (result : Result (Unit {0}) NoMemory) (after : List Terminal) : Type 0 where

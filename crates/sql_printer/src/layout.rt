@@ -53,6 +53,7 @@ fn push_terminal(
     match terminal {
         PrintedTerminal::Mark(mark) => text.push_str(mark_text(mark))?,
         PrintedTerminal::Name(name) => text.push_str(name)?,
+        PrintedTerminal::Quote(quote) => text.push_str(quote)?,
         PrintedTerminal::Integer(number) => write!(text, "{number}")?,
         PrintedTerminal::Text(word) => return push_quoted(alloc, text, word.text()),
         PrintedTerminal::Parameter(number) => write!(text, "${number}")?,
@@ -112,8 +113,10 @@ fn calls(terminal: PrintedTerminal<'_>) -> bool
     match terminal {
         PrintedTerminal::Mark(mark) => mark_calls(mark),
         PrintedTerminal::Name(name) => name_calls(name),
-        PrintedTerminal::Integer(_) | PrintedTerminal::Text(_) | PrintedTerminal::Parameter(_) =>
-            false,
+        PrintedTerminal::Integer(_)
+        | PrintedTerminal::Text(_)
+        | PrintedTerminal::Parameter(_)
+        | PrintedTerminal::Quote(_) => false,
     }
 }
 

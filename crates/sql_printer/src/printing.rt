@@ -113,7 +113,7 @@ fn add_select<'a>(terminals: &mut TerminalList<'a>, select: &'a Select) -> Resul
 }
 
 #[cycle(print)]
-fn add_items<'a>(terminals: &mut TerminalList<'a>, items: &'a [Item]) -> Result<(), NoMemory>
+pub fn add_items<'a>(terminals: &mut TerminalList<'a>, items: &'a [Item]) -> Result<(), NoMemory>
     ensures { Adds (spec.with_commas
         (map (item_of printing) items.now)) terminals.old result terminals.new }
 {
@@ -136,7 +136,7 @@ fn add_item<'a>(terminals: &mut TerminalList<'a>, item: &'a Item) -> Result<(), 
 }
 
 #[cycle(print)]
-fn add_from<'a>(terminals: &mut TerminalList<'a>, items: &'a [FromItem]) -> Result<(), NoMemory>
+pub fn add_from<'a>(terminals: &mut TerminalList<'a>, items: &'a [FromItem]) -> Result<(), NoMemory>
     ensures { Adds (spec.from_terminals
         (map (from_of printing) items.now)) terminals.old result terminals.new }
 {
@@ -171,7 +171,10 @@ fn add_source<'a>(terminals: &mut TerminalList<'a>, source: &'a Source) -> Resul
 }
 
 #[cycle(print)]
-fn add_where<'a>(terminals: &mut TerminalList<'a>, filter: &'a Option<Expr>) -> Result<(), NoMemory>
+pub fn add_where<'a>(
+    terminals: &mut TerminalList<'a>,
+    filter: &'a Option<Expr>,
+) -> Result<(), NoMemory>
     ensures { Adds (spec.where_terminals
         (option_map printed filter.now)) terminals.old result terminals.new }
 {
@@ -185,7 +188,7 @@ fn add_where<'a>(terminals: &mut TerminalList<'a>, filter: &'a Option<Expr>) -> 
 }
 
 #[cycle(print)]
-fn add_order<'a>(terminals: &mut TerminalList<'a>, keys: &'a [Key]) -> Result<(), NoMemory>
+pub fn add_order<'a>(terminals: &mut TerminalList<'a>, keys: &'a [Key]) -> Result<(), NoMemory>
     ensures { Adds (spec.order_terminals
         (map (key_of printing) keys.now)) terminals.old result terminals.new }
 {
@@ -207,7 +210,10 @@ fn add_key<'a>(terminals: &mut TerminalList<'a>, key: &'a Key) -> Result<(), NoM
 }
 
 #[cycle(print)]
-fn add_limit<'a>(terminals: &mut TerminalList<'a>, limit: &'a Option<Expr>) -> Result<(), NoMemory>
+pub fn add_limit<'a>(
+    terminals: &mut TerminalList<'a>,
+    limit: &'a Option<Expr>,
+) -> Result<(), NoMemory>
     ensures { Adds (spec.limit_terminals
         (option_map printed limit.now)) terminals.old result terminals.new }
 {
@@ -232,7 +238,7 @@ fn add_subquery<'a>(terminals: &mut TerminalList<'a>, query: &'a Query) -> Resul
 
 /// Adds an expression, in parentheses where it binds less than the place asks for.
 #[cycle(print)]
-fn add_expr<'a>(
+pub fn add_expr<'a>(
     terminals: &mut TerminalList<'a>,
     place: Level,
     expr: &'a Expr,

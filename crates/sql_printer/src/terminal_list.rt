@@ -22,6 +22,8 @@ pub enum PrintedTerminal<'a> {
     /// A string, by its text.
     Text(&'a Word),
     Parameter(u32),
+    /// A dollar quote, as it is written.
+    Quote(&'a str),
 }
 
 /// The terminals so far. Contracts see them as their list.
@@ -100,6 +102,13 @@ impl<'a> TerminalList<'a> {
         ensures { Adds (spec.string text.now ∷ []) self.old result self.new }
     {
         self.add(PrintedTerminal::Text(text))
+    }
+
+    /// Adds a dollar quote, as it is written.
+    pub fn quote(&mut self, text: &'a str) -> Result<(), NoMemory>
+        ensures { Adds (spec.quote text.now ∷ []) self.old result self.new }
+    {
+        self.add(PrintedTerminal::Quote(text))
     }
 
     pub fn parameter(&mut self, number: u32) -> Result<(), NoMemory>

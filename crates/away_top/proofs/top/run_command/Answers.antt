@@ -13,6 +13,11 @@ pub returns-in-Batch : goal.returns-in-Batch
 returns-in-Batch g c =
     subst (λ (x : Command). Runs g.F.Files c.args.files.now (course_of (as_command x)) c.batch.new.files (run_end c.batch.result)) (sym c.in-Batch.is) c.batch.ensures
 
+pub returns-in-Format : goal.returns-in-Format
+returns-in-Format g c =
+    subst (λ (x : Command). Runs g.F.Files c.args.files.now (course_of (as_command x)) c.format.new.files (run_end c.format.result)) (sym c.in-Format.is)
+    (record { text = []; follows = c.format.ensures })
+
 pub returns-in-Check : goal.returns-in-Check
 returns-in-Check g c =
     subst (λ (x : Command). Runs g.F.Files c.args.files.now (course_of (as_command x)) c.check.new.files (run_end c.check.result)) (sym c.in-Check.is)

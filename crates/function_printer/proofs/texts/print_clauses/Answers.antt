@@ -1,0 +1,10 @@
+use Rattle.std.proofs.Common.{◌≡◌, IfOk, ap, subst, ◌∙◌, string_bytes}
+use Rattle.function_printer.specs.FunctionTexts.{spaced_text}
+use Rattle.function_printer.proofs.LineFeeds.{added_first}
+use Rattle.function_printer.proofs.PartTexts.{clauses_text_is}
+use Rattle.function_printer.proofs.texts.print_clauses.Goals as goal
+
+pub returns : goal.returns
+returns c =
+    subst (λ z. IfOk c.spaced.result (λ text. string_bytes text ≡ z))
+    (ap spaced_text (added_first c.new-terminals.ensures c.in_ok-add_clauses.ensures) ∙ clauses_text_is c.args.select.now) c.spaced.ensures

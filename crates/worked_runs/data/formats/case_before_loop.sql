@@ -1,0 +1,12 @@
+CREATE FUNCTION f(n bigint) RETURNS bigint LANGUAGE plpgsql AS $$
+BEGIN
+  WHILE (CASE WHEN n > 0 THEN TRUE END) LOOP
+    EXIT; -- at once
+  END LOOP;
+  IF (CASE WHEN n > 0 THEN TRUE END) THEN
+    NULL;
+  ELSEIF NOT (n = 1) THEN
+  ELSE
+    RETURN (1);
+  END IF;
+END $$

@@ -1,0 +1,5 @@
+CREATE FUNCTION f() RETURNS text LANGUAGE plpgsql AS $b$
+DECLARE
+BEGIN
+  RETURN '$$ $q1$';
+END $b$;

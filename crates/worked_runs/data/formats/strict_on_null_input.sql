@@ -1,0 +1,2 @@
+CREATE FUNCTION f(a bigint, b text) RETURNS bigint LANGUAGE plpgsql RETURNS NULL ON NULL INPUT AS $$
+BEGIN RETURN (SELECT max(t.k) FROM t); END $$
