@@ -95,6 +95,9 @@ def growth():
     for memory in (1 << 30, 1 << 28, 1 << 26, 1 << 24):
         for name, query in (("rows squared four times", f"SELECT count(*){NULL} FROM ({squared}) a"), ("an iteration of ten times the rows", tenfold)):
             yield Case(f"{name}, within {memory >> 20} MiB", {**ten, "q.sql": query}, SQL, status=5, memory=memory)
+    eightfold = f"WITH RECURSIVE r(i) AS (SELECT 1 UNION ALL SELECT r.i FROM r, t a, t b, t c) SELECT r.i{NULL} FROM r"
+    two = {"s.sql": TABLE, "d/t.csv": "v\n1\n2\n", "q.sql": eightfold}
+    yield Case("262,144 rows of four items, within 64 MiB", two, ["sql", "6", *SQL[2:]], "more", memory=1 << 26)
     doubled = f"WITH RECURSIVE r(i) AS (SELECT 'x' UNION ALL SELECT r.i || r.i FROM r) SELECT r.i{NULL} FROM r"
     yield Case("a text that doubles in a query", {"q.sql": doubled}, SQL, "fault 54000")
     body = function("LOOP a := a || a; END LOOP;", "a text", result="text")

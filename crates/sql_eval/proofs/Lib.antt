@@ -9,3 +9,4 @@ pub mod PlaceRules
 pub mod SameTables
 pub mod KeptTables
 pub mod KeptRules
+mod SubqueryRules

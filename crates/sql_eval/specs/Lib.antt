@@ -1,3 +1,4 @@
+pub mod SharedRows
 pub mod Scopes
 pub mod Called
 pub mod Classes

@@ -8,6 +8,7 @@ mod classes;
 mod eval;
 mod expressions;
 mod frames;
+mod from_rows;
 mod functions;
 mod kept_rows;
 mod lengths;
