@@ -23,29 +23,47 @@ pub refused_so : (name : List ℕ) (Some All : List ℕ → Type 0) → ((rule :
     → RefusedBy name Some status output → RefusedBy name All status output
 refused_so name Some All among status output (rule, is, e) = (rule, among rule is, e)
 
--- the stretches of a run over a schema's file and a function's
-module _ {D : Type 0} (F : Files D) (schema func : List ℕ) (E : List ℕ → Schema → Callable → Status → List ℕ → Type 0) where
+-- the stretches of a run over a schema's file and a second one
+module _ {D B : Type 0} (F : Files D) (schema : List ℕ) (second_course : Schema → Course B) (E : List ℕ → Schema → B → Status → List ℕ → Type 0) where
   abbrev with_tables : List ℕ → Schema → Course ⊥
-  with_tables text tables = and_then (function_course tables func) (λ f. ends (E text tables f))
+  with_tables text tables = and_then (second_course tables) (λ b. ends (E text tables b))
+
+  abbrev over_both : List ℕ → Course ⊥
+  over_both text = and_then (schema_course schema) (with_tables text)
 
   -- the run ends with the schema's file
-  pub schema_stops : (old new : D) (halt : Halt) → Follows F old (schema_course schema) new (halt_end halt) → Runs F old (λ text. over_function schema func (E text)) new (halt_end halt)
-  schema_stops old new halt first = record { text = []; follows = stops_early F old new (schema_course schema) (with_tables []) halt first }
+  pub first_stops : (old new : D) (halt : Halt) → Follows F old (schema_course schema) new (halt_end halt) → Runs F old over_both new (halt_end halt)
+  first_stops old new halt first = record { text = []; follows = stops_early F old new (schema_course schema) (with_tables []) halt first }
 
   module _ (old middle new : D) (tables : Schema) (first : Follows F old (schema_course schema) middle (goes_on tables)) where
     -- both files are judged, and the run comes to its end
-    pub comes_to : (f : Callable) (end : End ⊥) → Follows F middle (function_course tables func) new (goes_on f) → ((text : List ℕ) × IsEnd (E text tables f) end)
-        → Runs F old (λ text. over_function schema func (E text)) new end
-    comes_to f end second (text, is) = record {
+    pub both_come_to : (b : B) (end : End ⊥) → Follows F middle (second_course tables) new (goes_on b) → ((text : List ℕ) × IsEnd (E text tables b) end) → Runs F old over_both new end
+    both_come_to b end second (text, is) = record {
       text = text;
       follows = goes_further F old middle new (schema_course schema) (with_tables text) tables end first
-          (goes_further F middle new new (function_course tables func) (λ f. ends (E text tables f)) f end second (record { same = refl; how = is }));
+          (goes_further F middle new new (second_course tables) (λ b. ends (E text tables b)) b end second (record { same = refl; how = is }));
     }
 
-    -- the run ends with the function's file
-    pub function_stops : (halt : Halt) → Follows F middle (function_course tables func) new (halt_end halt) → Runs F old (λ text. over_function schema func (E text)) new (halt_end halt)
-    function_stops halt second = record {
+    -- the run ends with the second file
+    pub second_stops : (halt : Halt) → Follows F middle (second_course tables) new (halt_end halt) → Runs F old over_both new (halt_end halt)
+    second_stops halt second = record {
       text = [];
       follows = goes_further F old middle new (schema_course schema) (with_tables []) tables (halt_end halt) first
-          (stops_early F middle new (function_course tables func) (λ f. ends (E [] tables f)) halt second);
+          (stops_early F middle new (second_course tables) (λ b. ends (E [] tables b)) halt second);
     }
+
+-- the same where the second is a function's
+module _ {D : Type 0} (F : Files D) (schema func : List ℕ) (E : List ℕ → Schema → Callable → Status → List ℕ → Type 0) where
+  abbrev functions : Schema → Course Callable
+  functions tables = function_course tables func
+
+  pub schema_stops : (old new : D) (halt : Halt) → Follows F old (schema_course schema) new (halt_end halt) → Runs F old (λ text. over_function schema func (E text)) new (halt_end halt)
+  schema_stops = first_stops F schema functions E
+
+  module _ (old middle new : D) (tables : Schema) (first : Follows F old (schema_course schema) middle (goes_on tables)) where
+    pub comes_to : (f : Callable) (end : End ⊥) → Follows F middle (function_course tables func) new (goes_on f) → ((text : List ℕ) × IsEnd (E text tables f) end)
+        → Runs F old (λ text. over_function schema func (E text)) new end
+    comes_to = both_come_to F schema functions E old middle new tables first
+
+    pub function_stops : (halt : Halt) → Follows F middle (function_course tables func) new (halt_end halt) → Runs F old (λ text. over_function schema func (E text)) new (halt_end halt)
+    function_stops = second_stops F schema functions E old middle new tables first

@@ -20,7 +20,7 @@ use Rattle.away_top.specs.AnswerLines.{answer_end, value_line}
 use Rattle.away_top.specs.RowRecords.{records_text, rows_end}
 use Rattle.away_top.specs.Arguments.{bound_of}
 use Rattle.away_top.specs.BatchCourse.{EndsWith, batch_course, place_of}
-use Rattle.away_top.specs.Commands.{Command, batch, check, command_of, compile, course, course_of, demo, format, help, no_form, over_tables, version}
+use Rattle.away_top.specs.Commands.{Command, batch, check, command_of, compile, course, course_of, demo, format, help, no_form, over_tables, untail, version}
 use Rattle.cert_json.specs.Forms.{Cert}
 use Rattle.stage_check.specs.declared.verdict.Verdict.TheVariants.{Accepted, Fails}
 use Rattle.away_top.specs.Certificates.{RefusesCert, cert_course}
@@ -36,7 +36,9 @@ use Rattle.away_top.specs.Help.{help_text, version_text}
 use Rattle.away_top.specs.Lines.{line}
 use Rattle.away_top.specs.Host.{Rose}
 use Rattle.plsql_parse.specs.Refusals as functions
+use Rattle.away_trees.specs.declared.statements.Function.{Function}
 use Rattle.away_top.specs.FormatCourse.{format_course}
+use Rattle.away_top.specs.UntailCourse as untails
 use Rattle.away_top.specs.Refusals.{RefusesFunction, RefusesRead, RefusesQuery, RefusesRowQuery, RefusesSchema}
 use Rattle.away_top.specs.Runs.{ended, Follows}
 
@@ -186,6 +188,15 @@ plain_check : (schema func query cert : List ℕ) → IsPlainCourse (check_cours
 plain_check schema func query cert =
     plain_then {A = Schema} {B = ⊥} (schema_course schema) (λ s. check_schema s func query cert) (λ bytes. (plain_refusal schema (RefusesSchema bytes), λ s. tt)) (λ s. plain_forms s func query cert)
 
+-- ---- self calls
+
+plain_untail_end : (func : List ℕ) (s : Schema) (f : Function) (text : List ℕ) → ArePlain (untails.EndsWith func s f text)
+plain_untail_end func s f text status output (inl (is, e)) = subst IsPlain (sym e.0) tt
+plain_untail_end func s f text status output (inr refused) = plain_refusal func (untails.OutgrowsBy s f) status output refused
+
+plain_untail : (schema func text : List ℕ) → IsPlainCourse (untails.untail_course schema func text)
+plain_untail schema func text = λ bytes. (plain_refusal schema (RefusesSchema bytes), λ s more. (plain_refusal func (untails.RefusesSelfCaller s.schema more), λ f. plain_untail_end func s.schema f.written text))
+
 -- ---- a text
 
 plain_format : (func : List ℕ) → IsPlainCourse (format_course func)
@@ -205,6 +216,7 @@ plain_command version text = plain_end Done version_text tt
 plain_command (compile wanted schema func) text = plain_compile wanted schema func text
 plain_command (batch schema func table) text = plain_batch schema func table text
 plain_command (check schema func query cert) text = plain_check schema func query cert
+plain_command (untail schema func) text = plain_untail schema func text
 plain_command (format func) text = plain_format func
 plain_command (demo number) text = plain_shown (bound_of number) text
 plain_command (over_tables what bound schema file dir args) text = plain_run what bound schema file dir args

@@ -1,5 +1,5 @@
 -- What fits is refused by no rule, and a file reads as one tree.
-use Rattle.std.proofs.Common.{◌≡◌, inl, inr, subst, ℕ, List}
+use Rattle.std.proofs.Common.{◌≡◌, ◌∙◌, inl, inr, subst, sym, ℕ, Bool, true, false, List, Option, Some, None}
 use Rattle.std.specs.Prelude.{IsSome}
 use Rattle.std.specs.List.{AllByRecursion}
 use Rattle.away_trees.specs.declared.queries.Query.{Query}
@@ -20,6 +20,10 @@ use Rattle.sql_text.specs.Refusals as texts
 use Rattle.sql_text.proofs.OneTree.{one_text}
 use Rattle.text_laws.proofs.Judging.{one_schema}
 use Rattle.text_laws.proofs.Reading.{cert_kept, function_kept, text_kept}
+use Rattle.tail_calls.specs.declared.refusals.SelfRefusal.{SelfRefusal}
+use Rattle.tail_calls.specs.declared.refusals.SelfRefusal.TheVariants as self
+use Rattle.tail_calls.specs.SelfCalls.{IsSelfCaller, RefusesSelf}
+use Rattle.away_top.specs.UntailCourse.{IsSelfCallerFile, IsSelfRule, RefusesSelfCaller}
 use Rattle.away_top.specs.declared.over_tables.program.Runnable.{Runnable}
 use Rattle.away_top.specs.declared.over_tables.program.Runnable.TheVariants as run
 use Rattle.away_top.specs.Certificates.{IsCert, IsCertRule, RefusesCert}
@@ -45,6 +49,19 @@ schema_unrefused s rule (inr (other, read, breaks)) =
 -- what reads as a function within the limits is refused by no rule of its reader
 pub read_unrefused : (bytes : List ℕ) (f : Function) → ReadsAsFunction bytes f → (rule : List ℕ) → ¬ (RefusesRead (functions.Refuses bytes) rule)
 read_unrefused bytes f read rule = read_kept (functions.Refuses bytes) rule (function_kept bytes read.may_be_read f read.reads read.within_limits)
+
+no_self_refusal : (schema : Schema) (f : Function) → IsSelfCaller schema f → (e : SelfRefusal) (rule : List ℕ) → RefusesSelf schema f e → IsSelfRule e rule → ⊥
+no_self_refusal schema f kept self.Place rule refuses is = absurd (let wrong : false ≡ true = sym kept.places ∙ refuses in cc)
+no_self_refusal schema f kept (self.Rule broken) rule refuses is =
+    absurd (let wrong : None ≡ Some refuses.1.finding = sym kept.unbroken ∙ refuses.1.finds in cc)
+no_self_refusal schema f kept self.NoMemory rule refuses is = is
+
+-- what reads as a function that may call itself is refused by no rule
+pub self_caller_unrefused : (schema : Schema) (bytes : List ℕ) → IsSelfCallerFile schema bytes → (rule : List ℕ) → ¬ (RefusesSelfCaller schema bytes rule)
+self_caller_unrefused schema bytes f rule (inl h) = read_unrefused bytes f.written f.reads_as rule h
+self_caller_unrefused schema bytes f rule (inr (other, read, (e, refuses, is))) =
+    let kept : IsSelfCaller schema other = subst (λ g. IsSelfCaller schema g) (one_function f.reads_as.reads read.reads) f.unrefused in
+    no_self_refusal schema other kept e rule refuses is
 
 pub function_kept_over : (schema : Schema) (bytes : List ℕ) → IsFunction schema bytes → (rule : List ℕ) → ¬ (RefusesFunction schema bytes rule)
 function_kept_over schema bytes f rule (inl h) = read_unrefused bytes f.written f.reads_as rule h
@@ -102,6 +119,9 @@ module _ {tables : List ℕ} (kept s : IsSchema tables) where
 
   pub same_function : (P : Schema → Function → Type 0) {bytes : List ℕ} (f : IsFunction kept.schema bytes) (g : IsFunction s.schema bytes) → P kept.schema f.written → P s.schema g.written
   same_function P f g h = subst (λ schema. P schema g.written) same_schema (subst (P kept.schema) (one_function f.reads_as.reads g.reads_as.reads) h)
+
+  pub same_self_caller : (P : Schema → Function → Type 0) {bytes : List ℕ} (f : IsSelfCallerFile kept.schema bytes) (g : IsSelfCallerFile s.schema bytes) → P kept.schema f.written → P s.schema g.written
+  same_self_caller P f g h = subst (λ schema. P schema g.written) same_schema (subst (P kept.schema) (one_function f.reads_as.reads g.reads_as.reads) h)
 
   -- what spells the arguments of the one program of a file spells them again
   pub spelled_again : (what : Runnable) (bytes : List ℕ) (args : List (List ℕ)) (p : IsProgram what kept.schema bytes) (q : IsProgram what s.schema bytes)

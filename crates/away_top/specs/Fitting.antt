@@ -12,12 +12,18 @@ use Rattle.away_top.specs.Refusals.{
   RefusesRowQuery,
   RefusesSchema,
 }
+use Rattle.away_top.specs.UntailCourse.{IsSelfCallerFile, RefusesSelfCaller}
 
 abbrev pub FitSchemasAreNotRefused : Type 0
 FitSchemasAreNotRefused = (bytes rule : List ℕ) → IsSchema bytes → ¬ (RefusesSchema bytes rule)
 
 abbrev pub FitFunctionsAreNotRefused : Type 0
 FitFunctionsAreNotRefused = (schema : Schema) (bytes rule : List ℕ) → IsFunction schema bytes → ¬ (RefusesFunction schema bytes rule)
+
+-- one that may call itself in whole RETURNs
+abbrev pub FitSelfCallersAreNotRefused : Type 0
+FitSelfCallersAreNotRefused = (schema : Schema) (bytes rule : List ℕ)
+    → IsSelfCallerFile schema bytes → ¬ (RefusesSelfCaller schema bytes rule)
 
 abbrev pub FitQueriesAreNotRefused : Type 0
 FitQueriesAreNotRefused = (schema : Schema) (bytes rule : List ℕ) → IsQuery schema bytes → ¬ (RefusesQuery schema bytes rule)

@@ -46,6 +46,10 @@ use Rattle.away_top.specs.Refusals.{IsFunction, IsQuery, IsSchema, ReadsAsFuncti
 use Rattle.away_top.specs.RunAnswers.{Held, IsAnswer, IsAnswered}
 use Rattle.away_top.specs.TableFiles.{table_file}
 use Rattle.away_top.specs.Translation.{IsTranslation}
+use Rattle.away_top.specs.UntailCourse.{IsSelfCallerFile, IsUntailedFor}
+use Rattle.tail_calls.specs.declared.refusals.Grown.{Grown}
+use Rattle.tail_calls.specs.declared.refusals.UntailRefusal.TheVariants.{Limit}
+use Rattle.tail_calls.specs.Untailed.{Refuses}
 
 -- ---- all words
 
@@ -157,6 +161,26 @@ abbrev pub Formatted : RoomySink → RoomySink → Status → List ℕ → Type 
 Formatted before after result function =
     (result ≡ NoMemory)
     ⊎ ((text : List ℕ) × IsFormatted function text
+    × (length text ≤ before.room → IsWritten before after result text))
+
+-- ---- untail
+
+-- The files of the schema and the function are held and within their limits. The function's may call
+-- itself, and what it becomes exceeds no limit. No read is to fail.
+pub record MayUntail (files : HeldFiles) (schema func tables function : List ℕ) : Type 0 where
+  pub holds_schema : held_at files.held schema ≡ Some tables
+  pub holds_function : held_at files.held func ≡ Some function
+  pub fit_schema : IsFitSchema tables
+  pub short : length function ≤ 1048576
+  pub is : IsSelfCallerFile fit_schema.is.schema function
+  pub small : (which : Grown) (found : ℕ) → Refuses fit_schema.is.schema is.written (Limit which found) → ⊥
+  pub no_failure : files.fails ≡ []
+
+-- Memory was wanting, or there is the text that the call writes, where the room holds it.
+abbrev pub Untailed : RoomySink → RoomySink → Status → List ℕ → List ℕ → Type 0
+Untailed before after result tables function =
+    (result ≡ NoMemory)
+    ⊎ ((text : List ℕ) × IsUntailedFor tables function text
     × (length text ≤ before.room → IsWritten before after result text))
 
 -- ---- demo

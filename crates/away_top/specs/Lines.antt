@@ -3,6 +3,8 @@ use Rattle.std.specs.Prelude.{ℕ, List, [], ◌∷◌, ◌++◌, codes}
 use Rattle.std.specs.Fmt.{decimal}
 use Rattle.away_lex.specs.declared.refusals.LimitKind.{LimitKind}
 use Rattle.away_lex.specs.declared.refusals.LimitKind.TheVariants.{Nesting, Nodes, Variables, Loops}
+use Rattle.tail_calls.specs.declared.refusals.Grown.{Grown}
+use Rattle.tail_calls.specs.declared.refusals.Grown.TheVariants as grown
 
 -- a text and LF
 abbrev pub line : List ℕ → List ℕ
@@ -30,6 +32,13 @@ limit_name Nodes = codes "nodes"
 limit_name Variables = codes "variables"
 limit_name Loops = codes "loops"
 
+abbrev pub growth_name : Grown → List ℕ
+growth_name grown.Nesting = codes "nesting"
+growth_name grown.Nodes = codes "nodes"
+growth_name grown.Variables = codes "variables"
+growth_name grown.Loops = codes "loops"
+growth_name grown.Bytes = codes "bytes"
+
 -- the rule of names, scopes or types of this number
 abbrev pub numbered_rule : ℕ → List ℕ
 numbered_rule rule = codes "X" ++ decimal rule
@@ -37,3 +46,7 @@ numbered_rule rule = codes "X" ++ decimal rule
 -- the rule of a limit, with what is counted and the count
 abbrev pub limit_rule : LimitKind → ℕ → List ℕ
 limit_rule which found = codes "X5 " ++ (limit_name which ++ (codes " " ++ decimal found))
+
+-- the rule of what a function exceeds that would be written, with what is counted and the count
+abbrev pub growth_rule : Grown → ℕ → List ℕ
+growth_rule which found = codes "E4 " ++ (growth_name which ++ (codes " " ++ decimal found))

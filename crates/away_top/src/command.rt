@@ -22,6 +22,10 @@ pub(crate) enum Command<'a> {
         func: &'a str,
         table: &'a str,
     },
+    Untail {
+        schema: &'a str,
+        func: &'a str,
+    },
     Check {
         schema: &'a str,
         func: &'a str,
@@ -76,6 +80,9 @@ impl<'a> Command<'a> {
         }
         if word == "batch" {
             return batch(rest);
+        }
+        if word == "untail" {
+            return untail(rest);
         }
         if word == "check" {
             return check(rest);
@@ -136,6 +143,18 @@ fn batch<'a>(rest: &'a [String]) -> Command<'a>
             schema: schema.as_str(),
             func: func.as_str(),
             table: table.as_str(),
+        },
+        _ => Command::NoForm,
+    }
+}
+
+fn untail<'a>(rest: &'a [String]) -> Command<'a>
+    ensures { as_command result ≡ form.with_two form.untail (map string_bytes rest.now) }
+{
+    match rest {
+        [schema, func] => Command::Untail {
+            schema: schema.as_str(),
+            func: func.as_str(),
         },
         _ => Command::NoForm,
     }

@@ -9,6 +9,8 @@ ghost use Rattle.away_types.specs.FunctionChecks.{function_note};
 ghost use Rattle.away_names.specs.Schemas.{schema_note};
 ghost use Rattle.away_top.specs.Files.{as_asked, as_callable, as_row_query, asked_of, callable_of, row_query_of as row_query_written};
 ghost use Rattle.away_top.specs.Files.{function_course, query_course, row_query_course, schema_course};
+ghost use Rattle.away_top.specs.UntailCourse.{BreaksSelfRule, IsSelfCallerFile, RefusesSelfCaller, self_caller_course};
+ghost use Rattle.tail_calls.specs.SelfCalls.{IsSelfCaller};
 ghost use Rattle.away_top.specs.Course.{RefusedBy};
 ghost use Rattle.away_top.specs.Refusals.{BreaksRule, HasFinding, IsFunction, IsKept, IsQuery, IsRowQuery, IsSchema};
 ghost use Rattle.away_top.specs.Refusals.{RefusesFunction, RefusesQuery, RefusesRowQuery, RefusesSchema};
@@ -29,6 +31,7 @@ use plsql_parse::read_function;
 use sql_text::{read_query, read_schema};
 use sqlite_items::Boxed;
 use std::alloc::{AllocError, Global};
+use tail_calls::{SelfRefusal, check_self};
 
 /// The most bytes of a file that is no function's.
 pub(crate) const MAX_FILE: u64 = 67_108_864;
@@ -57,6 +60,20 @@ pub fn function_of<F: Files>(
 {
     let bytes = bytes_of(alloc, name, MAX_FUNCTION, files)?;
     function_in(alloc, tables, name, &bytes)
+}
+
+/// The function that a file reads as, which may call itself, judged over the tables of the schema.
+pub fn self_caller_of<F: Files>(
+    alloc: Global,
+    tables: &CheckedSchema,
+    name: &str,
+    files: &mut F,
+) -> Result<Boxed<Function>, Halt>
+    ensures { Follows F.Files files.old (self_caller_course tables.now.schema name.now) files.new
+        (stretch_end (λ f. f) result) }
+{
+    let bytes = bytes_of(alloc, name, MAX_FUNCTION, files)?;
+    self_caller_in(alloc, tables, name, &bytes)
 }
 
 /// The query that a file reads as, judged over the tables of the schema.
@@ -140,6 +157,39 @@ fn checked_function(
             Err(Halt::Ended(refused_rule(alloc, name, finding.rule)?))
         }
         Err(FunctionRefusal::NoMemory) => Err(Halt::NoMemory),
+    }
+}
+
+fn self_caller_in(
+    alloc: Global,
+    tables: &CheckedSchema,
+    name: &str,
+    bytes: &[u8],
+) -> Result<Boxed<Function>, Halt>
+    ensures { IsJudged (RefusedBy name.now (RefusesSelfCaller tables.now.schema bytes.now))
+        (λ c. (f : IsSelfCallerFile tables.now.schema bytes.now) × (c ≡ f.written)) result }
+{
+    match read_function(alloc, bytes) {
+        Ok(function) => kept_self_caller(alloc, tables, name, function),
+        Err(error) => Err(Halt::Ended(refuse(alloc, name, error)?)),
+    }
+}
+
+fn kept_self_caller(
+    alloc: Global,
+    tables: &CheckedSchema,
+    name: &str,
+    function: Function,
+) -> Result<Boxed<Function>, Halt>
+    requires { KeepsLimits function }
+    ensures { IsJudged (RefusedBy name.now (BreaksSelfRule tables.now.schema function))
+        (λ f. (f ≡ function) × IsSelfCaller tables.now.schema function) result }
+{
+    match check_self(alloc, tables, &function) {
+        Ok(()) => Ok(Boxed::new(alloc, function)?),
+        Err(SelfRefusal::Place) => Err(Halt::Ended(refused(alloc, name, b"E5")?)),
+        Err(SelfRefusal::Rule(rule)) => Err(Halt::Ended(refused_rule(alloc, name, rule)?)),
+        Err(SelfRefusal::NoMemory) => Err(Halt::NoMemory),
     }
 }
 

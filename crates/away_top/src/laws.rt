@@ -19,8 +19,10 @@ ghost use Rattle.away_top.specs.InMemory.{
   MayCompile,
   MayFormat,
   MayRun,
+  MayUntail,
   Shown,
   Translated,
+  Untailed,
   Unread,
 };
 ghost use Rattle.away_top.specs.MemoryFiles.{held_at};
@@ -64,6 +66,10 @@ pub fn away_in_memory(
         → map string_bytes words.now ≡ codes "format" ∷ func ∷ []
         → MayFormat files.old func function → out.old.fails ≡ []
         → Formatted out.old out.new result function }
+    ensures untail { (schema func tables function : List ℕ)
+        → map string_bytes words.now ≡ codes "untail" ∷ schema ∷ func ∷ []
+        → MayUntail files.old schema func tables function → out.old.fails ≡ []
+        → Untailed out.old out.new result tables function }
     ensures demo { (word : List ℕ) → map string_bytes words.now ≡ codes "demo" ∷ word ∷ []
         → IsSome (bound_of word)
         → out.old.fails ≡ [] → Shown out.old out.new result word }

@@ -40,6 +40,13 @@ struct Verdict {
     note: Report,
 }
 
+/// A body whose names are resolved, and the slots of its function.
+#[derive(Drop)]
+pub struct NamedBody {
+    pub body: Boxed<Stmt>,
+    pub slots: Items<Slot>,
+}
+
 /// What a function's statements see.
 #[tactic(auto, unfolding(away_names::specs::Places::tables))]
 fn entry<'a>(known: &'a IndexMap<String, Listed>, variables: &'a [Variable]) -> Spot<'a>
@@ -178,6 +185,19 @@ fn verdict_of(alloc: Global, s: &Schema, f: &Function) -> Result<Verdict, NoMemo
         body,
         slots,
         note: followed(head, both(note, types))?,
+    })
+}
+
+/// What the names of a function's body stand for, and the function's slots, whatever rules it breaks.
+pub fn named_body(alloc: Global, s: &Schema, f: &Function) -> Result<NamedBody, NoMemory>
+    ensures body { IfOk result (λ x. x.body ≡ (spec.body_of s.now f.now).it) }
+    ensures slots { IfOk result (λ x. x.slots ≡ spec.slots_of s.now f.now) }
+{
+    let Resolved { it, note: _, slots } = body_of(alloc, s, f)?;
+    let body = Boxed::new(alloc, it)?;
+    Ok(NamedBody {
+        body,
+        slots: in_order(slots)?,
     })
 }
 

@@ -30,7 +30,7 @@ use Rattle.sql_meaning.specs.Meaning.{meaning}
 use Rattle.sql_meaning.specs.Placed.{Deep, replacing, replaced, select_in_place, query_in_place}
 use Rattle.sql_meaning.specs.Reads.{Read, Reads, SourceReads, reading, allows, of_list, of_option, select_reads}
 use Rattle.sql_meaning.specs.Selects.{place_of, source_meaning, select_meaning, query_meaning}
-use Rattle.sql_meaning.proofs.Related.{Alike, AlikeOption, AlikeLink, AlikeArm, Relation, IsKept, expr_related}
+use Rattle.sql_meaning.proofs.Related.{Alike, AlikeOption, AlikeLink, AlikeArm, Relation, IsKept, expr_related, select_related}
 use Rattle.sql_meaning.proofs.Lists.{Zipped, ZippedOption}
 use Rattle.sql_meaning.proofs.Uses.{and_first, left, right, own_column, zipped, zipped_option, under, under_option}
 use Rattle.sql_meaning.proofs.Same as same
@@ -245,3 +245,6 @@ module _ (one two : same.Surroundings) (slots : ℕ → Bool) (params places : �
 
     pub replaced_same : (e : Expr) → list_all ok (expr_of reading e 0) ≡ true → Same 0 (expr_of meaning e) (expr_of meaning (replaced leaf literal 0 e))
     replaced_same e h = expr_related meaning reading (replacing leaf literal) relation steps e 0 h
+
+    pub replaced_select_same : (s : Select) → list_all ok (select_of reading s 0) ≡ true → Gives 0 (select_of meaning s) (select_of meaning (select_of (replacing leaf literal) s 0))
+    replaced_select_same s h = select_related meaning reading (replacing leaf literal) relation steps s 0 h

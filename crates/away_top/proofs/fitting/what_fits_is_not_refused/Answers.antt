@@ -1,4 +1,4 @@
-use Rattle.away_top.proofs.Unrefused.{cert_unrefused, function_kept_over, query_kept_over, row_query_kept_over, schema_unrefused}
+use Rattle.away_top.proofs.Unrefused.{cert_unrefused, function_kept_over, query_kept_over, row_query_kept_over, schema_unrefused, self_caller_unrefused}
 use Rattle.away_top.proofs.fitting.what_fits_is_not_refused.Goals as goal
 
 pub returns-clause-schema : goal.returns-clause-schema
@@ -6,6 +6,9 @@ returns-clause-schema c = λ bytes rule s. schema_unrefused s rule
 
 pub returns-clause-function : goal.returns-clause-function
 returns-clause-function c = λ schema bytes rule f. function_kept_over schema bytes f rule
+
+pub returns-clause-self_caller : goal.returns-clause-self_caller
+returns-clause-self_caller c = λ schema bytes rule f. self_caller_unrefused schema bytes f rule
 
 pub returns-clause-query : goal.returns-clause-query
 returns-clause-query c = λ schema bytes rule q. query_kept_over schema bytes q rule

@@ -7,6 +7,7 @@ use Rattle.away_top.proofs.EndsInMemory.{absent_sure, each_sure, in_room, unread
 use Rattle.away_top.proofs.FormatsInMemory as formats
 use Rattle.away_top.proofs.InMemory.{translated}
 use Rattle.away_top.proofs.RunsInMemory.{run_told}
+use Rattle.away_top.proofs.UntailsInMemory as untails
 use Rattle.away_top.proofs.laws.away_in_memory.Goals as goal
 
 pub returns-clause-every : goal.returns-clause-every
@@ -44,6 +45,11 @@ pub returns-clause-format : goal.returns-clause-format
 returns-clause-format c = λ func function is may none.
     let ended = returns-clause-every c may.no_failure none in
     formats.formatted c.args.files.now func function may c.args.out.now c.away.new.out (map string_bytes c.args.words.now) ended.0 c.away.result is ended.1
+
+pub returns-clause-untail : goal.returns-clause-untail
+returns-clause-untail c = λ schema func tables function is may none.
+    let ended = returns-clause-every c may.no_failure none in
+    untails.untailed c.args.files.now schema func tables function may c.args.out.now c.away.new.out (map string_bytes c.args.words.now) ended.0 c.away.result is ended.1
 
 pub returns-clause-demo : goal.returns-clause-demo
 returns-clause-demo c = λ word is spells none.

@@ -13,6 +13,10 @@ pub returns-in-Batch : goal.returns-in-Batch
 returns-in-Batch g c =
     subst (λ (x : Command). Runs g.F.Files c.args.files.now (course_of (as_command x)) c.batch.new.files (run_end c.batch.result)) (sym c.in-Batch.is) c.batch.ensures
 
+pub returns-in-Untail : goal.returns-in-Untail
+returns-in-Untail g c =
+    subst (λ (x : Command). Runs g.F.Files c.args.files.now (course_of (as_command x)) c.untail.new.files (run_end c.untail.result)) (sym c.in-Untail.is) c.untail.ensures
+
 pub returns-in-Format : goal.returns-in-Format
 returns-in-Format g c =
     subst (λ (x : Command). Runs g.F.Files c.args.files.now (course_of (as_command x)) c.format.new.files (run_end c.format.result)) (sym c.in-Format.is)

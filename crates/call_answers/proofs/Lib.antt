@@ -1,0 +1,11 @@
+pub mod StandingRules
+pub mod SlotFacts
+pub mod Pairs
+pub mod PairRules
+pub mod Chains
+pub mod BecomingRules
+pub mod CallRules
+pub mod LeafRules
+pub mod TurnLists
+pub mod WholeRules
+pub mod Untailings

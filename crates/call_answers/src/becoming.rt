@@ -1,0 +1,265 @@
+//! Whether a body has become another. The walk goes down the other body.
+
+ghost use Rattle.std.specs.Prelude.{IfOk, IfSome, Option};
+ghost use Rattle.away_trees.specs.declared.statements.Stmt.TheVariants as stmt;
+ghost use Rattle.away_names.specs.Lookups.{Name as Word};
+ghost use Rattle.call_answers.specs.Walking as spec;
+
+use crate::leaf_pairs::{in_head, same_decls, same_expr, same_kind};
+use crate::leaves::leaf_becomes;
+use crate::sights::{fresh, in_block, in_loop};
+use crate::walking::{InSight, Spot, Walk};
+use away_trees::{Arm, Decl, LoopKind, Stmt};
+use away_values::{Name, NoMemory};
+use sqlite_items::Items;
+use std::alloc::Global;
+
+/// The spot behind a statement that has become another.
+#[cycle(becoming)]
+pub(crate) fn stmt_becomes(
+    alloc: Global,
+    w: &Walk<'_>,
+    c: &InSight,
+    p: Spot,
+    s: &Stmt,
+    x: &Stmt,
+) -> Result<Option<Spot>, NoMemory>
+    ensures { IfOk result (λ r. IfSome r
+        (spec.StmtBecomes (spec.rules_of w.now) c.now p s.now x.now)) }
+{
+    match x {
+        Stmt::Block {
+            label,
+            decls,
+            body,
+            closing: _,
+        } => {
+            if leaf_becomes(w, c, s, x) {
+                Ok(Some(p))
+            } else {
+                block_becomes(alloc, w, c, p, s, label, decls.as_slice(), body.as_slice())
+            }
+        }
+        Stmt::Loop {
+            label,
+            kind,
+            body,
+            closing: _,
+        } => loop_becomes(alloc, w, c, p, s, label, kind, body.as_slice()),
+        Stmt::If(arms, other) => if_becomes(alloc, w, c, p, s, arms.as_slice(), other),
+        Stmt::Cases(arms, other) => cases_becomes(alloc, w, c, p, s, arms.as_slice(), other),
+        Stmt::Assign(_, _, _)
+        | Stmt::Return(_)
+        | Stmt::Exit(_, _)
+        | Stmt::Continue(_, _)
+        | Stmt::Raise(_)
+        | Stmt::Into { .. }
+        | Stmt::Nothing => Ok(if leaf_becomes(w, c, s, x) {
+            Some(p)
+        } else {
+            None
+        }),
+    }
+}
+
+#[cycle(becoming)]
+fn block_becomes(
+    alloc: Global,
+    w: &Walk<'_>,
+    c: &InSight,
+    p: Spot,
+    s: &Stmt,
+    label: &Option<Name>,
+    decls: &[Decl],
+    body: &[Stmt],
+) -> Result<Option<Spot>, NoMemory>
+    ensures { IfOk result (λ r. IfSome r (λ q. (closing : Option Word)
+        → spec.StmtBecomes (spec.rules_of w.now) c.now p s.now
+        (stmt.Block label.now decls.now body.now closing) q)) }
+{
+    let Stmt::Block {
+        label: own,
+        decls: declared,
+        body: list,
+        closing: _,
+    } = s
+    else {
+        return Ok(None);
+    };
+    if !fresh(w.label, c, own, label) {
+        return Ok(None);
+    }
+    let pairs = c.slots.as_slice();
+    let Some(d) = same_decls(alloc, w, pairs, p, declared.as_slice(), decls)? else {
+        return Ok(None);
+    };
+    let from = d.spot;
+    let inside = in_block(alloc, own, label, c, d.slots)?;
+    row_becomes(alloc, w, &inside, from, list.as_slice(), body)
+}
+
+#[cycle(becoming)]
+fn loop_becomes(
+    alloc: Global,
+    w: &Walk<'_>,
+    c: &InSight,
+    p: Spot,
+    s: &Stmt,
+    label: &Option<Name>,
+    kind: &LoopKind,
+    body: &[Stmt],
+) -> Result<Option<Spot>, NoMemory>
+    ensures { IfOk result (λ r. IfSome r (λ q. (closing : Option Word)
+        → spec.StmtBecomes (spec.rules_of w.now) c.now p s.now
+        (stmt.Loop label.now kind.now body.now closing) q)) }
+{
+    let Stmt::Loop {
+        label: own,
+        kind: head,
+        body: list,
+        closing: _,
+    } = s
+    else {
+        return Ok(None);
+    };
+    let pairs = c.slots.as_slice();
+    if !fresh(w.label, c, own, label) || !same_kind(pairs, head, kind) {
+        return Ok(None);
+    }
+    let Some(d) = in_head(alloc, pairs, p, head)? else {
+        return Ok(None);
+    };
+    let from = d.spot;
+    let inside = in_loop(alloc, own, label, c, d.slots)?;
+    row_becomes(alloc, w, &inside, from, list.as_slice(), body)
+}
+
+/// Statements one behind the other.
+#[cycle(becoming)]
+#[tactic(auto, using(crate::proofs::Chains::chain_step, crate::proofs::Chains::chain_end))]
+fn row_becomes(
+    alloc: Global,
+    w: &Walk<'_>,
+    c: &InSight,
+    p: Spot,
+    list: &[Stmt],
+    xs: &[Stmt],
+) -> Result<Option<Spot>, NoMemory>
+    ensures { IfOk result (λ r. IfSome r
+        (spec.RowBecomes (spec.rules_of w.now) c.now p list.now xs.now)) }
+{
+    if list.len() != xs.len() {
+        return Ok(None);
+    }
+    let mut q = p;
+    for i in 0..xs.len() {
+        let Some(behind) = stmt_becomes(alloc, w, c, q, &list[i], &xs[i])? else {
+            return Ok(None);
+        };
+        q = behind;
+    }
+    Ok(Some(q))
+}
+
+#[cycle(becoming)]
+fn arm_becomes(
+    alloc: Global,
+    w: &Walk<'_>,
+    c: &InSight,
+    p: Spot,
+    a: &Arm,
+    x: &Arm,
+) -> Result<Option<Spot>, NoMemory>
+    ensures { IfOk result (λ r. IfSome r
+        (spec.ArmBecomes (spec.rules_of w.now) c.now p a.now x.now)) }
+{
+    if same_expr(c.slots.as_slice(), &a.test, &x.test) {
+        row_becomes(alloc, w, c, p, a.body.as_slice(), x.body.as_slice())
+    } else {
+        Ok(None)
+    }
+}
+
+#[cycle(becoming)]
+#[tactic(auto, using(crate::proofs::Chains::chain_step, crate::proofs::Chains::chain_end))]
+fn arms_become(
+    alloc: Global,
+    w: &Walk<'_>,
+    c: &InSight,
+    p: Spot,
+    list: &[Arm],
+    xs: &[Arm],
+) -> Result<Option<Spot>, NoMemory>
+    ensures { IfOk result (λ r. IfSome r
+        (spec.ArmsBecome (spec.rules_of w.now) c.now p list.now xs.now)) }
+{
+    if list.len() != xs.len() {
+        return Ok(None);
+    }
+    let mut q = p;
+    for i in 0..xs.len() {
+        let Some(behind) = arm_becomes(alloc, w, c, q, &list[i], &xs[i])? else {
+            return Ok(None);
+        };
+        q = behind;
+    }
+    Ok(Some(q))
+}
+
+/// Arms, and what stands behind ELSE.
+#[cycle(becoming)]
+fn if_becomes(
+    alloc: Global,
+    w: &Walk<'_>,
+    c: &InSight,
+    p: Spot,
+    s: &Stmt,
+    arms: &[Arm],
+    other: &Option<Items<Stmt>>,
+) -> Result<Option<Spot>, NoMemory>
+    ensures { IfOk result (λ r. IfSome r (spec.StmtBecomes (spec.rules_of w.now) c.now p s.now
+        (stmt.If arms.now other.now))) }
+{
+    let Stmt::If(own, rest) = s else {
+        return Ok(None);
+    };
+    let Some(m) = arms_become(alloc, w, c, p, own.as_slice(), arms)? else {
+        return Ok(None);
+    };
+    match rest {
+        None => Ok(if other.is_none() { Some(m) } else { None }),
+        Some(list) => match other {
+            None => Ok(None),
+            Some(body) => row_becomes(alloc, w, c, m, list.as_slice(), body.as_slice()),
+        },
+    }
+}
+
+/// Arms, and what stands behind ELSE.
+#[cycle(becoming)]
+fn cases_becomes(
+    alloc: Global,
+    w: &Walk<'_>,
+    c: &InSight,
+    p: Spot,
+    s: &Stmt,
+    arms: &[Arm],
+    other: &Option<Items<Stmt>>,
+) -> Result<Option<Spot>, NoMemory>
+    ensures { IfOk result (λ r. IfSome r (spec.StmtBecomes (spec.rules_of w.now) c.now p s.now
+        (stmt.Cases arms.now other.now))) }
+{
+    let Stmt::Cases(own, rest) = s else {
+        return Ok(None);
+    };
+    let Some(m) = arms_become(alloc, w, c, p, own.as_slice(), arms)? else {
+        return Ok(None);
+    };
+    match rest {
+        None => Ok(if other.is_none() { Some(m) } else { None }),
+        Some(list) => match other {
+            None => Ok(None),
+            Some(body) => row_becomes(alloc, w, c, m, list.as_slice(), body.as_slice()),
+        },
+    }
+}

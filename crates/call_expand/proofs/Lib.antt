@@ -1,0 +1,6 @@
+pub mod MovingRules
+pub mod JudgingRules
+pub mod JudgedCounts
+pub mod StrictRules
+pub mod UntailingRules
+pub mod PlaceRules

@@ -1,0 +1,11 @@
+pub mod Moving
+pub mod Expanding
+pub mod Untailing
+pub mod Parts
+pub mod Placing
+pub mod Judging
+pub mod Judges
+pub mod CallPlaces
+pub mod Leaves
+pub mod Plans
+pub mod Worked

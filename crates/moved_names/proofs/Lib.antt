@@ -1,0 +1,3 @@
+pub mod RenamingRules
+pub mod FindingRules
+pub mod WordRules

@@ -1,0 +1,2 @@
+pub mod MovedRules
+pub mod Lists

@@ -1,0 +1,2 @@
+pub mod SelfCalls
+pub mod Untailed

@@ -1,0 +1,10 @@
+//! Functions whose calls of themselves become turns of a loop: why they are refused, and the text of what they become.
+#![tactic(auto)]
+
+mod refusals;
+mod self_caller;
+mod written;
+
+pub use refusals::{Grown, SelfRefusal, UntailRefusal};
+pub use self_caller::check_self;
+pub use written::{Untailed, untail};

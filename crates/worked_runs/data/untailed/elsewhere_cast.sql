@@ -1,0 +1,3 @@
+CREATE FUNCTION f(a bigint, acc bigint) RETURNS bigint LANGUAGE plpgsql AS $$
+BEGIN RETURN f(a, acc)::bigint; END;
+$$;

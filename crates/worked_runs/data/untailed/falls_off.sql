@@ -1,0 +1,5 @@
+CREATE FUNCTION f(a bigint, acc bigint) RETURNS bigint LANGUAGE plpgsql AS $$
+BEGIN
+  IF a > 0 THEN RETURN f(a - 1, acc); END IF;
+END;
+$$;

@@ -1,0 +1,3 @@
+CREATE FUNCTION f(a bigint, b bigint) RETURNS bigint LANGUAGE plpgsql AS $$
+BEGIN RETURN f(1 / 0, 9223372036854775807 + 1); END;
+$$;

@@ -1,0 +1,6 @@
+CREATE FUNCTION f(a bigint, acc bigint) RETURNS bigint LANGUAGE plpgsql STRICT AS $$
+BEGIN
+  IF a = 0 THEN RETURN acc; END IF;
+  RETURN f(a - 1, NULL);
+END;
+$$;

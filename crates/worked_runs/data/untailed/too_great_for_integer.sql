@@ -1,0 +1,3 @@
+CREATE FUNCTION f(a integer) RETURNS bigint LANGUAGE plpgsql AS $$
+BEGIN RETURN f(3000000000); END;
+$$;
