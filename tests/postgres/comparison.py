@@ -21,6 +21,7 @@ class Comparison:
         self.connection = server.connect()
         self.seconds, self.with_demo = options.seconds, options.demo
         self.away = away
+        self.writes = ("unroll", str(options.unroll)) if options.unroll else ("compile",)
         self.compared = self.known = self.unmarked = self.unrun = 0
         print(f"PostgreSQL {self.connection.run('SHOW server_version')[0][0]}, {away.line('--version')}")
 
@@ -29,7 +30,7 @@ class Comparison:
         print(f"\n{case.name}")
         with tempfile.TemporaryDirectory(prefix="away-case-") as folder:
             files = write_case(case, pathlib.Path(folder))
-            compiled = self.away.call("compile", files.schema, files.function)
+            compiled = self.away.call(*self.writes, files.schema, files.function)
             if compiled.returncode != 0:
                 self.unrun += 1
                 print(f"  not compiled: {compiled.stdout.strip()}")

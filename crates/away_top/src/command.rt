@@ -22,6 +22,11 @@ pub(crate) enum Command<'a> {
         func: &'a str,
         table: &'a str,
     },
+    Unroll {
+        turns: &'a str,
+        schema: &'a str,
+        func: &'a str,
+    },
     Check {
         schema: &'a str,
         func: &'a str,
@@ -74,6 +79,9 @@ impl<'a> Command<'a> {
         if word == "batch" {
             return batch(rest);
         }
+        if word == "unroll" {
+            return unroll(rest);
+        }
         if word == "check" {
             return check(rest);
         }
@@ -123,6 +131,19 @@ fn batch<'a>(rest: &'a [String]) -> Command<'a>
             schema: schema.as_str(),
             func: func.as_str(),
             table: table.as_str(),
+        },
+        _ => Command::NoForm,
+    }
+}
+
+fn unroll<'a>(rest: &'a [String]) -> Command<'a>
+    ensures { as_command result ≡ form.with_three form.unroll (map string_bytes rest.now) }
+{
+    match rest {
+        [turns, schema, func] => Command::Unroll {
+            turns: turns.as_str(),
+            schema: schema.as_str(),
+            func: func.as_str(),
         },
         _ => Command::NoForm,
     }

@@ -1,0 +1,4 @@
+pub mod Choosing
+pub mod Sameness
+pub mod Moving
+pub mod Unfolding
