@@ -4,7 +4,7 @@ use Rattle.std.specs.declared.option.Option.{Option}
 use Rattle.away_trees.specs.declared.schemas.Schema.{Schema}
 use Rattle.away_trees.specs.declared.statements.Function.{Function}
 use Rattle.tail_calls.specs.declared.refusals.Grown.{Grown}
-use Rattle.tail_calls.specs.declared.refusals.UntailRefusal.TheVariants.{Limit}
+use Rattle.tail_calls.specs.declared.refusals.WriteRefusal.TheVariants.{Limit}
 use Rattle.tail_calls.specs.Untailed.{Refuses}
 use Rattle.away_top.specs.declared.status.Status.{Status}
 use Rattle.away_top.specs.declared.status.Status.TheVariants.{Done}

@@ -11,12 +11,14 @@ ghost use Rattle.away_top.specs.InMemory.{
   Batched,
   BeginsWith,
   Ended,
+  Expanded,
   Formatted,
   HoldsCertified,
   Judged,
   MayBatch,
   MayCheck,
   MayCompile,
+  MayExpand,
   MayFormat,
   MayRun,
   MayUntail,
@@ -70,6 +72,10 @@ pub fn away_in_memory(
         → map string_bytes words.now ≡ codes "untail" ∷ schema ∷ func ∷ []
         → MayUntail files.old schema func tables function → out.old.fails ≡ []
         → Untailed out.old out.new result tables function }
+    ensures expand { (schema main tables : List ℕ) (others functions : List (List ℕ))
+        → map string_bytes words.now ≡ codes "expand" ∷ schema ∷ main ∷ others
+        → MayExpand files.old schema main others tables functions → out.old.fails ≡ []
+        → Expanded out.old out.new result tables functions }
     ensures demo { (word : List ℕ) → map string_bytes words.now ≡ codes "demo" ∷ word ∷ []
         → IsSome (bound_of word)
         → out.old.fails ≡ [] → Shown out.old out.new result word }

@@ -1,0 +1,1 @@
+CREATE TABLE t (k bigint, v text);
