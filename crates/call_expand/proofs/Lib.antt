@@ -3,4 +3,6 @@ pub mod JudgingRules
 pub mod JudgedCounts
 pub mod StrictRules
 pub mod UntailingRules
+pub mod ExpandingRules
+pub mod WeighingRules
 pub mod PlaceRules

@@ -8,4 +8,6 @@ pub mod Judges
 pub mod CallPlaces
 pub mod Leaves
 pub mod Plans
+pub mod Sizes
+pub mod Weighing
 pub mod Worked

@@ -10,7 +10,6 @@ use Rattle.std.specs.Prelude.{
   true,
   false,
   List,
-  [],
   length,
   sum,
   Option,
@@ -27,14 +26,7 @@ use Rattle.away_trees.specs.StatementAlgebra.{StatementAlgebra, stmt_of}
 use Rattle.call_meaning.specs.Calls.{Called}
 use Rattle.call_expand.specs.Expanding.{call_place, function_at, names_of}
 use Rattle.call_expand.specs.Untailing.{self_names}
-
-pub record Weights : Type 0 where
-  pub statement : ℕ
-  pub declaration : ℕ
-  pub arm : ℕ
-  pub target : ℕ
-  -- of a FOR loop, beside that of its statement
-  pub counter : ℕ
+use Rattle.call_expand.specs.declared.sizes.Weights.{Weights}
 
 abbrev pub of_nodes : Weights
 of_nodes = record { statement = 1; declaration = 1; arm = 1; target = 1; counter = 0 }

@@ -1,0 +1,5 @@
+use Rattle.call_expand.proofs.WeighingRules.{place_inside}
+use Rattle.call_expand.proofs.sizes.with_place.Goals as goal
+
+pub with_call-requires : goal.with_call-requires
+with_call-requires c = (c.requires.known, place_inside c.args.g.fs.now c.args.e.now c.call_place.result c.in-Some.c c.call_place.ensures c.in-Some.is)

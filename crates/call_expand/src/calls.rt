@@ -1,0 +1,260 @@
+//! Assignments and RETURNs where calls are expanded, and the block that a call becomes around the body of the called function.
+
+ghost use Rattle.std.specs.Prelude.{◌≡◌, IfOk, IfSome};
+ghost use Rattle.call_expand.specs.CallPlaces.{called};
+ghost use Rattle.call_expand.specs.Expanding as expanding;
+ghost use Rattle.call_expand.specs.Plans as spec;
+
+use crate::made::{Back, Made, Seen};
+use crate::places::Place;
+use crate::seeing::next;
+use crate::strict::{one, or_falls_off, plain_decl, strict_test, variable};
+use away_names::scope::Variable;
+use away_trees::{Decl, Expr, Function, Stmt};
+use away_values::{Name, NoMemory, Ty};
+use moved_names::renaming::renamed_expr;
+use moved_names::sight::{Sight, moved, name_at};
+use sqlite_items::Items;
+use std::alloc::Global;
+
+/// The function with a number.
+pub(crate) fn function_at(fs: &[Function], i: usize) -> Option<&Function>
+    ensures { IfSome result (λ g. g.now ≡ expanding.function_at fs.now i) }
+{
+    if i < fs.len() { Some(&fs[i]) } else { None }
+}
+
+/// An assignment of what calls nothing.
+pub(crate) fn plain_assignment(
+    alloc: Global,
+    names: &[Name],
+    name: &Name,
+    e: &Expr,
+    seen: &Seen,
+    k: usize,
+) -> Result<Made<Stmt>, NoMemory>
+    ensures { IfOk result (λ x. x ≡ spec.plain_assignment names.now name.now e.now seen.now k) }
+{
+    let sight = Sight {
+        names,
+        seen: seen.variables.as_slice(),
+    };
+    let target = moved(alloc, name, &sight)?;
+    Ok(Made {
+        it: Stmt::Assign(target, None, renamed_expr(alloc, e, &sight)?),
+        next: k,
+    })
+}
+
+/// How a body is left that is left so, with a value.
+fn returned_by(alloc: Global, names: &[Name], back: Back, e: Expr) -> Result<Stmt, NoMemory>
+    ensures { IfOk result (λ s. s ≡ expanding.returned_by names.now back e) }
+{
+    match back {
+        Back::Whole => Ok(Stmt::Return(e)),
+        Back::Into(r, l) => {
+            let mut body = one(alloc, Stmt::Assign(name_at(alloc, names, r)?, None, e))?;
+            body.push(Stmt::Exit(Some(name_at(alloc, names, l)?), None))?;
+            Ok(Stmt::Block {
+                label: None,
+                decls: Items::new(alloc),
+                body,
+                closing: None,
+            })
+        }
+    }
+}
+
+/// A RETURN of what calls nothing, in a body that is left so.
+pub(crate) fn plain_return(
+    alloc: Global,
+    names: &[Name],
+    back: Back,
+    e: &Expr,
+    seen: &Seen,
+    k: usize,
+) -> Result<Made<Stmt>, NoMemory>
+    ensures { IfOk result (λ x. x ≡ spec.plain_return names.now back e.now seen.now k) }
+{
+    let sight = Sight {
+        names,
+        seen: seen.variables.as_slice(),
+    };
+    let value = renamed_expr(alloc, e, &sight)?;
+    Ok(Made {
+        it: returned_by(alloc, names, back, value)?,
+        next: k,
+    })
+}
+
+/// The parameters of a called function, with its arguments as defaults.
+fn arguments(
+    alloc: Global,
+    names: &[Name],
+    seen: &[Variable],
+    k: usize,
+    params: &[(Name, Ty)],
+    args: &[Expr],
+) -> Result<Items<Decl>, NoMemory>
+    ensures { IfOk result (λ xs. xs
+        ≡ expanding.arguments names.now seen.now k params.now args.now) }
+{
+    let sight = Sight { names, seen };
+    let mut all = Items::new(alloc);
+    let mut rest = args;
+    let mut at = k;
+    for p in params {
+        let [a, more @ ..] = rest else {
+            return Ok(all);
+        };
+        let default = Some(renamed_expr(alloc, a, &sight)?);
+        all.push(plain_decl(alloc, names, at, p.1, default)?)?;
+        at = next(at)?;
+        rest = more;
+    }
+    Ok(all)
+}
+
+/// The block of a called function, whose label has the name at a place, and whose parameters have those behind it.
+fn called_block(
+    alloc: Global,
+    names: &[Name],
+    g: &Function,
+    params: Items<Decl>,
+    l: usize,
+    body: Stmt,
+) -> Result<Stmt, NoMemory>
+    ensures { IfOk result (λ x. x ≡ spec.called_block names.now g.now params l body) }
+{
+    let behind = or_falls_off(alloc, body)?;
+    let end = Stmt::Exit(Some(name_at(alloc, names, l)?), None);
+    let mut inside = strict_test(alloc, names, g.strict, g.params.len(), next(l)?, end)?;
+    inside.append(behind)?;
+    Ok(Stmt::Block {
+        label: Some(name_at(alloc, names, l)?),
+        decls: params,
+        body: inside,
+        closing: None,
+    })
+}
+
+/// The block of the function that a call calls, around its body.
+fn callee_block(
+    alloc: Global,
+    names: &[Name],
+    fs: &[Function],
+    c: Place<'_>,
+    seen: &Seen,
+    k: usize,
+    body: Made<Stmt>,
+) -> Result<Made<Stmt>, NoMemory>
+    ensures { IfOk result (λ x. x
+        ≡ spec.callee_block names.now fs.now (called c.entry) seen.now k body) }
+{
+    let Some(g) = function_at(fs, c.part) else {
+        return Err(NoMemory);
+    };
+    let l = next(k)?;
+    let variables = seen.variables.as_slice();
+    let params = arguments(
+        alloc,
+        names,
+        variables,
+        next(l)?,
+        g.params.as_slice(),
+        c.args,
+    )?;
+    let behind = body.next;
+    Ok(Made {
+        it: called_block(alloc, names, g, params, l, body.it)?,
+        next: behind,
+    })
+}
+
+/// The block that a call becomes: it declares the result, and goes on with it behind the called function's block.
+fn with_result(
+    alloc: Global,
+    names: &[Name],
+    ty: Ty,
+    k: usize,
+    callee: Made<Stmt>,
+    tail: Stmt,
+) -> Result<Made<Stmt>, NoMemory>
+    ensures { IfOk result (λ x. x ≡ spec.with_result names.now ty k callee tail) }
+{
+    let behind = callee.next;
+    let mut body = one(alloc, callee.it)?;
+    body.push(tail)?;
+    Ok(Made {
+        it: Stmt::Block {
+            label: None,
+            decls: one(alloc, plain_decl(alloc, names, k, ty, None)?)?,
+            body,
+            closing: None,
+        },
+        next: behind,
+    })
+}
+
+/// What a call becomes, with what goes on with its value, around the body of the called function.
+fn call_block(
+    alloc: Global,
+    names: &[Name],
+    fs: &[Function],
+    c: Place<'_>,
+    seen: &Seen,
+    k: usize,
+    body: Made<Stmt>,
+    tail: Stmt,
+) -> Result<Made<Stmt>, NoMemory>
+    ensures { IfOk result (λ x. x
+        ≡ spec.call_block names.now fs.now (called c.entry) seen.now k body tail) }
+{
+    let Some(g) = function_at(fs, c.part) else {
+        return Err(NoMemory);
+    };
+    let callee = callee_block(alloc, names, fs, c, seen, k, body)?;
+    with_result(alloc, names, g.result, k, callee, tail)
+}
+
+/// An assignment of a call, around the body of the called function.
+pub(crate) fn call_assigned(
+    alloc: Global,
+    names: &[Name],
+    fs: &[Function],
+    c: Place<'_>,
+    name: &Name,
+    seen: &Seen,
+    k: usize,
+    body: Made<Stmt>,
+) -> Result<Made<Stmt>, NoMemory>
+    ensures { IfOk result (λ x. x
+        ≡ spec.call_assigned names.now fs.now (called c.entry) name.now seen.now k body) }
+{
+    let sight = Sight {
+        names,
+        seen: seen.variables.as_slice(),
+    };
+    let target = moved(alloc, name, &sight)?;
+    let tail = Stmt::Assign(target, None, variable(alloc, names, k)?);
+    call_block(alloc, names, fs, c, seen, k, body, tail)
+}
+
+/// A RETURN of a call, in a body that is left so, around the body of the called function.
+pub(crate) fn call_returned(
+    alloc: Global,
+    names: &[Name],
+    fs: &[Function],
+    c: Place<'_>,
+    back: Back,
+    seen: &Seen,
+    k: usize,
+    body: Made<Stmt>,
+) -> Result<Made<Stmt>, NoMemory>
+    ensures { IfOk result (λ x. x
+        ≡ spec.call_returned names.now fs.now (called c.entry) back seen.now k body) }
+{
+    let value = variable(alloc, names, k)?;
+    let tail = returned_by(alloc, names, back, value)?;
+    call_block(alloc, names, fs, c, seen, k, body, tail)
+}
