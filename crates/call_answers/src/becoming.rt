@@ -1,14 +1,18 @@
-//! Whether a body has become another. The walk goes down the other body.
+//! Whether a body has become another. The walk goes down the other body, and from a call on along the called function's.
 
 ghost use Rattle.std.specs.Prelude.{IfOk, IfSome, Option};
 ghost use Rattle.away_trees.specs.declared.statements.Stmt.TheVariants as stmt;
 ghost use Rattle.away_names.specs.Lookups.{Name as Word};
+ghost use Rattle.moved_slots.specs.Moved.{slots_by};
+ghost use Rattle.call_answers.specs.Calling as call;
 ghost use Rattle.call_answers.specs.Walking as spec;
 
+use crate::callees::{callee_in_sight, entered};
+use crate::calls::{ends_call, placed};
 use crate::leaf_pairs::{in_head, same_decls, same_expr, same_kind};
 use crate::leaves::leaf_becomes;
 use crate::sights::{fresh, in_block, in_loop};
-use crate::walking::{InSight, Spot, Walk};
+use crate::walking::{InSight, Placed, Spot, Walk};
 use away_trees::{Arm, Decl, LoopKind, Stmt};
 use away_values::{Name, NoMemory};
 use sqlite_items::Items;
@@ -32,13 +36,18 @@ pub(crate) fn stmt_becomes(
             label,
             decls,
             body,
-            closing: _,
+            closing,
         } => {
             if leaf_becomes(w, c, s, x) {
-                Ok(Some(p))
-            } else {
-                block_becomes(alloc, w, c, p, s, label, decls.as_slice(), body.as_slice())
+                return Ok(Some(p));
             }
+            let Some(g) = placed(w, s) else {
+                return block_becomes(alloc, w, c, p, s, label, decls.as_slice(), body.as_slice());
+            };
+            if label.is_some() || closing.is_some() {
+                return Ok(None);
+            }
+            call_becomes(alloc, w, c, p, &g, decls.as_slice(), body.as_slice())
         }
         Stmt::Loop {
             label,
@@ -86,7 +95,7 @@ fn block_becomes(
     else {
         return Ok(None);
     };
-    if !fresh(w.label, c, own, label) {
+    if !fresh(w, c, own, label) {
         return Ok(None);
     }
     let pairs = c.slots.as_slice();
@@ -123,7 +132,7 @@ fn loop_becomes(
         return Ok(None);
     };
     let pairs = c.slots.as_slice();
-    if !fresh(w.label, c, own, label) || !same_kind(pairs, head, kind) {
+    if !fresh(w, c, own, label) || !same_kind(pairs, head, kind) {
         return Ok(None);
     }
     let Some(d) = in_head(alloc, pairs, p, head)? else {
@@ -261,5 +270,75 @@ fn cases_becomes(
             None => Ok(None),
             Some(body) => row_becomes(alloc, w, c, m, list.as_slice(), body.as_slice()),
         },
+    }
+}
+
+/// The block that a call of a part has become.
+#[cycle(becoming)]
+fn call_becomes(
+    alloc: Global,
+    w: &Walk<'_>,
+    c: &InSight,
+    p: Spot,
+    g: &Placed<'_>,
+    decls: &[Decl],
+    xs: &[Stmt],
+) -> Result<Option<Spot>, NoMemory>
+    ensures { IfOk result (λ r. IfSome r
+        (call.CallStands w.now c.now p g.now decls.now xs.now)) }
+{
+    if xs.len() != 2 {
+        return Ok(None);
+    }
+    if !ends_call(w, c.slots.as_slice(), p.new, g, decls, &xs[1]) {
+        return Ok(None);
+    }
+    let Stmt::Block {
+        label,
+        decls: params,
+        body,
+        closing,
+    } = &xs[0]
+    else {
+        return Ok(None);
+    };
+    if closing.is_some() {
+        return Ok(None);
+    }
+    match label {
+        None => Ok(None),
+        Some(l) => callee_becomes(alloc, w, c, p, g, l, params.as_slice(), body.as_slice()),
+    }
+}
+
+/// The block with the parameters, in which the body of the called part stands.
+#[cycle(becoming)]
+fn callee_becomes(
+    alloc: Global,
+    w: &Walk<'_>,
+    c: &InSight,
+    p: Spot,
+    g: &Placed<'_>,
+    label: &Name,
+    params: &[Decl],
+    xs: &[Stmt],
+) -> Result<Option<Spot>, NoMemory>
+    ensures { IfOk result (λ r. IfSome r (call.CalleeStands w.now (slots_by c.now.slots) p g.now
+        label.now params.now xs.now)) }
+{
+    let Some(d) = entered(w, c, p.new, g, label, params, xs) else {
+        return Ok(None);
+    };
+    if d.place >= xs.len() {
+        return Ok(None);
+    }
+    let inside = callee_in_sight(alloc, d.params, d.from)?;
+    let v = d.walk;
+    match stmt_becomes(alloc, &v, &inside, d.spot, v.body, &xs[d.place])? {
+        None => Ok(None),
+        Some(q) => Ok(Some(Spot {
+            at: p.at,
+            new: q.new,
+        })),
     }
 }

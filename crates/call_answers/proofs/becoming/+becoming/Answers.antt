@@ -1,6 +1,9 @@
-use Rattle.std.proofs.Common.{refl, rules}
+use Rattle.std.proofs.Common.{arith, length, refl, rules, sym}
+use Rattle.std.proofs.lemmas.Option.{slice_get_read}
 use Rattle.call_answers.specs.Walking.{rules_of}
 use Rattle.call_answers.proofs.BecomingRules.{arm_rule, block_by, cases_rule, if_rule, loop_by, other_none, other_some, some_of, under}
+use Rattle.call_answers.proofs.CallBlockRules.{call_at, call_by}
+use Rattle.call_answers.proofs.PartRules.{callee_rule}
 use Rattle.call_answers.proofs.becoming.+becoming.Goals as goal
 
 pub arm_becomes-returns-then-same_expr : goal.arm_becomes-returns-then-same_expr
@@ -39,3 +42,21 @@ cases_becomes-returns-in-Some-other t c = under _ _ c.row_becomes.result (λ q h
     c.in-Cases.rest c.args.other.now c.args.s.now c.in-Cases.is c.as_slice.ensures (some_of _ _ _ c.in-Some.is c.in_ok-m.ensures)
     (other_some (rules_of c.args.w.now) c.args.c.now c.in-Some.m q c.in-Cases.rest c.args.other.now c.in-Some-rest.list c.as_slice-in-Some-other.result.now c.in-Some-other.body c.as_slice-in-Some-other-2.result.now
     c.in-Some-rest.is c.in-Some-other.is c.as_slice-in-Some-other.ensures c.as_slice-in-Some-other-2.ensures h)) c.row_becomes.ensures
+
+-- ---- the block of a call
+
+pub call_becomes-returns-in-Some : goal.call_becomes-returns-in-Some
+call_becomes-returns-in-Some t c = under _ _ c.callee_becomes.result (λ q h. call_by c.args.w.now c.args.c.now c.args.p c.args.g.now c.args.decls.now c.in-Block.params c.as_slice-2.result.now c.args.xs.now c.in-Block.body c.as_slice-3.result.now c.index-xs-0.result c.index-xs-1.result
+    c.in-Some.l.now c.in-Block.label c.in-Block.closing c.as_slice.result.now q c.if-xs.false
+    (slice_get_read c.args.xs.now 2 0 c.index-xs-0.result (sym c.if-xs.false) (omega arith) c.index-xs-0.is) (slice_get_read c.args.xs.now 2 1 c.index-xs-1.result (sym c.if-xs.false) (omega arith) c.index-xs-1.is)
+    c.in-Block.is c.in-Some.is c.if-closing.false c.as_slice-2.ensures c.as_slice-3.ensures c.as_slice.ensures (c.if-not-ends_call.ensures refl) h) c.callee_becomes.ensures
+
+pub callee_becomes-returns-in-Some : goal.callee_becomes-returns-in-Some
+callee_becomes-returns-in-Some t c = callee_rule c.args.w.now c.args.c.now c.in_ok-inside.inside c.args.p c.in-Some-2.q c.args.g.now c.args.label.now c.args.params.now c.args.xs.now c.index-xs-place.result c.in-Some.d
+    (some_of _ _ _ c.in-Some.is c.entered.ensures) c.in_ok-inside.ensures
+    (slice_get_read c.args.xs.now (length c.args.xs.now) c.in-Some.d.place c.index-xs-place.result refl (omega (arith, c.if-d-place.false)) c.index-xs-place.is)
+    (some_of _ _ _ c.in-Some-2.is c.in_ok-stmt_becomes.ensures)
+
+pub stmt_becomes-returns-in-Block : goal.stmt_becomes-returns-in-Block
+stmt_becomes-returns-in-Block t c = under _ _ c.call_becomes.result (λ q h. call_at c.args.w.now c.args.c.now c.args.p c.in-Some.g c.args.s.now c.args.x.now c.in-Block.label c.in-Block.closing c.in-Block.decls c.as_slice-3.result.now c.in-Block.body c.as_slice-4.result.now q
+    c.in-Block.is c.if-label.false c.if-closing.false c.as_slice-3.ensures c.as_slice-4.ensures (some_of _ _ _ c.in-Some.is c.placed.ensures) h) c.call_becomes.ensures
