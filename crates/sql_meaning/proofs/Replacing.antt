@@ -243,8 +243,11 @@ module _ (one two : same.Surroundings) (slots : ℕ → Bool) (params places : �
           query = λ x u z xs us zs h r. query x z xs us zs r;
         }
 
+    pub replaced_deep : (e : Expr) (d : ℕ) → list_all ok (expr_of reading e d) ≡ true → Same d (expr_of meaning e) (expr_of meaning (replaced leaf literal d e))
+    replaced_deep e d h = expr_related meaning reading (replacing leaf literal) relation steps e d h
+
     pub replaced_same : (e : Expr) → list_all ok (expr_of reading e 0) ≡ true → Same 0 (expr_of meaning e) (expr_of meaning (replaced leaf literal 0 e))
-    replaced_same e h = expr_related meaning reading (replacing leaf literal) relation steps e 0 h
+    replaced_same e h = replaced_deep e 0 h
 
     pub replaced_select_same : (s : Select) → list_all ok (select_of reading s 0) ≡ true → Gives 0 (select_of meaning s) (select_of meaning (select_of (replacing leaf literal) s 0))
     replaced_select_same s h = select_related meaning reading (replacing leaf literal) relation steps s 0 h

@@ -283,8 +283,6 @@ pub ruleset order_rules = (ordered_by_is)
 
 pub ruleset zip_rules = (next_item, none_left, zip_more, zip_none, zip_ends, second_more, second_end)
 
-pub ruleset from_rules = (gives_rules, item_is_table, item_is_lateral, item_is_plain)
-
 pub ruleset extend_rules = (gives_rules, next_item, none_left, after_none, joined_end, joined_more, extended_is, beside_is)
 
 pub ruleset product_rules = (gives_rules, next_item, none_left, product_none, product_more)

@@ -1,0 +1,3 @@
+pub mod UnfoldedRuns
+pub mod Chain
+pub mod WorkedTurns

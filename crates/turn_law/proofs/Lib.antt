@@ -1,0 +1,14 @@
+pub mod Levels
+pub mod Terms
+pub mod Settled
+pub mod Choices
+pub mod ReadSteps
+pub mod RowCells
+pub mod Waiting
+pub mod PlannedRows
+pub mod Plans
+pub mod States
+pub mod Turns
+pub mod Iterations
+pub mod Theorem
+pub mod Soon

@@ -1,0 +1,2 @@
+//! The query that runs several turns in an iteration: definitions alone.
+#![tactic(auto)]
