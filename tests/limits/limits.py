@@ -1,6 +1,6 @@
 """The limits of what is read, each at its number and one above, with the line that is answered."""
 
-from case import CERTIFY, COMPILE, FILE, FN, FUNCTION, NULL, SQL, TEXT, Case, function, one_row
+from case import CERTIFY, COMPILE, EXPAND, FILE, FN, FUNCTION, NULL, SQL, TEXT, Case, function, one_row
 
 DEEP = (8192, 4096)  # KiB of stack for queries of 256 pairs in one another
 AROUND = {
@@ -106,6 +106,31 @@ def lengths():
         yield Case(f"a certificate of {size} bytes", files, ["check", "s.sql", "f.sql", "q.sql", "c.json"], f"refused c.json {line}")
 
 
+def of_program(name, main, callees, line=None):
+    """A function that `expand` writes, or that exceeds a limit where its calls are expanded."""
+    files = {f"g{i}.sql": callee.replace("FUNCTION f", f"FUNCTION g{i}", 1) for i, callee in enumerate(callees)}
+    yield Case(f"{name}, expanded", {"f.sql": main, **files}, [*EXPAND, *files], line, 0)
+
+
+def expanded():
+    """What `expand` would write, at each limit on what is read of a function and above it."""
+    chain = [function(f"RETURN g{i}();") for i in range(1, 20)] + [function("RETURN 1;")]
+    for depth, line in ((2, None), (3, "refused f.sql E4 nesting 65")):
+        yield from of_program(f"20 calls in one another and in {depth} blocks", function("BEGIN " * depth + "RETURN g0();" + "END; " * depth), chain, line)
+    for count, line in ((62, None), (63, "refused f.sql E4 nodes 501")):
+        yield from of_program(f"{count} statements and 4 calls of 101", function("NULL; " * count + "x := g0(); " * 4, declared="DECLARE x bigint;"), [function("NULL; " * 100 + "RETURN 1;")], line)
+    for count, line in ((21, None), (22, "refused f.sql E4 variables 67")):
+        yield from of_program(f"{count} calls with two variables and a result", function("x := g0(x); " * count, "x bigint"), [function("RETURN v;", "a bigint", "DECLARE v bigint := a;")], line)
+    for count, line in ((32, None), (33, "refused f.sql E4 loops 66")):
+        yield from of_program(f"{count} calls with two FOR loops", function("RETURN g0(); " * count), [function("FOR i IN 1..1 LOOP NULL; END LOOP; " * 2 + "RETURN 1;")], line)
+    for length, line in ((524096, None), (524097, "refused f.sql E4 bytes 1048577"), (600000, "refused f.sql E4 bytes 1200383")):
+        main = function("x := g0(); RETURN g0();", declared="DECLARE x text;", result="text")
+        yield from of_program(f"a text of {length} bytes twice", main, [function(f"RETURN '{'x' * length}';", result="text")], line)
+    for depth, found in ((18, 11888888888888888861), (19, 2**64 - 1)):
+        tens = [function(f"RETURN g{i}(); " * 10) for i in range(1, depth)] + [function("RETURN 1;")]
+        yield from of_program(f"{depth} levels of ten calls each", function("RETURN g0(); " * 10), tens, f"refused f.sql E4 nodes {found}")
+
+
 def words():
     """Arguments as long as Linux takes them, which is less than a text may be: 131,071 bytes each, and together a quarter of the stack, at most 6 MiB."""
     each = [f"CAST(${i} AS text)" for i in range(1, 65)]
@@ -117,5 +142,5 @@ def words():
 
 
 def limits():
-    for part in (nesting, counts, lengths, words):
+    for part in (nesting, counts, lengths, expanded, words):
         yield from part()

@@ -20,7 +20,7 @@ use Rattle.away_top.specs.AnswerLines.{answer_end, value_line}
 use Rattle.away_top.specs.RowRecords.{records_text, rows_end}
 use Rattle.away_top.specs.Arguments.{bound_of}
 use Rattle.away_top.specs.BatchCourse.{EndsWith, batch_course, place_of}
-use Rattle.away_top.specs.Commands.{Command, batch, check, command_of, compile, course, course_of, demo, format, help, no_form, over_tables, untail, version}
+use Rattle.away_top.specs.Commands.{Command, batch, check, command_of, compile, course, course_of, demo, expand, format, help, no_form, over_tables, untail, version}
 use Rattle.cert_json.specs.Forms.{Cert}
 use Rattle.stage_check.specs.declared.verdict.Verdict.TheVariants.{Accepted, Fails}
 use Rattle.away_top.specs.Certificates.{RefusesCert, cert_course}
@@ -38,6 +38,7 @@ use Rattle.away_top.specs.Host.{Rose}
 use Rattle.plsql_parse.specs.Refusals as functions
 use Rattle.away_trees.specs.declared.statements.Function.{Function}
 use Rattle.away_top.specs.FormatCourse.{format_course}
+use Rattle.away_top.specs.ExpandCourse as expands
 use Rattle.away_top.specs.UntailCourse as untails
 use Rattle.away_top.specs.Refusals.{RefusesFunction, RefusesRead, RefusesQuery, RefusesRowQuery, RefusesSchema}
 use Rattle.away_top.specs.Runs.{ended, Follows}
@@ -197,6 +198,26 @@ plain_untail_end func s f text status output (inr refused) = plain_refusal func 
 plain_untail : (schema func text : List ℕ) → IsPlainCourse (untails.untail_course schema func text)
 plain_untail schema func text = λ bytes. (plain_refusal schema (RefusesSchema bytes), λ s more. (plain_refusal func (untails.RefusesSelfCaller s.schema more), λ f. plain_untail_end func s.schema f.written text))
 
+-- ---- calls of others
+
+plain_functions : (done : List Function) (left : List (List ℕ)) → IsPlainCourse (expands.functions_behind done left)
+plain_functions done [] = tt
+plain_functions done (name ∷ left) =
+    plain_then (expands.reading_course name) (λ f. expands.functions_behind (done ++ f ∷ []) left) (λ bytes. (plain_refusal name (RefusesRead (functions.Refuses bytes)), λ f. tt)) (λ f. plain_functions (done ++ f ∷ []) left)
+
+plain_expand_end : (main : List ℕ) (s : Schema) (fs : List Function) (text : List ℕ) → ArePlain (expands.EndsWith main s fs text)
+plain_expand_end main s fs text status output (inl (is, e)) = subst IsPlain (sym e.0) tt
+plain_expand_end main s fs text status output (inr refused) = plain_refusal main (expands.OutgrowsBy s fs) status output refused
+
+plain_program_files : (main : List ℕ) (others : List (List ℕ)) (text : List ℕ) (s : Schema) (fs : List Function) → IsPlainCourse (expands.with_functions main others text s fs)
+plain_program_files main others text s fs = (λ status output refused. subst IsPlain (sym refused.1.2.0) tt, λ p. plain_expand_end main s fs text)
+
+plain_expand : (schema main : List ℕ) (others : List (List ℕ)) (text : List ℕ) → IsPlainCourse (expands.expand_course schema main others text)
+plain_expand schema main others text =
+    plain_then (spelled (expands.few others)) (expands.with_others schema main text) (plain_spelled (expands.few others))
+    (λ few. plain_then (schema_course schema) (expands.with_schema main few text) (λ bytes. (plain_refusal schema (RefusesSchema bytes), λ s. tt))
+    (λ s. plain_then (expands.functions_course (main ∷ few)) (expands.with_functions main few text s) (plain_functions [] (main ∷ few)) (plain_program_files main few text s)))
+
 -- ---- a text
 
 plain_format : (func : List ℕ) → IsPlainCourse (format_course func)
@@ -217,6 +238,7 @@ plain_command (compile wanted schema func) text = plain_compile wanted schema fu
 plain_command (batch schema func table) text = plain_batch schema func table text
 plain_command (check schema func query cert) text = plain_check schema func query cert
 plain_command (untail schema func) text = plain_untail schema func text
+plain_command (expand schema main others) text = plain_expand schema main others text
 plain_command (format func) text = plain_format func
 plain_command (demo number) text = plain_shown (bound_of number) text
 plain_command (over_tables what bound schema file dir args) text = plain_run what bound schema file dir args

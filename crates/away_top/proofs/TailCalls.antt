@@ -1,7 +1,5 @@
 -- What a run of `untail` has written that is done.
 use Rattle.std.proofs.Common.{◌≡◌, ◌∙◌, inl, inr, ap, subst, sym, ℕ, List, Some}
-use Rattle.away_trees.specs.declared.schemas.Schema.{Schema}
-use Rattle.away_trees.specs.declared.statements.Function.{Function}
 use Rattle.away_top.specs.declared.host.Files.{Ghosts as Files}
 use Rattle.away_top.specs.declared.host.Sink.{Ghosts as Sink}
 use Rattle.away_top.specs.declared.status.Status.{Status}

@@ -1,10 +1,7 @@
 -- Over objects in memory that are to meet no failure, nothing but want of memory or of room is in the way of `untail`, and of what it reads.
-use Rattle.std.proofs.Common.{◌≡◌, inl, inr, ap, subst, ◌∙◌, ℕ, List, [], ◌∷◌, codes, Some}
-use Rattle.std.specs.declared.option.Option.{Option}
-use Rattle.away_trees.specs.declared.schemas.Schema.{Schema}
-use Rattle.away_trees.specs.declared.statements.Function.{Function}
+use Rattle.std.proofs.Common.{◌≡◌, inl, inr, ap, subst, ◌∙◌, ℕ, List, [], ◌∷◌, codes}
 use Rattle.tail_calls.specs.declared.refusals.Grown.{Grown}
-use Rattle.tail_calls.specs.declared.refusals.UntailRefusal.TheVariants.{Limit}
+use Rattle.tail_calls.specs.declared.refusals.WriteRefusal.TheVariants.{Limit}
 use Rattle.tail_calls.specs.Untailed.{Refuses}
 use Rattle.away_top.specs.declared.status.Status.{Status}
 use Rattle.away_top.specs.declared.status.Status.TheVariants.{Done}

@@ -4,7 +4,7 @@ use Rattle.away_top.specs.declared.compile.Wanted.{Wanted}
 use Rattle.away_top.specs.declared.compile.Wanted.TheVariants as wanted
 use Rattle.away_top.specs.declared.over_tables.program.Runnable.{Runnable}
 use Rattle.away_top.specs.declared.over_tables.program.Runnable.TheVariants as runnable
-use Rattle.away_top.specs.Commands.{batch, check, command_of, compile, demo, format, over_tables, untail}
+use Rattle.away_top.specs.Commands.{batch, check, command_of, compile, demo, expand, format, over_tables, untail}
 use Rattle.away_top.specs.CompileCourse.{word_of as compile_word}
 use Rattle.away_top.specs.Programs.{word_of}
 
@@ -24,6 +24,10 @@ asks_check schema func query cert = refl
 pub asks_untail : (schema func : List ℕ) → command_of (codes "untail" ∷ schema ∷ func ∷ []) ≡ untail schema func
 unfolding command_of
 asks_untail schema func = refl
+
+pub asks_expand : (schema main : List ℕ) (others : List (List ℕ)) → command_of (codes "expand" ∷ schema ∷ main ∷ others) ≡ expand schema main others
+unfolding command_of
+asks_expand schema main others = refl
 
 pub asks_format : (func : List ℕ) → command_of (codes "format" ∷ func ∷ []) ≡ format func
 unfolding command_of

@@ -1,7 +1,12 @@
 -- That what a file reads as and is judged to be excludes its refusals.
 use Rattle.std.specs.Prelude.{ℕ, List}
 use Rattle.away_trees.specs.declared.schemas.Schema.{Schema}
+use Rattle.away_trees.specs.declared.statements.Function.{Function}
+use Rattle.plsql_parse.specs.Refusals as functions
+use Rattle.program_check.specs.Refusing.{IsProgram}
 use Rattle.away_top.specs.Certificates.{IsCert, RefusesCert}
+use Rattle.away_top.specs.ExpandCourse.{BreaksProgram}
+use Rattle.away_top.specs.FormatCourse.{IsReadable}
 use Rattle.away_top.specs.Refusals.{
   IsFunction,
   IsQuery,
@@ -9,6 +14,7 @@ use Rattle.away_top.specs.Refusals.{
   IsSchema,
   RefusesFunction,
   RefusesQuery,
+  RefusesRead,
   RefusesRowQuery,
   RefusesSchema,
 }
@@ -24,6 +30,16 @@ FitFunctionsAreNotRefused = (schema : Schema) (bytes rule : List ℕ) → IsFunc
 abbrev pub FitSelfCallersAreNotRefused : Type 0
 FitSelfCallersAreNotRefused = (schema : Schema) (bytes rule : List ℕ)
     → IsSelfCallerFile schema bytes → ¬ (RefusesSelfCaller schema bytes rule)
+
+-- one that is read alone, by the rules of its reader
+abbrev pub FitReadablesAreNotRefused : Type 0
+FitReadablesAreNotRefused = (bytes rule : List ℕ)
+    → IsReadable bytes → ¬ (RefusesRead (functions.Refuses bytes) rule)
+
+-- those that call one another
+abbrev pub FitProgramsAreNotRefused : Type 0
+FitProgramsAreNotRefused = (schema : Schema) (program : List Function) (file : ℕ) (rule : List ℕ)
+    → IsProgram program schema → ¬ (BreaksProgram schema program file rule)
 
 abbrev pub FitQueriesAreNotRefused : Type 0
 FitQueriesAreNotRefused = (schema : Schema) (bytes rule : List ℕ) → IsQuery schema bytes → ¬ (RefusesQuery schema bytes rule)

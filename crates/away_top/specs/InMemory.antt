@@ -4,6 +4,7 @@ use Rattle.std.specs.Prelude.{
   ◌⊎◌,
   ℕ,
   ◌≤◌,
+  ◌<◌,
   List,
   [],
   ◌∷◌,
@@ -38,7 +39,10 @@ use Rattle.away_top.specs.CheckCourse.{IsVerdict, verdict_line, verdict_status}
 use Rattle.away_top.specs.Course.{Course, gives, ends, judges, reads, Outcome}
 use Rattle.away_top.specs.DemoCourse.{IsShown}
 use Rattle.away_top.specs.Files.{asked_of, callable_of}
+use Rattle.away_top.specs.ExpandCourse.{AllHeld, AllRead, IsExpandedFor}
 use Rattle.away_top.specs.FormatCourse.{IsFormatted}
+use Rattle.expanding.specs.Expanded.{Refuses as RefusesExpanded}
+use Rattle.program_check.specs.Refusing.{IsProgram as IsProgramOf}
 use Rattle.cert_json.specs.Lines.{IsLine}
 use Rattle.away_top.specs.Lines.{line, read_fault}
 use Rattle.away_top.specs.Programs.{IsProgram, arguments_of, most_bytes, program_of}
@@ -48,7 +52,7 @@ use Rattle.away_top.specs.TableFiles.{table_file}
 use Rattle.away_top.specs.Translation.{IsTranslation}
 use Rattle.away_top.specs.UntailCourse.{IsSelfCallerFile, IsUntailedFor}
 use Rattle.tail_calls.specs.declared.refusals.Grown.{Grown}
-use Rattle.tail_calls.specs.declared.refusals.UntailRefusal.TheVariants.{Limit}
+use Rattle.tail_calls.specs.declared.refusals.WriteRefusal.TheVariants.{Limit}
 use Rattle.tail_calls.specs.Untailed.{Refuses}
 
 -- ---- all words
@@ -181,6 +185,31 @@ abbrev pub Untailed : RoomySink → RoomySink → Status → List ℕ → List �
 Untailed before after result tables function =
     (result ≡ NoMemory)
     ⊎ ((text : List ℕ) × IsUntailedFor tables function text
+    × (length text ≤ before.room → IsWritten before after result text))
+
+-- ---- expand
+
+-- The files of the schema and the functions are held and within their limits. The functions are a
+-- program, and what its main one becomes exceeds no limit. No read is to fail.
+pub record MayExpand (files : HeldFiles) (schema main : List ℕ) (others : List (List ℕ))
+    (tables : List ℕ) (held : List (List ℕ)) : Type 0 where
+  pub holds_schema : held_at files.held schema ≡ Some tables
+  pub few : length others < 4294967295
+  pub holds_functions : AllHeld (held_at files.held) (main ∷ others) held
+  pub fit_schema : IsFitSchema tables
+  pub short : AllByRecursion (λ function. length function ≤ 1048576) held
+  pub functions : List Function
+  pub read : AllRead held functions
+  pub program : IsProgramOf functions fit_schema.is.schema
+  pub small : (which : Grown) (found : ℕ)
+      → RefusesExpanded fit_schema.is.schema functions (Limit which found) → ⊥
+  pub no_failure : files.fails ≡ []
+
+-- Memory was wanting, or there is the text that the call writes, where the room holds it.
+abbrev pub Expanded : RoomySink → RoomySink → Status → List ℕ → List (List ℕ) → Type 0
+Expanded before after result tables held =
+    (result ≡ NoMemory)
+    ⊎ ((text : List ℕ) × IsExpandedFor tables held text
     × (length text ≤ before.room → IsWritten before after result text))
 
 -- ---- demo

@@ -11,7 +11,7 @@ use Rattle.plsql_parse.specs.Refusals as functions
 use Rattle.tail_calls.specs.declared.refusals.Grown.{Grown}
 use Rattle.tail_calls.specs.declared.refusals.SelfRefusal.{SelfRefusal}
 use Rattle.tail_calls.specs.declared.refusals.SelfRefusal.TheVariants as refusal
-use Rattle.tail_calls.specs.declared.refusals.UntailRefusal.TheVariants.{Limit}
+use Rattle.tail_calls.specs.declared.refusals.WriteRefusal.TheVariants.{Limit}
 use Rattle.tail_calls.specs.SelfCalls.{IsSelfCaller, RefusesSelf}
 use Rattle.tail_calls.specs.Untailed.{IsUntailed, Refuses}
 use Rattle.away_top.specs.declared.status.Status.{Status}

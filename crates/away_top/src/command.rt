@@ -1,7 +1,14 @@
 //! What the words ask for.
 
 ghost use Rattle.std.specs.Prelude.{◌≡◌, map, string_bytes};
-ghost use Rattle.away_top.specs.Commands.{as_command, asked_by, command_of, forms, table_forms};
+ghost use Rattle.away_top.specs.Commands.{
+  as_command,
+  asked_by,
+  call_forms,
+  command_of,
+  forms,
+  table_forms,
+};
 ghost use Rattle.away_top.specs.Commands as form;
 
 use crate::compile::Wanted;
@@ -25,6 +32,11 @@ pub(crate) enum Command<'a> {
     Untail {
         schema: &'a str,
         func: &'a str,
+    },
+    Expand {
+        schema: &'a str,
+        main: &'a str,
+        others: &'a [String],
     },
     Check {
         schema: &'a str,
@@ -81,9 +93,6 @@ impl<'a> Command<'a> {
         if word == "batch" {
             return batch(rest);
         }
-        if word == "untail" {
-            return untail(rest);
-        }
         if word == "check" {
             return check(rest);
         }
@@ -92,6 +101,19 @@ impl<'a> Command<'a> {
         }
         if word == "demo" {
             return demo(rest);
+        }
+        Command::named_of_calls(word, rest)
+    }
+
+    /// The command of this name that writes a function with calls in another form.
+    fn named_of_calls(word: &str, rest: &'a [String]) -> Command<'a>
+        ensures { as_command result ≡ asked_by call_forms word.now (map string_bytes rest.now) }
+    {
+        if word == "untail" {
+            return untail(rest);
+        }
+        if word == "expand" {
+            return expand(rest);
         }
         Command::named_over_tables(word, rest)
     }
@@ -155,6 +177,19 @@ fn untail<'a>(rest: &'a [String]) -> Command<'a>
         [schema, func] => Command::Untail {
             schema: schema.as_str(),
             func: func.as_str(),
+        },
+        _ => Command::NoForm,
+    }
+}
+
+fn expand<'a>(rest: &'a [String]) -> Command<'a>
+    ensures { as_command result ≡ form.with_two_or_more form.expand (map string_bytes rest.now) }
+{
+    match rest {
+        [schema, main, others @ ..] => Command::Expand {
+            schema: schema.as_str(),
+            main: main.as_str(),
+            others,
         },
         _ => Command::NoForm,
     }

@@ -3,18 +3,22 @@
 ghost use Rattle.away_top.specs.Fitting.{
   FitCertificatesAreNotRefused,
   FitFunctionsAreNotRefused,
+  FitProgramsAreNotRefused,
   FitQueriesAreNotRefused,
+  FitReadablesAreNotRefused,
   FitRowQueriesAreNotRefused,
   FitSchemasAreNotRefused,
   FitSelfCallersAreNotRefused,
 };
 
 /// A file that reads as a schema, a query or a function that breaks no rule, or as a certificate, is refused by no rule. So a
-/// file that a rule refuses is none of these.
+/// file that a rule refuses is none of these. Functions that are a program are refused by none either.
 pub fn what_fits_is_not_refused()
     ensures schema { FitSchemasAreNotRefused }
     ensures function { FitFunctionsAreNotRefused }
     ensures self_caller { FitSelfCallersAreNotRefused }
+    ensures readable { FitReadablesAreNotRefused }
+    ensures program { FitProgramsAreNotRefused }
     ensures query { FitQueriesAreNotRefused }
     ensures rows { FitRowQueriesAreNotRefused }
     ensures certificate { FitCertificatesAreNotRefused }

@@ -11,12 +11,14 @@ ghost use Rattle.away_top.specs.InMemory.{
   Batched,
   BeginsWith,
   Ended,
+  Expanded,
   Formatted,
   HoldsCertified,
   Judged,
   MayBatch,
   MayCheck,
   MayCompile,
+  MayExpand,
   MayFormat,
   MayRun,
   MayUntail,
@@ -38,8 +40,9 @@ use std::alloc::Global;
 /// rule, that end is a translation.
 /// Where they are those of `batch`, and the table is one of the schema whose rows are calls of the function, it is a query for these calls.
 /// Where they are those of `check`, it is the verdict on its files, where they are those of `sql` or `fn`, the answer of the query or
-/// the function, where they are those of `rows`, the rows of the query, where they are those of `format`, the text of the function, and where
-/// they are `demo` and a number, a summary of that case.
+/// the function, where they are those of `rows`, the rows of the query, where they are those of `format`, the text of the function, where they
+/// are those of `untail`, the function with its calls of itself as turns of a loop, where they are those of `expand`, the main function with
+/// its calls of the others expanded, and where they are `demo` and a number, a summary of that case.
 pub fn away_in_memory(
     alloc: Global,
     words: &[String],
@@ -70,6 +73,10 @@ pub fn away_in_memory(
         → map string_bytes words.now ≡ codes "untail" ∷ schema ∷ func ∷ []
         → MayUntail files.old schema func tables function → out.old.fails ≡ []
         → Untailed out.old out.new result tables function }
+    ensures expand { (schema main tables : List ℕ) (others functions : List (List ℕ))
+        → map string_bytes words.now ≡ codes "expand" ∷ schema ∷ main ∷ others
+        → MayExpand files.old schema main others tables functions → out.old.fails ≡ []
+        → Expanded out.old out.new result tables functions }
     ensures demo { (word : List ℕ) → map string_bytes words.now ≡ codes "demo" ∷ word ∷ []
         → IsSome (bound_of word)
         → out.old.fails ≡ [] → Shown out.old out.new result word }

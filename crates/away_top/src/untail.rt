@@ -11,7 +11,7 @@ use crate::{Files, Status};
 use away_trees::Function;
 use away_types::CheckedSchema;
 use std::alloc::Global;
-use tail_calls::UntailRefusal;
+use tail_calls::WriteRefusal;
 
 /// Reads the two files, and writes the function with its self calls as turns of a loop.
 pub fn untail<F: Files>(
@@ -43,9 +43,9 @@ fn written(
             status: Status::Done,
             output: untailed.text.into_bytes(),
         }),
-        Err(UntailRefusal::Limit { which, found }) => {
+        Err(WriteRefusal::Limit { which, found }) => {
             Ok(refused_growth(alloc, func, which, found)?)
         }
-        Err(UntailRefusal::NoMemory) => Err(Halt::NoMemory),
+        Err(WriteRefusal::NoMemory) => Err(Halt::NoMemory),
     }
 }

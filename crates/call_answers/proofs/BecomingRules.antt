@@ -89,7 +89,7 @@ module _ (r : Rules) (c : InSight) where
     ),
   )
 
-  pub if_rule : (p m q : Spot) (arms list arms' : List Arm) (other other' : Option (List Stmt)) (s : Stmt) → s ≡ stmt.If arms other → list ≡ arms
+  if_rule : (p m q : Spot) (arms list arms' : List Arm) (other other' : Option (List Stmt)) (s : Stmt) → s ≡ stmt.If arms other → list ≡ arms
       → ArmsBecome r c p list arms' m → OtherBecomes r c m other other' q → StmtBecomes r c p s (stmt.If arms' other') q
   if_rule p m q arms list arms' other other' s e f h o =
       let g = subst (λ z. ArmsBecome r c p z arms' m) f h in
@@ -99,6 +99,12 @@ module _ (r : Rules) (c : InSight) where
         own = k.0 ∙ ap (λ n. p.at + n) (sym (if_counted arms other));
         new = k.1 ∙ ap (λ n. p.new + n) (sym (if_counted arms' other'));
       })
+
+  -- by equations
+  pub if_by : (p m q : Spot) (arms list arms' list' : List Arm) (other other' : Option (List Stmt)) (s x : Stmt) → s ≡ stmt.If arms other → x ≡ stmt.If arms' other' → list ≡ arms → list' ≡ arms'
+      → ArmsBecome r c p list list' m → OtherBecomes r c m other other' q → StmtBecomes r c p s x q
+  if_by p m q arms list arms' list' other other' s x e e' f f' h o =
+      subst (λ z. StmtBecomes r c p s z q) (sym e') (if_rule p m q arms list arms' other other' s e f (subst (λ z. ArmsBecome r c p list z m) f' h) o)
 
   cases_is : (p m q : Spot) (arms arms' : List Arm) (other other' : Option (List Stmt)) → ArmsBecome r c p arms arms' m → OtherBecomes r c m other other' q
       → becomes r (stmt.Cases arms other) (place c p) (stmt.Cases arms' other')
@@ -114,7 +120,7 @@ module _ (r : Rules) (c : InSight) where
     ),
   )
 
-  pub cases_rule : (p m q : Spot) (arms list arms' : List Arm) (other other' : Option (List Stmt)) (s : Stmt) → s ≡ stmt.Cases arms other → list ≡ arms
+  cases_rule : (p m q : Spot) (arms list arms' : List Arm) (other other' : Option (List Stmt)) (s : Stmt) → s ≡ stmt.Cases arms other → list ≡ arms
       → ArmsBecome r c p list arms' m → OtherBecomes r c m other other' q → StmtBecomes r c p s (stmt.Cases arms' other') q
   cases_rule p m q arms list arms' other other' s e f h o =
       let g = subst (λ z. ArmsBecome r c p z arms' m) f h in
@@ -124,6 +130,12 @@ module _ (r : Rules) (c : InSight) where
         own = k.0 ∙ ap (λ n. p.at + n) (sym (cases_counted arms other));
         new = k.1 ∙ ap (λ n. p.new + n) (sym (cases_counted arms' other'));
       })
+
+  -- by equations
+  pub cases_by : (p m q : Spot) (arms list arms' list' : List Arm) (other other' : Option (List Stmt)) (s x : Stmt) → s ≡ stmt.Cases arms other → x ≡ stmt.Cases arms' other' → list ≡ arms → list' ≡ arms'
+      → ArmsBecome r c p list list' m → OtherBecomes r c m other other' q → StmtBecomes r c p s x q
+  cases_by p m q arms list arms' list' other other' s x e e' f f' h o =
+      subst (λ z. StmtBecomes r c p s z q) (sym e') (cases_rule p m q arms list arms' other other' s e f (subst (λ z. ArmsBecome r c p list z m) f' h) o)
 
 module _ (r : Rules) (c : InSight) where
   -- ---- what stands behind ELSE

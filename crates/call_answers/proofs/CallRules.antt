@@ -6,7 +6,7 @@ use Rattle.away_trees.specs.declared.queries.Expr.{Expr}
 use Rattle.away_trees.specs.declared.queries.Expr.TheBlock as b
 use Rattle.away_trees.specs.declared.queries.Expr.TheVariants as expr
 use Rattle.away_names.specs.Lookups.{Name}
-use Rattle.call_meaning.specs.Calls.{callee, call_of, called_among, called_at, exprs_in, place_among}
+use Rattle.call_meaning.specs.Calls.{Called, callee, call_of, called_among, called_at, exprs_in, place_among}
 use Rattle.call_answers.specs.Walking.{calls}
 
 exprs_are : (es : List Expr) → exprs_in (b.hidden-the_row-Expr-2 es) ≡ es
@@ -35,3 +35,18 @@ no_call (Some c) name t h = go (bytes_eq name c.0) h
 pub cast_rule : (name : Name) (inner e : Expr) (t : Ty) → e ≡ expr.Cast inner t → calls name inner ≡ false → callee (name ∷ []) e ≡ None
 unfolding b.hidden-the_row-Expr-0 denote.Hole.Carrier.hidden
 cast_rule name inner e t is h = ap (callee (name ∷ [])) is ∙ no_call (call_of inner) name (Some t) h
+
+-- ---- by the names of several
+
+pub called_call_rule : (names : List Name) (t : Option Ty) (name : Name) (args as_ : List Expr) (e : Expr) (r : Option Called) → e ≡ expr.Call name args → as_ ≡ args → r ≡ called_among names t (Some (name, as_)) → r ≡ called_among names t (call_of e)
+called_call_rule names t name args as_ e r is same h =
+    h ∙ (ap (λ xs. called_among names t (Some (name, xs))) (same ∙ sym (exprs_are args)) ∙ ap (λ x. called_among names t (call_of x)) (sym is))
+
+pub part_call_rule : (names : List Name) (name : Name) (args as_ : List Expr) (e : Expr) (r : Option Called) → e ≡ expr.Call name args → as_ ≡ args → r ≡ called_among names None (Some (name, as_)) → r ≡ callee names e
+part_call_rule names name args as_ e r is same h =
+    h ∙ (ap (λ xs. called_among names None (Some (name, xs))) (same ∙ sym (exprs_are args)) ∙ ap (callee names) (sym is))
+
+pub part_cast_rule : (names : List Name) (inner x e : Expr) (t : Ty) (r : Option Called) → e ≡ expr.Cast inner t → x ≡ inner → r ≡ called_among names (Some t) (call_of x) → r ≡ callee names e
+unfolding b.hidden-the_row-Expr-0 denote.Hole.Carrier.hidden
+part_cast_rule names inner x e t r is same h =
+    h ∙ (ap (λ y. called_among names (Some t) (call_of y)) same ∙ ap (callee names) (sym is))

@@ -1,5 +1,5 @@
 -- What a statement that takes no slots has become.
-use Rattle.std.proofs.Common.{◌≡◌, refl, sym, ap, ◌∙◌, subst, ℕ, zero, suc, ◌+◌, Bool, true, false, List, [], ◌∷◌, ◌++◌, length, sum_by, Option, Some, None, arith}
+use Rattle.std.proofs.Common.{◌≡◌, refl, sym, ap, ◌∙◌, subst, ℕ, zero, suc, ◌+◌, Bool, true, false, List, [], ◌∷◌, ◌++◌, length, sum_by, Bor, Option, Some, None, arith}
 use Rattle.std.proofs.lemmas.List.Sums.{sum_by-append, sum_by-cons}
 use Rattle.away_values.specs.declared.types.Ty.{Ty}
 use Rattle.away_names.specs.Lookups.{Name}
@@ -16,9 +16,10 @@ use Rattle.call_meaning.specs.Expands.{slots_from}
 use Rattle.call_meaning.specs.Renamed.{ExprRenamed, SelectRenamed, renaming}
 use Rattle.call_meaning.specs.Untails.{TailBecomes, calls_itself, moves_slots, null_ends, returns_value, sets_arguments}
 use Rattle.moved_slots.specs.Moved.{slots_by}
+use Rattle.call_answers.specs.declared.walking.Calls.TheVariants as become
 use Rattle.call_answers.specs.declared.walking.InSight.{InSight}
 use Rattle.call_answers.specs.declared.walking.Walk.{Walk}
-use Rattle.call_answers.specs.Walking.{IsNextTurn, IsTurn, LeafBecomes, MaybeRenamed, StmtBecomes, labels, null_arm, part, place, rules_of, typed}
+use Rattle.call_answers.specs.Walking.{IsNextTurn, IsTurn, LeafBecomes, MaybeRenamed, StmtBecomes, labels, null_arm, part, place, rules_of, rules_with, turn_rules, typed}
 use Rattle.call_answers.proofs.BecomingRules.{maybe_is}
 use Rattle.call_answers.proofs.Chains.{arm_counted, arm_counts, block_counted, if_counted, nothing_more}
 
@@ -58,11 +59,11 @@ module _ (w : Walk) (c : InSight) where
   pub nothing_rule : Leaf stmt.Nothing stmt.Nothing
   nothing_rule p = record { it = refl; own = nothing_more p.at 0 refl; new = nothing_more p.new 0 refl }
 
-  pub assign_rule : (name other : Name) (slot slot' : Option ℕ) (i j : ℕ) (e y : Expr) (x : Stmt) (pairs : List (ℕ × ℕ)) → pairs ≡ c.slots → slot ≡ Some i → x ≡ stmt.Assign other slot' y → slot' ≡ Some j
-      → callee (w.name.now ∷ []) e ≡ None → slot_becomes (rules_of w) (slots_by pairs) (Some i) (Some j) → ExprRenamed (slots_by pairs) e y → Leaf (stmt.Assign name slot e) x
-  assign_rule name other slot slot' i j e y x pairs q f g f' n h k p =
+  pub assign_rule : (label name other : Name) (slot slot' : Option ℕ) (i j : ℕ) (e y : Expr) (x : Stmt) (pairs : List (ℕ × ℕ)) → pairs ≡ c.slots → slot ≡ Some i → x ≡ stmt.Assign other slot' y → slot' ≡ Some j
+      → callee (w.name.now ∷ []) e ≡ None → slot_becomes (rules_of w) (slots_by pairs) (Some i) (Some j) → ExprRenamed (slots_by pairs) e y → LeafBecomes (turn_rules w label) c (stmt.Assign name slot e) x
+  assign_rule label name other slot slot' i j e y x pairs q f g f' n h k p =
       let h' = subst (λ z. slot_becomes (rules_of w) (slots_by z) (Some i) (Some j)) q h in
-      subst (λ z. StmtBecomes (rules_of w) c p (stmt.Assign name z e) x p) (sym f) (subst (λ z. StmtBecomes (rules_of w) c p (stmt.Assign name (Some i) e) z p) (sym (g ∙ ap (λ o. stmt.Assign other o y) f')) (record {
+      subst (λ z. StmtBecomes (turn_rules w label) c p (stmt.Assign name z e) x p) (sym f) (subst (λ z. StmtBecomes (turn_rules w label) c p (stmt.Assign name (Some i) e) z p) (sym (g ∙ ap (λ o. stmt.Assign other o y) f')) (record {
         it = record {
           nobody = n;
           value = y;
@@ -73,12 +74,16 @@ module _ (w : Walk) (c : InSight) where
         new = nothing_more p.new 0 refl;
       }))
 
-  pub return_rule : (e y : Expr) (x : Stmt) (pairs : List (ℕ × ℕ)) → pairs ≡ c.slots → x ≡ stmt.Return y → callee (w.name.now ∷ []) e ≡ None → ExprRenamed (slots_by pairs) e y → Leaf (stmt.Return e) x
-  return_rule e y x pairs q g n k p = record {
+  pub return_rule : (label : Name) (e y : Expr) (x : Stmt) (pairs : List (ℕ × ℕ)) → pairs ≡ c.slots → x ≡ stmt.Return y → callee (w.name.now ∷ []) e ≡ None → ExprRenamed (slots_by pairs) e y → LeafBecomes (turn_rules w label) c (stmt.Return e) x
+  return_rule label e y x pairs q g n k p = record {
     it = returns_value n y (subst (λ z. ExprRenamed (slots_by z) e y) q k) g;
     own = nothing_more p.at 0 refl;
     new = nothing_more p.new (counted x) (ap counted g);
   }
+
+  -- where self calls are turns
+  pub by_turns : (label : Bor Name) (s x : Stmt) → w.calls ≡ become.Turns label → LeafBecomes (turn_rules w label.now) c s x → Leaf s x
+  by_turns label s x e h = subst (λ k. LeafBecomes (rules_with w k) c s x) (sym e) h
 
   -- by an equation
   pub leaf_by : (s s' x : Stmt) → s ≡ s' → Leaf s' x → Leaf s x
@@ -106,21 +111,21 @@ ends_count true (suc n) l =
     sum_by-cons counted (stmt.If (null_arm (suc n) ∷ []) None) (stmt.Continue l None ∷ [])
     ∙ ap (λ k. k + 0) (if_counted (null_arm (suc n) ∷ []) None ∙ ap (λ k. k + 0) (sum_by-cons arm_counted (null_arm (suc n)) [] ∙ ap (λ k. k + 0) (arm_counts (null_arm (suc n)))))
 
-module _ (w : Walk) where
-  turn_counts : (c : Place) (args : List Expr) (x : Stmt) → TailBecomes renaming (typed w) (part w).function w.label.now c args x → counted x ≡ 0
+module _ (w : Walk) (label : Name) where
+  turn_counts : (c : Place) (args : List Expr) (x : Stmt) → TailBecomes renaming (typed w) (part w).function label c args x → counted x ≡ 0
   turn_counts c args x h =
       let n = length w.f.now.params in
-      let ends = null_ends w.f.now.strict (slots_from n 0) ++ (stmt.Continue (Some w.label.now) None ∷ []) in
+      let ends = null_ends w.f.now.strict (slots_from n 0) ++ (stmt.Continue (Some label) None ∷ []) in
       let a = sets_count (typed w) c.slots n args h.qs h.sets in
       let b = moves_count (typed w) c.slots n 0 n h.ps h.moves in
-      let d = ends_count w.f.now.strict n (Some w.label.now) in
+      let d = ends_count w.f.now.strict n (Some label) in
       let e = sum_by-append counted h.qs (h.ps ++ ends) in
       let f = sum_by-append counted h.ps ends in
       let g = ap counted h.is ∙ block_counted None [] (h.qs ++ (h.ps ++ ends)) h.closing in
       omega (arith, a, b, d, e, f, g)
 
   pub next_turn_rule : (c : InSight) (e : Expr) (args : List Expr) (x : Stmt) (pairs : List (ℕ × ℕ)) → pairs ≡ c.slots → callee (w.name.now ∷ []) e ≡ Some (record { conversion = None; part = 0; args = args })
-      → IsNextTurn w (slots_by pairs) args x → LeafBecomes (rules_of w) c (stmt.Return e) x
+      → IsNextTurn w label (slots_by pairs) args x → LeafBecomes (turn_rules w label) c (stmt.Return e) x
   next_turn_rule c e args x pairs q n h p =
       let t = h (place c p) (ap (λ z. slots_by z) (sym q)) in
       record {
@@ -129,9 +134,9 @@ module _ (w : Walk) where
         new = nothing_more p.new (counted x) (turn_counts (place c p) args x t);
       }
 
-  pub is_next_turn_rule : (m : Slots) (args : List Expr) (xs : List Stmt) (closing : Label) → length args ≡ length w.f.now.params → IsTurn w m (length args) args xs → IsNextTurn w m args (stmt.Block None [] xs closing)
+  pub is_next_turn_rule : (m : Slots) (args : List Expr) (xs : List Stmt) (closing : Label) → length args ≡ length w.f.now.params → IsTurn w label m (length args) args xs → IsNextTurn w label m args (stmt.Block None [] xs closing)
   is_next_turn_rule m args xs closing e h c k =
-      let t = subst (λ n. IsTurn w m n args xs) e h in
+      let t = subst (λ n. IsTurn w label m n args xs) e h in
       record {
         qs = t.0;
         ps = t.1;

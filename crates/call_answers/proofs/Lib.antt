@@ -8,4 +8,7 @@ pub mod CallRules
 pub mod LeafRules
 pub mod TurnLists
 pub mod WholeRules
-pub mod Untailings
+pub mod CallLists
+pub mod CallBlockRules
+pub mod PartRules
+pub mod AnsweringRules

@@ -78,6 +78,8 @@ nulls_end zero k (x ∷ xs) le = absurd (omega (arith, le))
 nulls_end (suc i) k (x ∷ xs) le = nulls_end i k xs (omega (arith, le))
 
 -- of two slots and more
-pub null_test_chain : (n : ℕ) (first : Expr) (xs : List (ChainOp × Expr)) → suc (length xs) ≡ n → 1 ≤ length xs → first ≡ null_of 0 → xs ≡ nulls_from 1 (length xs) → expr.Chain first xs ≡ null_test (slots_from n 0)
-null_test_chain n first [] e le f g = absurd (omega (arith, le))
-null_test_chain n first (x ∷ xs) e le f g = (λ i. expr.Chain (f i) (g i)) ∙ ap (λ k. null_test (slots_from k 0)) e
+pub null_test_chain : (n from more : ℕ) (first : Expr) (xs : List (ChainOp × Expr)) → more ≡ suc from → suc (length xs) ≡ n → 1 ≤ length xs → first ≡ null_of from → xs ≡ nulls_from more (length xs)
+    → expr.Chain first xs ≡ null_test (slots_from n from)
+null_test_chain n from more first [] o e le f g = absurd (omega (arith, le))
+null_test_chain n from more first (x ∷ xs) o e le f g =
+    (λ i. expr.Chain (f i) ((g ∙ ap (λ k. nulls_from k (suc (length xs))) o) i)) ∙ ap (λ k. null_test (slots_from k from)) e

@@ -22,7 +22,7 @@ falls_off_by code bytes e h = ap (λ c. class_of (raised.State c)) (sym e ∙ ap
 
 -- ---- what the old body sees
 
-put_last : (k i j : ℕ) (m : Slots) → put_from (suc k) i j m ≡ put_at (k + i) (k + j) (put_from k i j m)
+pub put_last : (k i j : ℕ) (m : Slots) → put_from (suc k) i j m ≡ put_at (k + i) (k + j) (put_from k i j m)
 put_last zero i j m = λ t. put_at (same i t) (same j t) m
   where
     same : (i : ℕ) → i ≡ 0 + i

@@ -48,8 +48,17 @@ use Rattle.call_meaning.specs.Becomes.{
   slot_becomes,
 }
 use Rattle.call_meaning.specs.Calls.{Part, call_of, called_among, callee}
-use Rattle.call_meaning.specs.Expands.{null_of, null_test, slots_from}
-use Rattle.call_meaning.specs.Renamed.{ExprRenamed, renaming}
+use Rattle.call_meaning.specs.Expands.{
+  Back,
+  expands,
+  into_slot,
+  null_of,
+  null_test,
+  rules,
+  slots_from,
+  whole,
+}
+use Rattle.call_meaning.specs.Renamed.{ExprRenamed, SelectRenamed, renaming}
 use Rattle.call_meaning.specs.TypedSlots.{no_null}
 use Rattle.call_meaning.specs.Untails.{
   TailBecomes,
@@ -63,10 +72,16 @@ use Rattle.plsql_meaning.specs.Outcomes.{no_return}
 use Rattle.plsql_meaning.specs.Statements.{class_of}
 use Rattle.call_expand.specs.Parts.{own_name}
 use Rattle.moved_slots.specs.Moved.{slots_by}
+use Rattle.call_answers.specs.declared.walking.Calls.{Calls}
+use Rattle.call_answers.specs.declared.walking.Calls.TheVariants as become
+use Rattle.call_answers.specs.declared.walking.Expansion.{Expansion}
 use Rattle.call_answers.specs.declared.walking.Found.{Found}
 use Rattle.call_answers.specs.declared.walking.Found.TheVariants as found
 use Rattle.call_answers.specs.declared.walking.InSight.{InSight}
+use Rattle.call_answers.specs.declared.walking.Left.{Left}
+use Rattle.call_answers.specs.declared.walking.Left.TheVariants as left
 use Rattle.call_answers.specs.declared.walking.Spot.{Spot}
+use Rattle.call_answers.specs.declared.walking.StandingPart.{StandingPart}
 use Rattle.call_answers.specs.declared.walking.Walk.{Walk}
 
 -- ---- labels, by a list of pairs of which the last counts
@@ -94,7 +109,7 @@ place c p = record {
   labels = labels c;
 }
 
--- ---- the function that calls itself, and its rules
+-- ---- the function whose body is walked, and its rules
 
 abbrev pub part : Walk → Part
 part w = record {
@@ -106,8 +121,48 @@ part w = record {
 abbrev pub typed : Walk → List (Ty × Bool)
 typed w = typed_slots w.slots.now
 
+abbrev pub standing_part : StandingPart → Part
+standing_part p = record {
+  name = p.function.name;
+  function = p.function;
+  slots = typed_slots p.slots;
+}
+
+abbrev pub program : List StandingPart → List Part
+program ps = map standing_part ps
+
+abbrev pub back : Left → Back
+back left.Whole = whole
+back (left.Into i label) = into_slot i label.now
+
+-- the body of a part, where calls nest less than so deep
+abbrev pub expanded : List (Ty × Bool) → Expansion → ℕ → ℕ → Back → Place → Stmt → Type 0
+expanded typed e depth = expands (program e.parts.now) renaming typed depth
+
+-- where self calls are turns of the loop with a label
+abbrev pub turn_rules : Walk → Name → Rules
+turn_rules w label = tail_rules (part w) renaming (typed w) label
+
+abbrev pub rules_by : Walk → Calls → Rules
+rules_by w (become.Turns label) = turn_rules w label.now
+rules_by w (become.Expanded e) =
+    rules (program e.parts.now) renaming (typed w) (expanded (typed w) e e.depth) (part w)
+    (back e.left)
+
+-- Whatever calls have become, expressions and slots have become others by the same rules.
+abbrev pub rules_with : Walk → Calls → Rules
+rules_with w k = record {
+  typed = typed_slots w.own.now;
+  typed' = typed w;
+  way = (rules_by w k).way;
+  expr = ExprRenamed;
+  select = SelectRenamed;
+  assigned = (rules_by w k).assigned;
+  returned = (rules_by w k).returned;
+}
+
 abbrev pub rules_of : Walk → Rules
-rules_of w = tail_rules (part w) renaming (typed w) w.label.now
+rules_of w = rules_with w w.calls
 
 -- ---- one behind the other, from the first slots of the first to those behind the last
 
@@ -222,17 +277,17 @@ null_returned = stmt.Return expr.Null ∷ []
 abbrev pub null_arm : ℕ → Arm
 null_arm n = record { test = null_test (slots_from n 0); body = null_returned }
 
--- the statements of the block, with so many arguments
-abbrev pub IsTurn : Walk → Slots → ℕ → List Expr → List Stmt → Type 0
-IsTurn w m n args xs =
+-- the statements of the block, with so many arguments, where the loop has a label
+abbrev pub IsTurn : Walk → Name → Slots → ℕ → List Expr → List Stmt → Type 0
+IsTurn w label m n args xs =
     (qs : List Stmt) × (ps : List Stmt)
     × ((xs ≡ qs ++ (ps ++ (null_ends w.f.now.strict (slots_from n 0)
-    ++ (stmt.Continue (Some w.label.now) None ∷ []))))
+    ++ (stmt.Continue (Some label) None ∷ []))))
     × sets_arguments renaming (typed w) m n args qs × moves_slots (typed w) n 0 n ps)
 
-abbrev pub IsNextTurn : Walk → Slots → List Expr → Stmt → Type 0
-IsNextTurn w m args x = (c : Place) → c.slots ≡ m
-    → TailBecomes renaming (typed w) (part w).function w.label.now c args x
+abbrev pub IsNextTurn : Walk → Name → Slots → List Expr → Stmt → Type 0
+IsNextTurn w label m args x = (c : Place) → c.slots ≡ m
+    → TailBecomes renaming (typed w) (part w).function label c args x
 
 -- ---- the function
 

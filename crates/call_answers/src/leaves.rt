@@ -3,19 +3,30 @@
 ghost use Rattle.std.specs.Prelude.{◌≡◌, IsTrue};
 ghost use Rattle.away_names.specs.Lookups.{Name as Word};
 ghost use Rattle.away_trees.specs.declared.statements.Stmt.TheVariants as stmt;
+ghost use Rattle.moved_slots.specs.Moved.{slots_by};
+ghost use Rattle.call_answers.specs.Calling as call;
 ghost use Rattle.call_answers.specs.Walking as spec;
 
+use crate::calls::{called_part, goes_on};
 use crate::leaf_pairs::{same_expr, same_maybe, same_select, same_slot, same_targets};
 use crate::sights::names;
 use crate::turns::{found, is_next_turn};
-use crate::walking::{Found, InSight, Walk};
+use crate::walking::{Calls, Expansion, Found, InSight, To, Walk};
 use away_trees::{Expr, Raised, Select, Stmt};
 use away_values::Name;
 
+/// An assignment, where self calls are turns: it calls nobody.
 #[tactic(auto, using(crate::proofs::LeafRules::assign_rule))]
-fn assign_becomes(w: &Walk<'_>, c: &InSight, slot: &Option<u32>, e: &Expr, x: &Stmt) -> bool
-    ensures { IsTrue result → (name : Word)
-        → spec.LeafBecomes (spec.rules_of w.now) c.now (stmt.Assign name slot.now e.now) x.now }
+fn assign_stays(
+    w: &Walk<'_>,
+    label: &Name,
+    c: &InSight,
+    slot: &Option<u32>,
+    e: &Expr,
+    x: &Stmt,
+) -> bool
+    ensures { IsTrue result → (name : Word) → spec.LeafBecomes
+        (spec.turn_rules w.now label.now) c.now (stmt.Assign name slot.now e.now) x.now }
 {
     let Stmt::Assign(_, other, y) = x else {
         return false;
@@ -30,10 +41,11 @@ fn assign_becomes(w: &Walk<'_>, c: &InSight, slot: &Option<u32>, e: &Expr, x: &S
     }
 }
 
+/// A RETURN, where self calls are turns.
 #[tactic(auto, using(crate::proofs::LeafRules::return_rule, crate::proofs::LeafRules::next_turn_rule))]
-fn return_becomes(w: &Walk<'_>, c: &InSight, e: &Expr, x: &Stmt) -> bool
-    ensures { IsTrue result
-        → spec.LeafBecomes (spec.rules_of w.now) c.now (stmt.Return e.now) x.now }
+fn return_turns(w: &Walk<'_>, label: &Name, c: &InSight, e: &Expr, x: &Stmt) -> bool
+    ensures { IsTrue result → spec.LeafBecomes
+        (spec.turn_rules w.now label.now) c.now (stmt.Return e.now) x.now }
 {
     let pairs = c.slots.as_slice();
     match found(w.name, e) {
@@ -41,8 +53,48 @@ fn return_becomes(w: &Walk<'_>, c: &InSight, e: &Expr, x: &Stmt) -> bool
             Stmt::Return(y) => same_expr(pairs, e, y),
             _ => false,
         },
-        Found::Itself(args) => is_next_turn(w, pairs, args, x),
+        Found::Itself(args) => is_next_turn(w, label, pairs, args, x),
         Found::Converted => false,
+    }
+}
+
+/// A value that calls nobody, where calls are expanded.
+fn value_stands(w: &Walk<'_>, x: &Expansion<'_>, c: &InSight, to: &To, e: &Expr, y: &Stmt) -> bool
+    ensures { IsTrue result → call.ValueStands w.now x.now (slots_by c.now.slots) to.now e.now
+        y.now }
+{
+    let pairs = c.slots.as_slice();
+    match called_part(x.parts, e) {
+        Some(_) => false,
+        None => match goes_on(w, pairs, &x.left, to, y) {
+            None => false,
+            Some(v) => same_expr(pairs, e, v),
+        },
+    }
+}
+
+#[tactic(auto, using(crate::proofs::LeafRules::by_turns, crate::proofs::CallBlockRules::assign_stands))]
+fn assign_becomes(w: &Walk<'_>, c: &InSight, slot: &Option<u32>, e: &Expr, x: &Stmt) -> bool
+    ensures { IsTrue result → (name : Word)
+        → spec.LeafBecomes (spec.rules_of w.now) c.now (stmt.Assign name slot.now e.now) x.now }
+{
+    match w.calls {
+        Calls::Turns(label) => assign_stays(w, label, c, slot, e, x),
+        Calls::Expanded(by) => match slot {
+            None => false,
+            Some(i) => value_stands(w, &by, c, &To::Slot(*i), e, x),
+        },
+    }
+}
+
+#[tactic(auto, using(crate::proofs::LeafRules::by_turns, crate::proofs::CallBlockRules::return_stands))]
+fn return_becomes(w: &Walk<'_>, c: &InSight, e: &Expr, x: &Stmt) -> bool
+    ensures { IsTrue result
+        → spec.LeafBecomes (spec.rules_of w.now) c.now (stmt.Return e.now) x.now }
+{
+    match w.calls {
+        Calls::Turns(label) => return_turns(w, label, c, e, x),
+        Calls::Expanded(by) => value_stands(w, &by, c, &To::Result, e, x),
     }
 }
 

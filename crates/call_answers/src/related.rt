@@ -6,19 +6,19 @@ ghost use Rattle.call_answers.specs.Laws.{HasSelfCallsAsTurns};
 ghost use Rattle.call_answers.specs.Walking as spec;
 ghost use Rattle.call_expand.specs.Parts.{own_name as spec_own_name};
 ghost use Rattle.call_meaning.specs.Renamed.{renaming};
-ghost use Rattle.call_meaning.specs.Untails.{IsUntailed, plain_decls, tail_place};
-ghost use Rattle.plsql_meaning.specs.Outcomes.{no_return};
-ghost use Rattle.plsql_meaning.specs.Statements.{class_of};
+ghost use Rattle.call_meaning.specs.Untails.{IsUntailed, plain_decls};
 
 use crate::becoming::stmt_becomes;
+use crate::ends::falls_off;
 use crate::leaf_pairs::is_nullable;
 use crate::standing::standing_body;
-use crate::walking::{InSight, Spot, Walk};
+use crate::walking::{Calls, InSight, Spot, Walk};
 use away_names::function::function;
 use away_names::lookups::narrow;
-use away_trees::{Decl, Function, LoopKind, Raised, Schema, Stmt};
+use away_trees::{Decl, Function, LoopKind, Schema, Stmt};
 use away_types::{CheckedFunction, NamedBody, Slot, named_body};
 use away_values::{Name, NoMemory, Ty};
+use call_expand::judged::Callees;
 use sqlite_items::Items;
 use std::alloc::Global;
 
@@ -43,28 +43,8 @@ fn are_plain(slots: &[Slot], list: &[Decl], from: usize) -> bool
     true
 }
 
-/// The SQLSTATE of a body that ends without a RETURN.
-fn is_no_return(raised: &Raised) -> bool
-    ensures { IsTrue result → class_of raised.now ≡ no_return }
-{
-    match raised {
-        Raised::State(code) => code.text() == "2F005",
-        Raised::Message(_) => false,
-    }
-}
-
-/// The fault of a body that ends without a RETURN.
-fn falls_off(x: &Stmt) -> bool
-    ensures { IsTrue result → spec.FallsOff x.now }
-{
-    match x {
-        Stmt::Raise(raised) => is_no_return(raised),
-        _ => false,
-    }
-}
-
 /// What the old body has in sight: the parameters as they are.
-fn params_in_sight(alloc: Global, params: &[(Name, Ty)]) -> Result<InSight, NoMemory>
+pub(crate) fn params_in_sight(alloc: Global, params: &[(Name, Ty)]) -> Result<InSight, NoMemory>
     ensures { IfOk result (λ c. spec.SeesParameters (length params.now) c) }
 {
     let mut slots = Items::new(alloc);
@@ -98,7 +78,7 @@ fn old_body_stands(alloc: Global, w: &Walk<'_>, x: &Stmt) -> Result<bool, NoMemo
     let Some(p) = behind_params(params.len()) else {
         return Ok(false);
     };
-    match stmt_becomes(alloc, w, &c, p, w.body, x)? {
+    match stmt_becomes(alloc, w, &c, p, x, w.body)? {
         None => Ok(false),
         Some(_) => Ok(true),
     }
@@ -217,7 +197,7 @@ fn has_turns(
         body,
         own,
         slots,
-        label,
+        calls: Calls::Turns(label),
     };
     old_body_stands(alloc, &w, old)
 }
@@ -233,6 +213,13 @@ pub(crate) fn has_self_calls_as_turns(
         → HasSelfCallsAsTurns s.now f.now c.now.function c.now.slots) }
 {
     let NamedBody { body, slots } = named_body(alloc, s, f)?;
-    let standing = standing_body(alloc, s, f, slots.as_slice(), body.get())?;
+    let standing = standing_body(
+        alloc,
+        s,
+        Callees::Own(f),
+        f.result,
+        slots.as_slice(),
+        body.get(),
+    )?;
     has_turns(alloc, f, standing.get(), slots.as_slice(), c)
 }

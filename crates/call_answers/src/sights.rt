@@ -1,11 +1,11 @@
 //! What comes into sight in blocks and loops.
 
-ghost use Rattle.std.specs.Prelude.{◌≡◌, IfOk, IsTrue, Some, bytes_eq, false, option_map};
+ghost use Rattle.std.specs.Prelude.{◌≡◌, IfOk, IsTrue, None, Some, bytes_eq, false, option_map};
 ghost use Rattle.away_names.specs.Lookups.{Name as Word};
 ghost use Rattle.call_meaning.specs.Alike as alike;
 ghost use Rattle.call_answers.specs.Walking as spec;
 
-use crate::walking::InSight;
+use crate::walking::{Calls, InSight, Left, Walk};
 use away_values::{Name, NoMemory};
 use sqlite_items::Items;
 use std::alloc::Global;
@@ -141,8 +141,21 @@ fn is_new(list: &[(Name, Name)], own: &Name) -> bool
     true
 }
 
-/// The label of a block or a loop: in both bodies or in none, and in the other body a new one, and not that to which it may be left.
-pub(crate) fn fresh(way: &Name, c: &InSight, own: &Option<Name>, new: &Option<Name>) -> bool
+/// The label of a block or a loop: in both bodies or in none, and in the other body a new one.
+fn fresh_inside(c: &InSight, own: &Option<Name>, new: &Option<Name>) -> bool
+    ensures { IsTrue result → alike.Fresh (spec.labels c.now) None own.now new.now }
+{
+    match own {
+        None => new.is_none(),
+        Some(_) => match new {
+            None => false,
+            Some(n) => is_new(c.exits.as_slice(), n) && is_new(c.continues.as_slice(), n),
+        },
+    }
+}
+
+/// The same of a body that may be left to a label, which is another.
+fn fresh_beside(way: &Name, c: &InSight, own: &Option<Name>, new: &Option<Name>) -> bool
     ensures { IsTrue result → alike.Fresh (spec.labels c.now) (Some way.now) own.now new.now }
 {
     match own {
@@ -155,5 +168,29 @@ pub(crate) fn fresh(way: &Name, c: &InSight, own: &Option<Name>, new: &Option<Na
                     && way.text() != n.text()
             }
         },
+    }
+}
+
+/// The label to which a body may be left.
+fn way<'a>(w: &Walk<'a>) -> Option<&'a Name>
+    ensures { option_map (λ n. n.now) result ≡ (spec.rules_of w.now).way }
+{
+    match w.calls {
+        Calls::Turns(label) => Some(label),
+        Calls::Expanded(x) => match x.left {
+            Left::Whole => None,
+            Left::Into(_, label) => Some(label),
+        },
+    }
+}
+
+/// The label of a block or a loop: in both bodies or in none, and in the other body a new one, and not that to which it may be left.
+pub(crate) fn fresh(w: &Walk<'_>, c: &InSight, own: &Option<Name>, new: &Option<Name>) -> bool
+    ensures { IsTrue result
+        → alike.Fresh (spec.labels c.now) (spec.rules_of w.now).way own.now new.now }
+{
+    match way(w) {
+        None => fresh_inside(c, own, new),
+        Some(label) => fresh_beside(label, c, own, new),
     }
 }

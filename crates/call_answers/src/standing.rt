@@ -1,13 +1,13 @@
 //! Bodies with their numbers converted, in which calls stand: each with its arguments converted to the types of the parameters,
 //! and its value to the type of its place.
 
-ghost use Rattle.std.specs.Prelude.{◌≡◌, IfOk, [], ◌∷◌, map, Some};
+ghost use Rattle.std.specs.Prelude.{◌≡◌, IfOk, map, Some};
 ghost use Rattle.away_types.specs.FunctionChecks.{around_in, slot_types as types_of};
 ghost use Rattle.away_typing.specs.TypingLists.{places};
 ghost use Rattle.elaboration.specs.ConvertingLists.{around};
 ghost use Rattle.away_trees.specs.declared.statements.Stmt.TheVariants as stmt;
 ghost use Rattle.elaboration.specs.Converting.{slot_type as type_of_slot};
-ghost use Rattle.call_expand.specs.Untailing.{self_names};
+ghost use Rattle.call_expand.specs.Judges as whose;
 ghost use Rattle.call_expand.specs.Parts as spec;
 
 use away_names::listings::copy_alias;
@@ -17,7 +17,8 @@ use away_typing::kind::Kind;
 use away_typing::recursion::column_types;
 use away_typing::types::Places;
 use away_values::{Name, NoMemory, Ty};
-use call_expand::places::self_call;
+use call_expand::judged::Callees;
+use call_expand::places::{call_place, self_call};
 use elaboration::converting::{
     Around, converted_to, converts, decls_converted, for_slot, kind_converted, marked, slot_type,
 };
@@ -83,17 +84,29 @@ fn for_type(alloc: Global, t: Option<Ty>, x: Made<Expr>) -> Result<Expr, NoMemor
 /// The expression of a place that asks for a type, or for none.
 fn placed_for(
     alloc: Global,
-    f: &Function,
+    c: Callees<'_>,
     t: Option<Ty>,
     e: &Expr,
     p: &Places<'_>,
 ) -> Result<Expr, NoMemory>
     ensures { IfOk result (λ x. x
-        ≡ spec.placed_for (self_names f.now) (f.now ∷ []) t (places p.now) e.now) }
+        ≡ spec.placed_for (whose.names c.entry) (whose.functions c.entry) t (places p.now) e.now) }
 {
-    match self_call(f, e) {
-        None => for_slot(alloc, t, e, p),
-        Some(place) => for_type(alloc, t, call_made(alloc, f, place.args, p)?),
+    match c {
+        Callees::All(fs) => match call_place(fs, e) {
+            None => for_slot(alloc, t, e, p),
+            Some(place) => {
+                if place.part < fs.len() {
+                    for_type(alloc, t, call_made(alloc, &fs[place.part], place.args, p)?)
+                } else {
+                    Err(NoMemory)
+                }
+            }
+        },
+        Callees::Own(f) => match self_call(f, e) {
+            None => for_slot(alloc, t, e, p),
+            Some(place) => for_type(alloc, t, call_made(alloc, f, place.args, p)?),
+        },
     }
 }
 
@@ -135,25 +148,26 @@ fn loop_of(
 
 fn assign_of(
     alloc: Global,
-    f: &Function,
+    c: Callees<'_>,
     name: &Name,
     slot: Option<u32>,
     e: &Expr,
     a: &Around<'_>,
 ) -> Result<Stmt, NoMemory>
     ensures { IfOk result (λ x. x ≡ stmt.Assign name.now slot (spec.placed_for
-        (self_names f.now) (f.now ∷ []) (type_of_slot (around a.now) slot) (places a.now.places)
-        e.now)) }
+        (whose.names c.entry) (whose.functions c.entry) (type_of_slot (around a.now) slot)
+        (places a.now.places) e.now)) }
 {
-    let value = placed_for(alloc, f, slot_type(a, slot), e, &a.places)?;
+    let value = placed_for(alloc, c, slot_type(a, slot), e, &a.places)?;
     Ok(Stmt::Assign(name.copy(alloc)?, slot, value))
 }
 
-fn return_of(alloc: Global, f: &Function, e: &Expr, a: &Around<'_>) -> Result<Stmt, NoMemory>
+fn return_of(alloc: Global, c: Callees<'_>, e: &Expr, a: &Around<'_>) -> Result<Stmt, NoMemory>
     ensures { IfOk result (λ x. x ≡ stmt.Return (spec.placed_for
-        (self_names f.now) (f.now ∷ []) (Some a.now.result) (places a.now.places) e.now)) }
+        (whose.names c.entry) (whose.functions c.entry) (Some a.now.result) (places a.now.places)
+        e.now)) }
 {
-    let value = placed_for(alloc, f, Some(a.result), e, &a.places)?;
+    let value = placed_for(alloc, c, Some(a.result), e, &a.places)?;
     Ok(Stmt::Return(value))
 }
 
@@ -161,12 +175,13 @@ fn return_of(alloc: Global, f: &Function, e: &Expr, a: &Around<'_>) -> Result<St
 #[tactic(auto, using(crate::proofs::StandingRules::statement_rules))]
 pub(crate) fn standing_stmt(
     alloc: Global,
-    f: &Function,
+    c: Callees<'_>,
     s: &Stmt,
     a: &Around<'_>,
 ) -> Result<Stmt, NoMemory>
     ensures { IfOk result (λ x. x
-        ≡ spec.converted_with_calls (self_names f.now) (f.now ∷ []) (around a.now) s.now) }
+        ≡ spec.converted_with_calls (whose.names c.entry) (whose.functions c.entry)
+        (around a.now) s.now) }
 {
     match s {
         Stmt::Block {
@@ -176,26 +191,26 @@ pub(crate) fn standing_stmt(
             closing,
         } => {
             let decls = decls_converted(alloc, decls.as_slice(), a)?;
-            let body = standing_row(alloc, f, body.as_slice(), a)?;
+            let body = standing_row(alloc, c, body.as_slice(), a)?;
             block_of(alloc, label, decls, body, closing)
         }
-        Stmt::Assign(name, slot, e) => assign_of(alloc, f, name, *slot, e, a),
+        Stmt::Assign(name, slot, e) => assign_of(alloc, c, name, *slot, e, a),
         Stmt::If(arms, other) => {
-            let xs = standing_arms(alloc, f, arms.as_slice(), a)?;
+            let xs = standing_arms(alloc, c, arms.as_slice(), a)?;
             match other {
                 None => Ok(Stmt::If(xs, None)),
                 Some(body) => {
-                    let ys = standing_row(alloc, f, body.as_slice(), a)?;
+                    let ys = standing_row(alloc, c, body.as_slice(), a)?;
                     Ok(Stmt::If(xs, Some(ys)))
                 }
             }
         }
         Stmt::Cases(arms, other) => {
-            let xs = standing_arms(alloc, f, arms.as_slice(), a)?;
+            let xs = standing_arms(alloc, c, arms.as_slice(), a)?;
             match other {
                 None => Ok(Stmt::Cases(xs, None)),
                 Some(body) => {
-                    let ys = standing_row(alloc, f, body.as_slice(), a)?;
+                    let ys = standing_row(alloc, c, body.as_slice(), a)?;
                     Ok(Stmt::Cases(xs, Some(ys)))
                 }
             }
@@ -207,10 +222,10 @@ pub(crate) fn standing_stmt(
             closing,
         } => {
             let head = kind_converted(alloc, kind, a)?;
-            let body = standing_row(alloc, f, body.as_slice(), a)?;
+            let body = standing_row(alloc, c, body.as_slice(), a)?;
             loop_of(alloc, label, head, body, closing)
         }
-        Stmt::Return(e) => return_of(alloc, f, e, a),
+        Stmt::Return(e) => return_of(alloc, c, e, a),
         Stmt::Exit(_, _) => converted(alloc, s, a),
         Stmt::Continue(_, _) => converted(alloc, s, a),
         Stmt::Raise(_) => converted(alloc, s, a),
@@ -222,16 +237,16 @@ pub(crate) fn standing_stmt(
 #[cycle(standing)]
 fn standing_row(
     alloc: Global,
-    f: &Function,
+    c: Callees<'_>,
     list: &[Stmt],
     a: &Around<'_>,
 ) -> Result<Items<Stmt>, NoMemory>
-    ensures { IfOk result (λ xs. xs ≡ map
-        (spec.converted_with_calls (self_names f.now) (f.now ∷ []) (around a.now)) list.now) }
+    ensures { IfOk result (λ xs. xs ≡ map (spec.converted_with_calls (whose.names c.entry)
+        (whose.functions c.entry) (around a.now)) list.now) }
 {
     let mut done = Items::new(alloc);
     for s in list {
-        done.push(standing_stmt(alloc, f, s, a)?)?;
+        done.push(standing_stmt(alloc, c, s, a)?)?;
     }
     Ok(done)
 }
@@ -239,27 +254,28 @@ fn standing_row(
 #[cycle(standing)]
 fn standing_arms(
     alloc: Global,
-    f: &Function,
+    c: Callees<'_>,
     list: &[Arm],
     a: &Around<'_>,
 ) -> Result<Items<Arm>, NoMemory>
-    ensures { IfOk result (λ xs. xs ≡ map
-        (spec.arm_with_calls (self_names f.now) (f.now ∷ []) (around a.now)) list.now) }
+    ensures { IfOk result (λ xs. xs ≡ map (spec.arm_with_calls (whose.names c.entry)
+        (whose.functions c.entry) (around a.now)) list.now) }
 {
     let mut done = Items::new(alloc);
     for arm in list {
-        done.push(standing_arm(alloc, f, arm, a)?)?;
+        done.push(standing_arm(alloc, c, arm, a)?)?;
     }
     Ok(done)
 }
 
 #[cycle(standing)]
 #[tactic(auto, using(crate::proofs::StandingRules::arm_rule))]
-fn standing_arm(alloc: Global, f: &Function, arm: &Arm, a: &Around<'_>) -> Result<Arm, NoMemory>
+fn standing_arm(alloc: Global, c: Callees<'_>, arm: &Arm, a: &Around<'_>) -> Result<Arm, NoMemory>
     ensures { IfOk result (λ x. x
-        ≡ spec.arm_with_calls (self_names f.now) (f.now ∷ []) (around a.now) arm.now) }
+        ≡ spec.arm_with_calls (whose.names c.entry) (whose.functions c.entry)
+        (around a.now) arm.now) }
 {
-    let body = standing_row(alloc, f, arm.body.as_slice(), a)?;
+    let body = standing_row(alloc, c, arm.body.as_slice(), a)?;
     let test = marked(alloc, &arm.test, &a.places)?;
     Ok(Arm { test, body })
 }
@@ -274,16 +290,17 @@ fn slot_types(alloc: Global, slots: &[Slot]) -> Result<Items<Ty>, NoMemory>
     Ok(all)
 }
 
-/// A body over its slots, converted, in which the function's calls of itself stand.
+/// A body over its slots, converted, in which calls stand, for a result of a type.
 pub(crate) fn standing_body(
     alloc: Global,
     s: &Schema,
-    f: &Function,
+    c: Callees<'_>,
+    returned: Ty,
     slots: &[Slot],
     body: &Stmt,
 ) -> Result<Boxed<Stmt>, NoMemory>
-    ensures { IfOk result (λ x. x ≡ spec.converted_with_calls (self_names f.now) (f.now ∷ [])
-        (around_in s.now slots.now f.now.result) body.now) }
+    ensures { IfOk result (λ x. x ≡ spec.converted_with_calls (whose.names c.entry)
+        (whose.functions c.entry) (around_in s.now slots.now returned) body.now) }
 {
     let columns = column_types(alloc, s)?;
     let types = slot_types(alloc, slots)?;
@@ -293,9 +310,9 @@ pub(crate) fn standing_body(
             frames: &[],
             tables: columns.as_slice(),
         },
-        result: f.result,
+        result: returned,
         counter: Ty::Integer,
     };
-    let x = standing_stmt(alloc, f, body, &a)?;
+    let x = standing_stmt(alloc, c, body, &a)?;
     Ok(Boxed::new(alloc, x)?)
 }

@@ -1,18 +1,19 @@
 //! The block that a self call becomes: the arguments into slots of their own, these into the parameters, the test of STRICT, and the next
 //! turn of the loop.
 
-ghost use Rattle.std.specs.Prelude.{◌+◌, ◌≡◌, ◌++◌, IsTrue, Some, None, [], ◌∷◌, true, length, map};
+ghost use Rattle.std.specs.Prelude.{◌≡◌, ◌++◌, IsTrue, Some, None, [], ◌∷◌, length};
 ghost use Rattle.away_trees.specs.declared.statements.Stmt.TheVariants as stmt;
-ghost use Rattle.call_meaning.specs.Expands.{null_of, null_test, slots_from};
+ghost use Rattle.call_meaning.specs.Expands.{slots_from};
 ghost use Rattle.call_meaning.specs.Renamed.{renaming};
 ghost use Rattle.call_meaning.specs.Untails.{moves_slots, null_ends, sets_arguments};
 ghost use Rattle.moved_slots.specs.Moved.{slots_by};
 ghost use Rattle.call_answers.specs.Walking as spec;
 
 use crate::leaf_pairs::{is_nullable, same_expr};
+use crate::nulls::is_null_test;
 use crate::walking::{Found, Walk};
 use away_trees::{Arm, Expr, Stmt};
-use away_values::{ChainOp, IsTest, Name};
+use away_values::Name;
 
 fn is_called(name: &str, e: &Expr) -> bool
     ensures { result ≡ spec.calls name.now e.now }
@@ -112,50 +113,6 @@ fn moves_stand(w: &Walk<'_>, xs: &[Stmt], from: usize) -> bool
     true
 }
 
-/// A slot is NULL.
-fn is_null_of(i: usize, e: &Expr) -> bool
-    ensures { IsTrue result → e.now ≡ null_of i }
-{
-    match e {
-        Expr::Is(a, IsTest::Null, false) => match a.get() {
-            Expr::Slot(j) => *j as usize == i,
-            _ => false,
-        },
-        _ => false,
-    }
-}
-
-#[tactic(auto, using(crate::proofs::TurnLists::nulls_step, crate::proofs::TurnLists::nulls_end))]
-fn further_nulls(links: &[(ChainOp, Expr)]) -> bool
-    ensures { IsTrue result → links.now ≡ spec.nulls_from 1 (length links.now) }
-{
-    for i in 0..links.len() {
-        if links[i].0 != ChainOp::Or || !is_null_of(i + 1, &links[i].1) {
-            return false;
-        }
-    }
-    true
-}
-
-/// One of the first slots is NULL.
-#[tactic(auto, using(crate::proofs::TurnLists::null_test_chain))]
-fn is_null_test(n: usize, e: &Expr) -> bool
-    ensures { IsTrue result → e.now ≡ null_test (slots_from n 0) }
-{
-    if n == 1 {
-        return is_null_of(0, e);
-    }
-    match e {
-        Expr::Chain(first, links) => {
-            n > 1
-                && links.len() == n - 1
-                && is_null_of(0, first.get())
-                && further_nulls(links.as_slice())
-        }
-        _ => false,
-    }
-}
-
 fn returns_null(xs: &[Stmt]) -> bool
     ensures { IsTrue result → xs.now ≡ spec.null_returned }
 {
@@ -168,7 +125,7 @@ fn returns_null(xs: &[Stmt]) -> bool
 fn is_null_arm(n: usize, a: &Arm) -> bool
     ensures { IsTrue result → a.now ≡ spec.null_arm n }
 {
-    is_null_test(n, &a.test) && returns_null(a.body.as_slice())
+    is_null_test(n, 0, &a.test) && returns_null(a.body.as_slice())
 }
 
 /// STRICT ends with NULL where a parameter is NULL.
@@ -194,27 +151,27 @@ fn goes_on(label: &Name, x: &Stmt) -> bool
 }
 
 /// What stands behind the assignments.
-fn ends_turn(w: &Walk<'_>, n: usize, xs: &[Stmt]) -> bool
+fn ends_turn(w: &Walk<'_>, label: &Name, n: usize, xs: &[Stmt]) -> bool
     ensures { IsTrue result → xs.now ≡ null_ends w.now.f.now.strict (slots_from n 0)
-        ++ (stmt.Continue (Some w.now.label.now) None ∷ []) }
+        ++ (stmt.Continue (Some label.now) None ∷ []) }
 {
     if w.f.strict && n > 0 {
         match xs {
-            [a, b] => is_null_end(n, a) && goes_on(w.label, b),
+            [a, b] => is_null_end(n, a) && goes_on(label, b),
             _ => false,
         }
     } else {
         match xs {
-            [b] => goes_on(w.label, b),
+            [b] => goes_on(label, b),
             _ => false,
         }
     }
 }
 
 /// The statements of the block.
-fn turns(w: &Walk<'_>, pairs: &[(u32, u32)], args: &[Expr], xs: &[Stmt]) -> bool
+fn turns(w: &Walk<'_>, label: &Name, pairs: &[(u32, u32)], args: &[Expr], xs: &[Stmt]) -> bool
     ensures { IsTrue result
-        → spec.IsTurn w.now (slots_by pairs.now) (length args.now) args.now xs.now }
+        → spec.IsTurn w.now label.now (slots_by pairs.now) (length args.now) args.now xs.now }
 {
     let n = args.len();
     if xs.len() < n {
@@ -225,14 +182,20 @@ fn turns(w: &Walk<'_>, pairs: &[(u32, u32)], args: &[Expr], xs: &[Stmt]) -> bool
         return false;
     }
     let (ps, end) = behind.split_at(n);
-    sets_stand(w, pairs, args, qs, n) && moves_stand(w, ps, n) && ends_turn(w, n, end)
+    sets_stand(w, pairs, args, qs, n) && moves_stand(w, ps, n) && ends_turn(w, label, n, end)
 }
 
 /// The block that a self call becomes.
 #[tactic(auto, using(crate::proofs::LeafRules::is_next_turn_rule))]
-pub(crate) fn is_next_turn(w: &Walk<'_>, pairs: &[(u32, u32)], args: &[Expr], x: &Stmt) -> bool
+pub(crate) fn is_next_turn(
+    w: &Walk<'_>,
+    label: &Name,
+    pairs: &[(u32, u32)],
+    args: &[Expr],
+    x: &Stmt,
+) -> bool
     ensures { IsTrue result
-        → spec.IsNextTurn w.now (slots_by pairs.now) args.now x.now }
+        → spec.IsNextTurn w.now label.now (slots_by pairs.now) args.now x.now }
 {
     match x {
         Stmt::Block {
@@ -243,7 +206,7 @@ pub(crate) fn is_next_turn(w: &Walk<'_>, pairs: &[(u32, u32)], args: &[Expr], x:
         } => {
             decls.is_empty()
                 && args.len() == w.f.params.len()
-                && turns(w, pairs, args, body.as_slice())
+                && turns(w, label, pairs, args, body.as_slice())
         }
         _ => false,
     }

@@ -2,6 +2,7 @@
 #![tactic(auto)]
 
 mod blocks;
+mod calls;
 mod examples;
 mod expand;
 mod heads;
@@ -19,4 +20,4 @@ pub use examples::{
     a_program_is_expanded, calls_are_judged, hidden_names_are_told_apart, numbers_are_converted,
     self_calls_are_turns_of_a_loop,
 };
-pub use expand::untailed;
+pub use expand::{expanded, untailed};

@@ -51,9 +51,24 @@ pub enum Back {
     Into(usize, usize),
 }
 
-/// The new names, and the function whose calls of itself are turns of a loop.
+/// Calls of these functions are expanded, nested less than so deep, in a body that is left so.
+#[derive(Clone, Copy)]
+pub struct Expansion<'a> {
+    pub fs: &'a [Function],
+    pub depth: usize,
+    pub back: Back,
+}
+
+/// What becomes of calls: they are expanded, or a function's calls of itself are turns of a loop.
+#[derive(Clone, Copy)]
+pub enum Plan<'a> {
+    Expand(Expansion<'a>),
+    Untail(&'a Function),
+}
+
+/// The new names, and what becomes of calls.
 #[derive(Clone, Copy)]
 pub struct Work<'a> {
     pub names: &'a [Name],
-    pub f: &'a Function,
+    pub plan: Plan<'a>,
 }

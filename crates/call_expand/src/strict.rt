@@ -25,14 +25,31 @@ pub(crate) fn one<T: Drop>(alloc: Global, only: T) -> Result<Items<T>, NoMemory>
     Ok(all)
 }
 
+pub(crate) fn two<T: Drop>(alloc: Global, first: T, second: T) -> Result<Items<T>, NoMemory>
+    ensures { IfOk result (λ all. all ≡ first ∷ second ∷ []) }
+{
+    let mut all = one(alloc, first)?;
+    all.push(second)?;
+    Ok(all)
+}
+
 /// RAISE EXCEPTION SQLSTATE '2F005'.
-pub(crate) fn falls_off(alloc: Global) -> Result<Stmt, NoMemory>
+fn falls_off(alloc: Global) -> Result<Stmt, NoMemory>
     ensures { IfOk result (λ s. s ≡ spec.falls_off) }
 {
     match word(alloc, "2F005")? {
         None => Err(NoMemory),
         Some(state) => Ok(Stmt::Raise(Raised::State(state))),
     }
+}
+
+/// A body, and the fault where it ends without a RETURN.
+pub(crate) fn or_falls_off(alloc: Global, body: Stmt) -> Result<Items<Stmt>, NoMemory>
+    ensures { IfOk result (λ xs. xs ≡ body ∷ spec.falls_off ∷ []) }
+{
+    let mut all = one(alloc, body)?;
+    all.push(falls_off(alloc)?)?;
+    Ok(all)
 }
 
 fn is_null(alloc: Global, names: &[Name], k: usize) -> Result<Expr, NoMemory>

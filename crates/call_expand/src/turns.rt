@@ -1,10 +1,9 @@
-//! What assignments and RETURNs become, and the block that a self call becomes.
+//! What a RETURN becomes where self calls are turns of a loop, and the block that a self call becomes.
 
 ghost use Rattle.std.specs.Prelude.{◌≡◌, IfOk};
-ghost use Rattle.call_expand.specs.Plans.{planned_assignment, planned_return};
 ghost use Rattle.call_expand.specs.Untailing as spec;
 
-use crate::made::{Made, Seen, Work};
+use crate::made::{Made, Seen};
 use crate::places::self_call;
 use crate::seeing::{further, next};
 use crate::strict::{plain_decl, strict_test, variable};
@@ -12,7 +11,7 @@ use away_names::scope::Variable;
 use away_trees::{Decl, Expr, Function, Stmt};
 use away_values::{Name, NoMemory, Ty};
 use moved_names::renaming::renamed_expr;
-use moved_names::sight::{Sight, moved, name_at};
+use moved_names::sight::{Sight, name_at};
 use sqlite_items::Items;
 use std::alloc::Global;
 
@@ -107,45 +106,24 @@ pub(crate) fn next_turn(
     })
 }
 
-/// What an assignment becomes.
-pub(crate) fn assigned(
+/// What a RETURN of a function becomes whose calls of itself are turns.
+pub(crate) fn turned(
     alloc: Global,
-    w: Work<'_>,
-    name: &Name,
+    names: &[Name],
+    f: &Function,
     e: &Expr,
     seen: &Seen,
     k: usize,
 ) -> Result<Made<Stmt>, NoMemory>
-    ensures { IfOk result (λ x. x ≡ planned_assignment w.entry name.now e.now seen.now k) }
+    ensures { IfOk result (λ x. x ≡ spec.returned names.now f.now e.now seen.now k) }
 {
     let sight = Sight {
-        names: w.names,
+        names,
         seen: seen.variables.as_slice(),
     };
-    let target = moved(alloc, name, &sight)?;
-    Ok(Made {
-        it: Stmt::Assign(target, None, renamed_expr(alloc, e, &sight)?),
-        next: k,
-    })
-}
-
-/// What a RETURN becomes.
-pub(crate) fn returned(
-    alloc: Global,
-    w: Work<'_>,
-    e: &Expr,
-    seen: &Seen,
-    k: usize,
-) -> Result<Made<Stmt>, NoMemory>
-    ensures { IfOk result (λ x. x ≡ planned_return w.entry e.now seen.now k) }
-{
-    let sight = Sight {
-        names: w.names,
-        seen: seen.variables.as_slice(),
-    };
-    match self_call(w.f, e) {
+    match self_call(f, e) {
         Some(c) => Ok(Made {
-            it: next_turn(alloc, w.names, w.f, sight.seen, c.args)?,
+            it: next_turn(alloc, names, f, sight.seen, c.args)?,
             next: k,
         }),
         None => Ok(Made {

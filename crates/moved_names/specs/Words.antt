@@ -30,7 +30,7 @@ use Rattle.away_trees.specs.declared.schemas.ColumnSchema.{ColumnSchema}
 use Rattle.away_trees.specs.declared.schemas.TableSchema.{TableSchema}
 use Rattle.away_trees.specs.declared.schemas.Schema.{Schema}
 use Rattle.away_trees.specs.StatementAlgebra.{StatementAlgebra, stmt_of, branch_of}
-use Rattle.away_names.specs.Lookups.{Name, is_among}
+use Rattle.away_names.specs.Lookups.{Name, is_among, is_kept}
 use Rattle.moved_names.specs.Finding.{Sought, any, holds, in_expr, in_select}
 
 -- what is looked for, and how in the expression of an assignment and of a RETURN
@@ -109,6 +109,10 @@ as_word n = record { word = is n; called = is n }
 -- calls of these functions, wherever they stand
 abbrev pub calls_of : List Name → Sought
 calls_of names = record { word = λ m. false; called = λ m. is_among m names }
+
+-- names that are kept for the queries that are written
+abbrev pub kept_words : Sought
+kept_words = record { word = is_kept; called = is_kept }
 
 abbrev pub by_word : Name → Looking
 by_word n = record {

@@ -6,13 +6,15 @@ ghost use Rattle.away_names.specs.Lookups.{is_among as is_among_by};
 ghost use Rattle.moved_names.specs.Finding.{holds};
 ghost use Rattle.moved_names.specs.Seeking.{sought};
 
+use away_names::lookups::is_kept;
 use away_values::Name;
 
-/// A word, or calls of some functions.
+/// A word, calls of some functions, or any name that is kept for the queries that are written.
 #[derive(Clone, Copy)]
 pub enum Sought<'a> {
     Word(&'a Name),
     Calls(&'a [Name]),
+    Kept,
 }
 
 pub fn is_among(n: &Name, names: &[Name]) -> bool
@@ -32,6 +34,7 @@ pub(crate) fn is_word(s: Sought<'_>, m: &Name) -> bool
     match s {
         Sought::Word(n) => m.text() == n.text(),
         Sought::Calls(_) => false,
+        Sought::Kept => is_kept(m),
     }
 }
 
@@ -41,6 +44,7 @@ pub(crate) fn is_called(s: Sought<'_>, m: &Name) -> bool
     match s {
         Sought::Word(n) => m.text() == n.text(),
         Sought::Calls(names) => is_among(m, names),
+        Sought::Kept => is_kept(m),
     }
 }
 

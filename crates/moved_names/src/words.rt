@@ -70,7 +70,7 @@ fn beside(s: Sought<'_>, e: &Expr) -> bool
     ensures { result ≡ spec.beside (seeking.sought s.entry) (seeking.functions s.entry) e.now }
 {
     match s {
-        Sought::Word(_) => in_expr(s, e),
+        Sought::Word(_) | Sought::Kept => in_expr(s, e),
         Sought::Calls(names) => beside_calls(s, names, e),
     }
 }

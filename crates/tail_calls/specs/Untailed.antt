@@ -13,8 +13,8 @@ use Rattle.function_printer.specs.FunctionTexts.{function_text}
 use Rattle.plsql_parse.specs.Refusals.{Exceeds, MayBeRead}
 use Rattle.tail_calls.specs.declared.refusals.Grown.{Grown}
 use Rattle.tail_calls.specs.declared.refusals.Grown.TheVariants as grown
-use Rattle.tail_calls.specs.declared.refusals.UntailRefusal.{UntailRefusal}
-use Rattle.tail_calls.specs.declared.refusals.UntailRefusal.TheVariants as refusal
+use Rattle.tail_calls.specs.declared.refusals.WriteRefusal.{WriteRefusal}
+use Rattle.tail_calls.specs.declared.refusals.WriteRefusal.TheVariants as refusal
 
 -- the most bytes of a function's file
 abbrev pub most_bytes : ℕ
@@ -52,7 +52,7 @@ Outgrows text grown.Bytes found =
     ((f : Function) × ReadsWithin text f) × (found ≡ length text) × (most_bytes < found)
 
 -- a text that outgrows a limit, by what is told
-abbrev pub RefusesText : List ℕ → UntailRefusal → Type 0
+abbrev pub RefusesText : List ℕ → WriteRefusal → Type 0
 RefusesText text (refusal.Limit which found) = Outgrows text which found
 RefusesText text refusal.NoMemory = Unit {0}
 
@@ -79,6 +79,6 @@ pub record Outgrown (s : Schema) (f : Function) (which : Grown) (found : ℕ) : 
   pub outgrows : Outgrows text which found
 
 -- by what is told
-abbrev pub Refuses : Schema → Function → UntailRefusal → Type 0
+abbrev pub Refuses : Schema → Function → WriteRefusal → Type 0
 Refuses s f (refusal.Limit which found) = Outgrown s f which found
 Refuses s f refusal.NoMemory = Unit {0}

@@ -5,6 +5,6 @@ mod refusals;
 mod self_caller;
 mod written;
 
-pub use refusals::{Grown, SelfRefusal, UntailRefusal};
+pub use refusals::{Grown, SelfRefusal, WriteRefusal};
 pub use self_caller::check_self;
-pub use written::{Untailed, untail};
+pub use written::{Untailed, read_back, untail};

@@ -36,22 +36,22 @@ pub enum Grown {
     Bytes,
 }
 
-/// Why no function without self calls is written.
+/// Why a function that was made isn't written.
 #[derive(Clone, Copy, Debug, PartialEq, Eq, Error)]
-pub enum UntailRefusal {
+pub enum WriteRefusal {
     #[error("{found} would be written, which is more than a limit allows")]
     Limit { which: Grown, found: u64 },
     #[error("no memory was left")]
     NoMemory,
 }
 
-impl From<NoMemory> for UntailRefusal {
+impl From<NoMemory> for WriteRefusal {
     ghost use Rattle.std.specs.Prelude.{◌≡◌};
-    ghost use Rattle.tail_calls.specs.declared.refusals.UntailRefusal.TheVariants.{NoMemory};
+    ghost use Rattle.tail_calls.specs.declared.refusals.WriteRefusal.TheVariants.{NoMemory};
 
     ghost from_gives = { λ _ e. e ≡ NoMemory };
 
-    fn from(_error: NoMemory) -> UntailRefusal {
-        UntailRefusal::NoMemory
+    fn from(_error: NoMemory) -> WriteRefusal {
+        WriteRefusal::NoMemory
     }
 }

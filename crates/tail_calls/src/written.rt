@@ -3,11 +3,11 @@
 ghost use Rattle.std.specs.Prelude.{◌≡◌, ◌≤◌, IfErr, IfOk, List, length, string_bytes, ℕ};
 ghost use Rattle.away_trees.specs.Limits.{KeepsLimits};
 ghost use Rattle.call_answers.specs.Laws.{AnswersLikeSelfCaller};
-ghost use Rattle.tail_calls.specs.declared.refusals.UntailRefusal.TheVariants.{Limit};
+ghost use Rattle.tail_calls.specs.declared.refusals.WriteRefusal.TheVariants.{Limit};
 ghost use Rattle.plsql_parse.specs.Refusals.{Refuses};
 ghost use Rattle.tail_calls.specs.Untailed as spec;
 
-use crate::refusals::{Grown, UntailRefusal};
+use crate::refusals::{Grown, WriteRefusal};
 use away_lex::{LimitKind, ReadRefusal};
 use away_trees::{Function, Schema};
 use away_types::{CheckedFunction, CheckedSchema};
@@ -49,19 +49,19 @@ fn grown(which: LimitKind) -> Grown
     }
 }
 
-fn limit(which: Grown, found: u64) -> UntailRefusal
+fn limit(which: Grown, found: u64) -> WriteRefusal
     ensures { result ≡ Limit which found }
 {
-    UntailRefusal::Limit { which, found }
+    WriteRefusal::Limit { which, found }
 }
 
 /// Why a text that isn't read isn't written.
-fn outgrown(error: ReadRefusal) -> UntailRefusal
+fn outgrown(error: ReadRefusal) -> WriteRefusal
     ensures { (text : List ℕ) → Refuses text error → spec.RefusesText text result }
 {
     match error {
         ReadRefusal::Limit { which, found } => limit(grown(which), found),
-        _ => UntailRefusal::NoMemory,
+        _ => WriteRefusal::NoMemory,
     }
 }
 
@@ -72,7 +72,7 @@ fn boxed(alloc: Global, f: Function) -> Result<Boxed<Function>, NoMemory>
 }
 
 /// The function that a text reads as.
-fn read_again(alloc: Global, text: &str) -> Result<Boxed<Function>, UntailRefusal>
+fn read_again(alloc: Global, text: &str) -> Result<Boxed<Function>, WriteRefusal>
     ensures ok { IfOk result (λ f. spec.ReadsWithin text.now f) }
     ensures err { IfErr result (λ e. spec.RefusesText text.now e) }
 {
@@ -83,7 +83,7 @@ fn read_again(alloc: Global, text: &str) -> Result<Boxed<Function>, UntailRefusa
 }
 
 /// Whether a text that reads as a function has no more bytes than a file of one.
-fn fits(text: &str, f: &Function) -> Result<(), UntailRefusal>
+fn fits(text: &str, f: &Function) -> Result<(), WriteRefusal>
     requires { spec.ReadsWithin text.now f.now }
     ensures ok { IfOk result (λ x. length text.now ≤ spec.most_bytes) }
     ensures err { IfErr result (λ e. spec.RefusesText text.now e) }
@@ -96,7 +96,7 @@ fn fits(text: &str, f: &Function) -> Result<(), UntailRefusal>
 }
 
 /// The function that a text reads as, where the text may be the file of a function.
-fn read_back(alloc: Global, text: &str) -> Result<Boxed<Function>, UntailRefusal>
+pub fn read_back(alloc: Global, text: &str) -> Result<Boxed<Function>, WriteRefusal>
     ensures ok { IfOk result (λ f. spec.IsFileOf text.now f) }
     ensures err { IfErr result (λ e. spec.RefusesText text.now e) }
 {
@@ -125,7 +125,7 @@ fn answering(
 /// The text of the function with its self calls as turns of a loop. What is written is read again, judged, and compared with the
 /// function: a text that doesn't answer as the function does is never given. That none is such is shown by tests alone, and would
 /// be answered as want of memory.
-pub fn untail(alloc: Global, s: &CheckedSchema, f: &Function) -> Result<Untailed, UntailRefusal>
+pub fn untail(alloc: Global, s: &CheckedSchema, f: &Function) -> Result<Untailed, WriteRefusal>
     ensures ok { IfOk result (λ u. spec.IsUntailed s.now.schema f.now (string_bytes u.text)
         u.checked.function u.checked.slots) }
     ensures err { IfErr result (λ e. spec.Refuses s.now.schema f.now e) }

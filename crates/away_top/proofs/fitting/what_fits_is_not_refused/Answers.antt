@@ -1,4 +1,5 @@
-use Rattle.away_top.proofs.Unrefused.{cert_unrefused, function_kept_over, query_kept_over, row_query_kept_over, schema_unrefused, self_caller_unrefused}
+use Rattle.away_top.proofs.ProgramEnds.{program_unrefused}
+use Rattle.away_top.proofs.Unrefused.{cert_unrefused, function_kept_over, query_kept_over, read_unrefused, row_query_kept_over, schema_unrefused, self_caller_unrefused}
 use Rattle.away_top.proofs.fitting.what_fits_is_not_refused.Goals as goal
 
 pub returns-clause-schema : goal.returns-clause-schema
@@ -9,6 +10,12 @@ returns-clause-function c = λ schema bytes rule f. function_kept_over schema by
 
 pub returns-clause-self_caller : goal.returns-clause-self_caller
 returns-clause-self_caller c = λ schema bytes rule f. self_caller_unrefused schema bytes f rule
+
+pub returns-clause-readable : goal.returns-clause-readable
+returns-clause-readable c = λ bytes rule f. read_unrefused bytes f.written f.reads_as rule
+
+pub returns-clause-program : goal.returns-clause-program
+returns-clause-program c = λ schema program file rule p. program_unrefused schema program p file rule
 
 pub returns-clause-query : goal.returns-clause-query
 returns-clause-query c = λ schema bytes rule q. query_kept_over schema bytes q rule

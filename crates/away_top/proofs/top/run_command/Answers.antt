@@ -17,6 +17,10 @@ pub returns-in-Untail : goal.returns-in-Untail
 returns-in-Untail g c =
     subst (λ (x : Command). Runs g.F.Files c.args.files.now (course_of (as_command x)) c.untail.new.files (run_end c.untail.result)) (sym c.in-Untail.is) c.untail.ensures
 
+pub returns-in-Expand : goal.returns-in-Expand
+returns-in-Expand g c =
+    subst (λ (x : Command). Runs g.F.Files c.args.files.now (course_of (as_command x)) c.expand.new.files (run_end c.expand.result)) (sym c.in-Expand.is) c.expand.ensures
+
 pub returns-in-Format : goal.returns-in-Format
 returns-in-Format g c =
     subst (λ (x : Command). Runs g.F.Files c.args.files.now (course_of (as_command x)) c.format.new.files (run_end c.format.result)) (sym c.in-Format.is)

@@ -1,8 +1,10 @@
-use Rattle.call_answers.proofs.LeafRules.{next_turn_rule, return_rule}
+use Rattle.away_trees.specs.declared.statements.Stmt.TheVariants as stmt
+use Rattle.call_answers.proofs.CallBlockRules.{return_stands}
+use Rattle.call_answers.proofs.LeafRules.{by_turns}
 use Rattle.call_answers.proofs.leaves.return_becomes.Goals as goal
 
-pub returns-in-Return : goal.returns-in-Return
-returns-in-Return c = λ yes. return_rule c.args.w.now c.args.c.now c.args.e.now c.in-Return.y c.args.x.now c.as_slice-pairs.result.now c.as_slice-pairs.ensures c.in-Return.is c.in-Nobody.ensures (c.same_expr.ensures yes)
+pub returns-in-Turns : goal.returns-in-Turns
+returns-in-Turns c = λ yes. by_turns c.args.w.now c.args.c.now c.in-Turns.label (stmt.Return c.args.e.now) c.args.x.now c.in-Turns.is (c.return_turns.ensures yes)
 
-pub returns-in-Itself : goal.returns-in-Itself
-returns-in-Itself c = λ yes. next_turn_rule c.args.w.now c.args.c.now c.args.e.now c.in-Itself.args.now c.args.x.now c.as_slice-pairs.result.now c.as_slice-pairs.ensures c.in-Itself.ensures (c.is_next_turn.ensures yes)
+pub returns-in-Expanded : goal.returns-in-Expanded
+returns-in-Expanded c = λ yes. return_stands c.args.w.now c.args.c.now c.in-Expanded.by c.args.e.now c.args.x.now c.in-Expanded.is (c.value_stands.ensures yes)

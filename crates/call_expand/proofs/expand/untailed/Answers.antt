@@ -1,5 +1,6 @@
-use Rattle.std.proofs.Common.{◌≡◌, ap, sym, subst, ◌∙◌, suc, ◌≤◌, length, arith}
+use Rattle.std.proofs.Common.{◌≡◌, refl, ap, sym, subst, ◌∙◌, suc, ◌≤◌, length, arith}
 use Rattle.moved_names.specs.Fresh.{AreFresh}
+use Rattle.call_expand.specs.declared.made.Plan.TheVariants as plan
 use Rattle.call_expand.specs.Moving.{moved_params, seeing_params}
 use Rattle.call_expand.specs.Untailing.{IsUntailing, old_body, turning_body}
 use Rattle.call_expand.proofs.UntailingRules.{old_body_is, is_untailing}
@@ -14,7 +15,7 @@ returns c =
     let fresh = subst (λ l. AreFresh s l names) c.from_ref.ensures.value c.in_ok-names.ensures.are in
     let walked : m ≡ old_body names f =
     c.in_ok-old.ensures
-    ∙ (old_body_is (record { names = c.as_slice-2.result; f = c.args.f }) c.in_ok-seen.seen c.in_ok-next.field-0 (c.in_ok-seen.ensures ∙ ap (λ ps. seeing_params 0 ps) c.as_slice.ensures) (c.in_ok-next.ensures ∙ ap (λ k. suc k) c.in_ok-label.ensures)
+    ∙ (old_body_is (record { names = c.as_slice-2.result; plan = plan.Untail c.args.f }) f c.in_ok-seen.seen c.in_ok-next.field-0 refl refl (c.in_ok-seen.ensures ∙ ap (λ ps. seeing_params 0 ps) c.as_slice.ensures) (c.in_ok-next.ensures ∙ ap (λ k. suc k) c.in_ok-label.ensures)
     ∙ ap (λ ns. old_body ns f) c.as_slice-2.ensures) in
     let few : m.next ≤ length names = omega (arith, c.in_ok-old.used-is, c.if-used-len.false, c.len.ensures) in
     let params = c.in_ok-moved_params.ensures ∙ (λ i. moved_params (c.as_slice-3.ensures i) 0 (c.as_slice-4.ensures i)) in

@@ -1,0 +1,16 @@
+pub mod WeighingRules
+pub mod WalkingRules
+pub mod Moved
+pub mod ExpandedWeights
+pub mod SumsAreCounts
+pub mod BalancedParts
+pub mod Balanced
+pub mod AlikeParts
+pub mod SameRoles
+pub mod ClosedSame
+pub mod SameDepths
+pub mod PartsSame
+pub mod ExpandedDepths
+pub mod PrintedDepths
+pub mod TokensNest
+pub mod HeadsClose

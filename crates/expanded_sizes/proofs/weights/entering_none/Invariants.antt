@@ -1,0 +1,5 @@
+use Rattle.std.proofs.Common.{◌≡◌, ◌<◌, ℕ, Some, None, get_or, length}
+use Rattle.expanded_sizes.proofs.weights.entering_none.Given as goal
+
+abbrev pub invariant-loop : goal.invariant-loop
+invariant-loop l = (length l.all ≡ l.counter) × ((i : ℕ) → i < length l.all → get_or l.all i None ≡ Some l.w.statement)

@@ -1,0 +1,4 @@
+pub mod FirstOnes
+pub mod Marking
+pub mod TakenNames
+pub mod Verdicts

@@ -1,0 +1,3 @@
+CREATE FUNCTION f() RETURNS bigint LANGUAGE plpgsql AS $$
+DECLARE x bigint; BEGIN FOR i IN 1..3 LOOP x := g(1); END LOOP; RETURN x; END;
+$$;

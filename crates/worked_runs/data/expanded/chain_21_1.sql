@@ -1,0 +1,3 @@
+CREATE FUNCTION g1() RETURNS bigint LANGUAGE plpgsql AS $$
+BEGIN RETURN g2(); END;
+$$;

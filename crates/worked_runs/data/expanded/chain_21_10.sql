@@ -1,0 +1,3 @@
+CREATE FUNCTION g10() RETURNS bigint LANGUAGE plpgsql AS $$
+BEGIN RETURN g11(); END;
+$$;

@@ -1,0 +1,3 @@
+CREATE FUNCTION g11() RETURNS bigint LANGUAGE plpgsql AS $$
+BEGIN RETURN g12(); END;
+$$;

@@ -1,0 +1,3 @@
+CREATE FUNCTION g12() RETURNS bigint LANGUAGE plpgsql AS $$
+BEGIN RETURN g13(); END;
+$$;

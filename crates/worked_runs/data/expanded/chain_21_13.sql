@@ -1,0 +1,3 @@
+CREATE FUNCTION g13() RETURNS bigint LANGUAGE plpgsql AS $$
+BEGIN RETURN g14(); END;
+$$;

@@ -1,0 +1,3 @@
+CREATE FUNCTION g14() RETURNS bigint LANGUAGE plpgsql AS $$
+BEGIN RETURN g15(); END;
+$$;

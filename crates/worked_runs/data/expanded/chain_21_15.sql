@@ -1,0 +1,3 @@
+CREATE FUNCTION g15() RETURNS bigint LANGUAGE plpgsql AS $$
+BEGIN RETURN g16(); END;
+$$;

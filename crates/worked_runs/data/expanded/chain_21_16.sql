@@ -1,0 +1,3 @@
+CREATE FUNCTION g16() RETURNS bigint LANGUAGE plpgsql AS $$
+BEGIN RETURN g17(); END;
+$$;

@@ -1,0 +1,3 @@
+CREATE FUNCTION g17() RETURNS bigint LANGUAGE plpgsql AS $$
+BEGIN RETURN g18(); END;
+$$;

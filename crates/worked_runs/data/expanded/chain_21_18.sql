@@ -1,0 +1,3 @@
+CREATE FUNCTION g18() RETURNS bigint LANGUAGE plpgsql AS $$
+BEGIN RETURN g19(); END;
+$$;

@@ -1,0 +1,3 @@
+CREATE FUNCTION g19() RETURNS bigint LANGUAGE plpgsql AS $$
+BEGIN RETURN g20(); END;
+$$;

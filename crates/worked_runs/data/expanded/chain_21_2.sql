@@ -1,0 +1,3 @@
+CREATE FUNCTION g2() RETURNS bigint LANGUAGE plpgsql AS $$
+BEGIN RETURN g3(); END;
+$$;

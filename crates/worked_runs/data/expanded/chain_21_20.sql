@@ -1,0 +1,3 @@
+CREATE FUNCTION g20() RETURNS bigint LANGUAGE plpgsql AS $$
+BEGIN RETURN g21(); END;
+$$;

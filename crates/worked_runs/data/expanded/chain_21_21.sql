@@ -1,0 +1,3 @@
+CREATE FUNCTION g21() RETURNS bigint LANGUAGE plpgsql AS $$
+BEGIN RETURN 1; END;
+$$;

@@ -1,0 +1,3 @@
+CREATE FUNCTION g3() RETURNS bigint LANGUAGE plpgsql AS $$
+BEGIN RETURN g4(); END;
+$$;

@@ -1,0 +1,3 @@
+CREATE FUNCTION g4() RETURNS bigint LANGUAGE plpgsql AS $$
+BEGIN RETURN g5(); END;
+$$;

@@ -1,0 +1,3 @@
+CREATE FUNCTION g5() RETURNS bigint LANGUAGE plpgsql AS $$
+BEGIN RETURN g6(); END;
+$$;

@@ -1,0 +1,3 @@
+CREATE FUNCTION g6() RETURNS bigint LANGUAGE plpgsql AS $$
+BEGIN RETURN g7(); END;
+$$;

@@ -1,0 +1,3 @@
+CREATE FUNCTION g7() RETURNS bigint LANGUAGE plpgsql AS $$
+BEGIN RETURN g8(); END;
+$$;

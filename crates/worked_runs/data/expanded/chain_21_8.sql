@@ -1,0 +1,3 @@
+CREATE FUNCTION g8() RETURNS bigint LANGUAGE plpgsql AS $$
+BEGIN RETURN g9(); END;
+$$;

@@ -1,0 +1,3 @@
+CREATE FUNCTION g9() RETURNS bigint LANGUAGE plpgsql AS $$
+BEGIN RETURN g10(); END;
+$$;

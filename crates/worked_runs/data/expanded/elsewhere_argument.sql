@@ -1,0 +1,3 @@
+CREATE FUNCTION f(n bigint) RETURNS bigint LANGUAGE plpgsql AS $$
+BEGIN RETURN g(g(n)); END;
+$$;

@@ -1,0 +1,3 @@
+CREATE FUNCTION f(n bigint) RETURNS bigint LANGUAGE plpgsql AS $$
+BEGIN FOR i IN 1..g(n) LOOP RETURN i; END LOOP; RETURN 0; END;
+$$;

@@ -1,0 +1,3 @@
+CREATE FUNCTION f(n bigint) RETURNS bigint LANGUAGE plpgsql AS $$
+BEGIN IF g(n) > 0 THEN RETURN 1; END IF; RETURN 0; END;
+$$;

@@ -1,0 +1,3 @@
+CREATE FUNCTION g(a bigint) RETURNS bigint LANGUAGE plpgsql AS $$
+BEGIN FOR i IN 1..5 LOOP FOR j IN 1..5 LOOP IF i * j = a THEN RETURN i; END IF; END LOOP; END LOOP; END;
+$$;

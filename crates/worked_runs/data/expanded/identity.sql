@@ -1,0 +1,3 @@
+CREATE FUNCTION f(a bigint) RETURNS bigint LANGUAGE plpgsql AS $$
+BEGIN RETURN a; END;
+$$;

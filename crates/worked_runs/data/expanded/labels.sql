@@ -1,0 +1,3 @@
+CREATE FUNCTION f() RETURNS bigint LANGUAGE plpgsql AS $$
+BEGIN <<l>> LOOP <<l>> LOOP EXIT l; END LOOP l; EXIT l; END LOOP l; END;
+$$;

@@ -1,0 +1,1 @@
+CREATE FUNCTION g(a bigint) RETURNS bigint LANGUAGE plpgsql;

@@ -1,0 +1,3 @@
+CREATE FUNCTION f(n bigint) RETURNS text LANGUAGE plpgsql AS $$
+BEGIN RETURN (SELECT t.v FROM t ORDER BY n, t.k DESC LIMIT 1); END;
+$$;

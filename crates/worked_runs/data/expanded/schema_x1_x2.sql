@@ -1,0 +1,1 @@
+CREATE TABLE x1 (x2 bigint);

@@ -1,0 +1,3 @@
+CREATE FUNCTION f() RETURNS text LANGUAGE plpgsql AS $$
+BEGIN RETURN '$q1$'; END;
+$$;

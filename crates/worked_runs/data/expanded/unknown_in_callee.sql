@@ -1,0 +1,3 @@
+CREATE FUNCTION g(a bigint) RETURNS bigint LANGUAGE plpgsql AS $$
+BEGIN RETURN zz; END;
+$$;

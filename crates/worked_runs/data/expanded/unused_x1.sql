@@ -1,0 +1,3 @@
+CREATE FUNCTION g(x1 bigint) RETURNS bigint LANGUAGE plpgsql AS $$
+BEGIN RETURN x1; END;
+$$;
