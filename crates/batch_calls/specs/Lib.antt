@@ -1,3 +1,2 @@
 pub mod CallTables
-pub mod Written
 pub mod Batches

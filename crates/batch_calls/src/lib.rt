@@ -2,7 +2,6 @@
 #![tactic(auto)]
 
 mod batches;
-mod same;
 mod tables;
 mod trees;
 mod written;

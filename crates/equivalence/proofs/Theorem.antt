@@ -1,5 +1,5 @@
 -- The three laws of the forms together: turns become visits, and visits become iterations.
-use Rattle.std.proofs.Common.{◌≡◌, ◌≢◌, ℕ, zero, suc, ◌+◌, ◌*◌, ◌<◌, ◌≤◌, ◌^◌, List, [], ◌∷◌, length, map, refl, ap, sym, ◌∙◌, subst, arith}
+use Rattle.std.proofs.Common.{◌≡◌, ◌≢◌, ℕ, zero, suc, ◌+◌, ◌*◌, ◌<◌, ◌≤◌, ◌^◌, List, [], ◌∷◌, length, refl, ap, sym, ◌∙◌, subst, arith}
 use Rattle.std.specs.List.{AllZip}
 use Rattle.std.proofs.lemmas.List.{length-map}
 use Rattle.away_trees.specs.declared.queries.Query.{Query}
@@ -27,7 +27,7 @@ use Rattle.goto_law.specs.Law.{Meets, Keeps}
 use Rattle.cte_law.specs.QueryAnswers.{AnswersAs}
 use Rattle.cte_law.proofs.Composed.{more_before}
 use Rattle.ssa_check.specs.Naming.{NamedRunsInLockstep}
-use Rattle.equivalence.specs.Accepted.{AcceptedForms, EquivalentWith}
+use Rattle.equivalence.specs.Accepted.{AcceptedForms, EquivalentAtAll, EquivalentWith}
 
 zip_long : {X Y : Type 0} (R : X → Y → Type 0) (xs : List X) (ys : List Y) → AllZip R xs ys → length ys ≡ length xs
 zip_long R [] [] h = refl
@@ -81,38 +81,43 @@ module _ (w : ℕ) (positive : 0 < w) (f : ℕ → Answer) (runs : ℕ → Ran) 
 
 -- ---- over all
 
-pub equivalent : (s : Schema) (f : Function) (slots : List Slot) (forms : Forms) (q : Query) → length s.tables < 2 ^ 64
-    → AcceptedForms s f slots forms q → Keeps f slots forms.goto → NamedRunsInLockstep
-    → ((tables : List Rows) (args : List Value) → length tables ≡ length s.tables → length tables < 2 ^ 64
-    → AnswersAs q tables args (ssa_runs (frame_of f (length slots) forms.goto tables) forms.ssa args))
-    → EquivalentWith s f slots q
-equivalent s f slots forms q small accepted keeps lockstep laws = record {
-  ends = λ tables args n fit typed more.
-      ends (weight f) (weighs f) (own tables args) (runs tables args) (meets tables args typed) q tables args (at tables args fit) n more;
-  goes_on = λ tables args n fit typed more.
-      goes_on (weight f) (weighs f) (own tables args) (runs tables args) (meets tables args typed) q tables args (at tables args fit) n more;
-  only = λ tables args k fit typed more.
-      only (weight f) (weighs f) (own tables args) (runs tables args) (meets tables args typed) q tables args (at tables args fit) k more;
-}
-  where
-    own : (tables : List Rows) (args : List Value) → ℕ → Answer
-    own = answers f (typed_slots slots)
+module _ (s : Schema) (f : Function) (slots : List Slot) (forms : Forms) (q : Query) (small : length s.tables < 2 ^ 64) (accepted : AcceptedForms s f slots forms q)
+    (keeps : Keeps f slots forms.goto) (lockstep : NamedRunsInLockstep)
+    (laws : (tables : List Rows) (args : List Value) → length tables ≡ length s.tables → length tables < 2 ^ 64
+    → AnswersAs q tables args (ssa_runs (frame_of f (length slots) forms.goto tables) forms.ssa args)) where
+  abbrev own : (tables : List Rows) (args : List Value) → ℕ → Answer
+  own = answers f (typed_slots slots)
 
-    runs : (tables : List Rows) (args : List Value) → ℕ → Ran
-    runs tables args = ssa_runs (frame_of f (length slots) forms.goto tables) forms.ssa args
+  abbrev runs : (tables : List Rows) (args : List Value) → ℕ → Ran
+  runs tables args = ssa_runs (frame_of f (length slots) forms.goto tables) forms.ssa args
 
-    at : (tables : List Rows) (args : List Value) → FitsSchema s tables → AnswersAs q tables args (runs tables args)
-    at tables args fit =
-        let many : length tables ≡ length s.tables = zip_long FitsTable s.tables tables fit in
-        laws tables args many (subst (λ n. n < 2 ^ 64) (sym many) small)
+  at : (tables : List Rows) (args : List Value) → FitsSchema s tables → AnswersAs q tables args (runs tables args)
+  at tables args fit =
+      let many : length tables ≡ length s.tables = zip_long FitsTable s.tables tables fit in
+      laws tables args many (subst (λ n. n < 2 ^ 64) (sym many) small)
 
-    as_many : (args : List Value) → AreTyped (types_of f) args → length args ≡ length f.params
-    as_many args typed = zip_long (λ t v. HasType v t) (types_of f) args typed ∙ length-map f.params (λ (p : List ℕ × Ty). p.1)
+  as_many : (args : List Value) → AreTyped (types_of f) args → length args ≡ length f.params
+  as_many args typed = zip_long (λ t v. HasType v t) (types_of f) args typed ∙ length-map f.params (λ (p : List ℕ × Ty). p.1)
 
-    meets : (tables : List Rows) (args : List Value) → AreTyped (types_of f) args → (n : ℕ)
-        → Meets (own tables args n) (runs tables args (suc n * weight f)) n
-    meets tables args typed n =
-        let long = as_many args typed in
-        subst (λ (run : Ran). Meets (own tables args n) run n)
-        (lockstep (frame_of f (length slots) forms.goto tables) forms.ssa accepted.named args long (suc n * weight f))
-        (keeps.answers tables args long n)
+  meets_at : (tables : List Rows) (args : List Value) → length args ≡ length f.params → (n : ℕ) → Meets (own tables args n) (runs tables args (suc n * weight f)) n
+  meets_at tables args long n =
+      subst (λ (run : Ran). Meets (own tables args n) run n)
+      (lockstep (frame_of f (length slots) forms.goto tables) forms.ssa accepted.named args long (suc n * weight f))
+      (keeps.answers tables args long n)
+
+  pub equivalent_at_all : EquivalentAtAll s f slots q
+  equivalent_at_all = record {
+    ends = λ tables args n fit long more.
+        ends (weight f) (weighs f) (own tables args) (runs tables args) (meets_at tables args long) q tables args (at tables args fit) n more;
+    goes_on = λ tables args n fit long more.
+        goes_on (weight f) (weighs f) (own tables args) (runs tables args) (meets_at tables args long) q tables args (at tables args fit) n more;
+    only = λ tables args k fit long more.
+        only (weight f) (weighs f) (own tables args) (runs tables args) (meets_at tables args long) q tables args (at tables args fit) k more;
+  }
+
+  pub equivalent : EquivalentWith s f slots q
+  equivalent = record {
+    ends = λ tables args n fit typed more. equivalent_at_all.ends tables args n fit (as_many args typed) more;
+    goes_on = λ tables args n fit typed more. equivalent_at_all.goes_on tables args n fit (as_many args typed) more;
+    only = λ tables args k fit typed more. equivalent_at_all.only tables args k fit (as_many args typed) more;
+  }

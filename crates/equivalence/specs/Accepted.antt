@@ -1,12 +1,15 @@
 -- The relations between a function, the forms that lead to its query and the query, and what all
 -- promise together.
-use Rattle.std.specs.Prelude.{List, length}
+use Rattle.std.specs.Prelude.{◌≡◌, List, length}
+use Rattle.away_trees.specs.Count.{weight}
+use Rattle.away_trees.specs.Fits.{FitsSchema}
 use Rattle.away_trees.specs.declared.queries.Query.{Query}
 use Rattle.away_trees.specs.declared.schemas.Schema.{Schema}
 use Rattle.away_trees.specs.declared.statements.Function.{Function}
 use Rattle.away_types.specs.TypedSlots.{typed_slots}
 use Rattle.away_types.specs.declared.slots.Slot.{Slot}
-use Rattle.plsql_meaning.specs.Equivalent.{Equivalent}
+use Rattle.sql_meaning.specs.Equivalent.{IsEquivalent}
+use Rattle.plsql_meaning.specs.Equivalent.{Equivalent, answers}
 use Rattle.block_forms.specs.Lowered.{Lowered as IsLowered}
 use Rattle.block_forms.specs.Named.{Named as IsNamed}
 use Rattle.call_forms.specs.declared.forms.Forms.{Forms}
@@ -51,3 +54,10 @@ module _ (s : Schema) (f : Function) (slots : List Slot) (forms : Forms) (q : Qu
 -- within k turns.
 abbrev pub EquivalentWith : Schema → Function → List Slot → Query → Type 0
 EquivalentWith s f slots q = Equivalent s f (typed_slots slots) q
+
+-- The same at as many arguments as there are parameters, whatever they are: an expression of a
+-- query may come to a value that no column of its type holds.
+abbrev pub EquivalentAtAll : Schema → Function → List Slot → Query → Type 0
+EquivalentAtAll s f slots q =
+    IsEquivalent (FitsSchema s) (λ args. length args ≡ length f.params) (weight f)
+    (answers f (typed_slots slots)) q

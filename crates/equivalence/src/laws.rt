@@ -6,7 +6,7 @@ ghost use Rattle.away_trees.specs.declared.schemas.Schema.{Schema};
 ghost use Rattle.away_trees.specs.declared.statements.Function.{Function};
 ghost use Rattle.away_types.specs.CheckedFunctions.{IsChecked};
 ghost use Rattle.call_forms.specs.declared.forms.Forms.{Forms};
-ghost use Rattle.equivalence.specs.Accepted.{AcceptedForms, EquivalentWith};
+ghost use Rattle.equivalence.specs.Accepted.{AcceptedForms, EquivalentAtAll, EquivalentWith};
 ghost use Rattle.equivalence.specs.Worked.{SignOfIsAccepted};
 
 use away_types::CheckedFunction;
@@ -22,6 +22,18 @@ pub fn accepted_forms_are_equivalent(f: &CheckedFunction)
         → IsChecked s written f.now.function f.now.slots → length s.tables < 2 ^ 64
         → AcceptedForms s f.now.function f.now.slots forms q
         → EquivalentWith s f.now.function f.now.slots q }
+{
+    forms_of_checked_functions_keep_answers(f);
+    naming_keeps_answers();
+    forms_answer_as_the_query();
+}
+
+/// The same at as many arguments as there are parameters, whatever these are.
+pub fn accepted_forms_are_equivalent_at_all(f: &CheckedFunction)
+    ensures { (s : Schema) (written : Function) (forms : Forms) (q : Query)
+        → IsChecked s written f.now.function f.now.slots → length s.tables < 2 ^ 64
+        → AcceptedForms s f.now.function f.now.slots forms q
+        → EquivalentAtAll s f.now.function f.now.slots q }
 {
     forms_of_checked_functions_keep_answers(f);
     naming_keeps_answers();

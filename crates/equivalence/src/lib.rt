@@ -4,5 +4,7 @@
 mod laws;
 mod relation;
 
-pub use laws::{accepted_forms_are_equivalent, worked_forms_are_accepted};
+pub use laws::{
+    accepted_forms_are_equivalent, accepted_forms_are_equivalent_at_all, worked_forms_are_accepted,
+};
 pub use relation::Relation;

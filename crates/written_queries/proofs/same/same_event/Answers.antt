@@ -6,7 +6,7 @@ use lib.Utf8.{encodes as encode_all}
 use Rattle.std.specs.Cmp.Lexicographic.{bytes_decides}
 use Rattle.std.proofs.lemmas.Bool.Decides.{Decides-at}
 use Rattle.tree_events.specs.declared.events.TreeEvent.TheVariants as event
-use Rattle.batch_calls.proofs.same.same_event.Goals as goal
+use Rattle.written_queries.proofs.same.same_event.Goals as goal
 
 text_same : (xs ys : List ℕ) → event.Text xs ≡ event.Text ys → xs ≡ ys
 text_same xs ys e = cc

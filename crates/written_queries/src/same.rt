@@ -67,7 +67,7 @@ fn same_events(left: &[TreeEvent], right: &[TreeEvent]) -> bool
 }
 
 /// Whether two queries are one, names of aliases and columns aside.
-pub(crate) fn same_tree(alloc: Global, left: &Query, right: &Query) -> Result<bool, NoMemory>
+pub fn same_tree(alloc: Global, left: &Query, right: &Query) -> Result<bool, NoMemory>
     ensures { IfOk result (λ yes. IsTrue yes ↔ (bare left.now ≡ bare right.now)) }
 {
     events_determine_queries();

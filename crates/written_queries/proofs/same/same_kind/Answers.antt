@@ -1,6 +1,6 @@
 use Rattle.std.proofs.Common.{sym, ◌∙◌}
 use Rattle.cte_reads.proofs.SameKind.{same_kinds}
-use Rattle.batch_calls.proofs.same.same_kind.Goals as goal
+use Rattle.written_queries.proofs.same.same_kind.Goals as goal
 
 pub returns : goal.returns
 returns c =

@@ -3,7 +3,7 @@ use Rattle.tree_events.specs.declared.events.TreeEvent.{TreeEvent}
 use Rattle.block_forms.proofs.Pairs.{pairs_more, pairs_all, pair_at}
 use Rattle.block_forms.proofs.Verdicts.{passed, refuted}
 use Rattle.block_forms.proofs.SameLists.{same_at_places, each_same}
-use Rattle.batch_calls.proofs.same.same_at_places.Goals as goal
+use Rattle.written_queries.proofs.same.same_at_places.Goals as goal
 
 pub loop-i-preserved : goal.loop-i-preserved
 loop-i-preserved c =
