@@ -9,6 +9,7 @@ TABLE = "CREATE TABLE t (v bigint);"
 FN = ["fn", "100", "s.sql", "f.sql", "d"]
 SQL = ["sql", "100", "s.sql", "q.sql", "d"]
 COMPILE = ["compile", "s.sql", "f.sql"]
+INLINE = ["inline", "s.sql", "q.sql", "f.sql"]
 EXPAND = ["expand", "s.sql", "f.sql"]
 CERTIFY = ["certify", "s.sql", "f.sql"]
 CHECK = ["check", "s.sql", "f.sql", "q.sql", "c.json"]

@@ -1,6 +1,6 @@
 """The limits of what is read, each at its number and one above, with the line that is answered."""
 
-from case import CERTIFY, COMPILE, EXPAND, FILE, FN, FUNCTION, NULL, SQL, TEXT, Case, function, one_row
+from case import CERTIFY, COMPILE, EXPAND, FILE, FN, FUNCTION, INLINE, NULL, SQL, TEXT, Case, function, one_row
 
 DEEP = (8192, 4096)  # KiB of stack for queries of 256 pairs in one another
 AROUND = {
@@ -131,6 +131,18 @@ def expanded():
         yield from of_program(f"{depth} levels of ten calls each", function("RETURN g0(); " * 10), tens, f"refused f.sql E4 nodes {found}")
 
 
+def inlined():
+    """What `inline` would write, at the nesting of what is read and above it: a call's argument stands within two pairs there."""
+    callee = function("RETURN a;", "a bigint")
+    for depth, line in ((254, None), (255, "refused q.sql I4 257")):
+        for name in ("CASE expressions", "subqueries", "COALESCEs"):
+            begin, end = AROUND_VALUE[name]
+            files = {"q.sql": f"SELECT f({begin * depth}1{end * depth})", "f.sql": callee}
+            yield Case(f"a call of {depth} {name} in one another, inlined", files, INLINE, line, 0, stacks=DEEP)
+        files = {"q.sql": "SELECT " + "CASE WHEN TRUE THEN " * depth + "f(1)" + " END" * depth, "f.sql": callee}
+        yield Case(f"a call in {depth} CASE expressions, inlined", files, INLINE, line, 0, stacks=DEEP)
+
+
 def words():
     """Arguments as long as Linux takes them, which is less than a text may be: 131,071 bytes each, and together a quarter of the stack, at most 6 MiB."""
     each = [f"CAST(${i} AS text)" for i in range(1, 65)]
@@ -142,5 +154,5 @@ def words():
 
 
 def limits():
-    for part in (nesting, counts, lengths, expanded, words):
+    for part in (nesting, counts, lengths, expanded, inlined, words):
         yield from part()

@@ -20,7 +20,7 @@ use Rattle.away_top.specs.AnswerLines.{answer_end, value_line}
 use Rattle.away_top.specs.RowRecords.{records_text, rows_end}
 use Rattle.away_top.specs.Arguments.{bound_of}
 use Rattle.away_top.specs.BatchCourse.{EndsWith, batch_course, place_of}
-use Rattle.away_top.specs.Commands.{Command, batch, check, command_of, compile, course, course_of, demo, expand, format, help, no_form, over_tables, untail, version}
+use Rattle.away_top.specs.Commands.{Command, batch, check, command_of, compile, course, course_of, demo, expand, format, help, inline, no_form, over_tables, untail, version}
 use Rattle.cert_json.specs.Forms.{Cert}
 use Rattle.stage_check.specs.declared.verdict.Verdict.TheVariants.{Accepted, Fails}
 use Rattle.away_top.specs.Certificates.{RefusesCert, cert_course}
@@ -39,9 +39,12 @@ use Rattle.plsql_parse.specs.Refusals as functions
 use Rattle.away_trees.specs.declared.statements.Function.{Function}
 use Rattle.away_top.specs.FormatCourse.{format_course}
 use Rattle.away_top.specs.ExpandCourse as expands
+use Rattle.away_top.specs.InlineCourse as inlines
 use Rattle.away_top.specs.UntailCourse as untails
 use Rattle.away_top.specs.Refusals.{RefusesFunction, RefusesRead, RefusesQuery, RefusesRowQuery, RefusesSchema}
 use Rattle.away_top.specs.Runs.{ended, Follows}
+use Rattle.away_trees.specs.declared.queries.Query.{Query}
+use Rattle.away_top.proofs.InlineRefusals.{told_refused}
 
 -- a status that a command ends with by itself
 abbrev pub IsPlain : Status → Type 0
@@ -218,6 +221,22 @@ plain_expand schema main others text =
     (λ few. plain_then (schema_course schema) (expands.with_schema main few text) (λ bytes. (plain_refusal schema (RefusesSchema bytes), λ s. tt))
     (λ s. plain_then (expands.functions_course (main ∷ few)) (expands.with_functions main few text s) (plain_functions [] (main ∷ few)) (plain_program_files main few text s)))
 
+-- ---- calls in a query
+
+plain_inline_end : (query func : List ℕ) (s : Schema) (q : Query) (f : Callable) (text : List ℕ) → ArePlain (inlines.EndsWith query func s q f text)
+plain_inline_end query func s q f text status output (inl (is, e)) = subst IsPlain (sym e.0) tt
+plain_inline_end query func s q f text status output (inr (e, is, told)) = subst IsPlain (sym (told_refused query func e status output told)) tt
+
+plain_inline : (schema query func text : List ℕ) → IsPlainCourse (inlines.inline_course schema query func text)
+plain_inline schema query func text =
+    λ bytes. (
+      plain_refusal schema (RefusesSchema bytes),
+      λ s others. (
+        plain_refusal query (inlines.RefusesText others),
+        λ q more. (plain_refusal func (RefusesFunction s.schema more), λ f. plain_inline_end query func s.schema q.written (callable_of s.schema f.written) text),
+      ),
+    )
+
 -- ---- a text
 
 plain_format : (func : List ℕ) → IsPlainCourse (format_course func)
@@ -239,6 +258,7 @@ plain_command (batch schema func table) text = plain_batch schema func table tex
 plain_command (check schema func query cert) text = plain_check schema func query cert
 plain_command (untail schema func) text = plain_untail schema func text
 plain_command (expand schema main others) text = plain_expand schema main others text
+plain_command (inline schema query func) text = plain_inline schema query func text
 plain_command (format func) text = plain_format func
 plain_command (demo number) text = plain_shown (bound_of number) text
 plain_command (over_tables what bound schema file dir args) text = plain_run what bound schema file dir args

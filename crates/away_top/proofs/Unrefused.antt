@@ -27,6 +27,7 @@ use Rattle.away_top.specs.UntailCourse.{IsSelfCallerFile, IsSelfRule, RefusesSel
 use Rattle.away_top.specs.declared.over_tables.program.Runnable.{Runnable}
 use Rattle.away_top.specs.declared.over_tables.program.Runnable.TheVariants as run
 use Rattle.away_top.specs.Certificates.{IsCert, IsCertRule, RefusesCert}
+use Rattle.away_top.specs.InlineCourse.{IsReadableQuery, RefusesText}
 use Rattle.away_top.specs.Files.{asked_of, callable_of, row_query_of}
 use Rattle.away_top.specs.Programs.{IsProgram, arguments_of, function, program_of, query, rows}
 use Rattle.away_top.specs.Refusals.{IsFunction, IsQuery, IsRowQuery, IsRule, IsSchema, ReadsAsFunction, RefusesFunction, RefusesQuery, RefusesRead, RefusesRowQuery, RefusesSchema}
@@ -87,6 +88,12 @@ row_query_kept_over schema bytes q rule (inr (other, read, breaks)) =
     let kept : IsUnbroken (rows_note schema other) = subst (λ r. IsUnbroken (rows_note schema r)) (one_text q.reads_as.reads read.reads) q.unbroken in
     let broken = breaks.least in
     cc
+
+-- what reads as a query is refused by no rule of its reader
+pub query_read_unrefused : (bytes : List ℕ) → IsReadableQuery bytes → (rule : List ℕ) → ¬ (RefusesText bytes rule)
+query_read_unrefused bytes q rule =
+    let read = q.reads_as in
+    read_kept (texts.Refuses (ReadsQuery bytes) bytes) rule (text_kept (ReadsQuery bytes) bytes read.may_be_read q.written read.reads)
 
 pub cert_unrefused : {bytes : List ℕ} → IsCert bytes → (rule : List ℕ) → ¬ (RefusesCert bytes rule)
 cert_unrefused {bytes = bytes} c rule h = subst (λ why. IsCertRule why rule) (cert_kept bytes c.cert c.reads_as h.0 h.1) h.2

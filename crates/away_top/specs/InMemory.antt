@@ -41,6 +41,7 @@ use Rattle.away_top.specs.DemoCourse.{IsShown}
 use Rattle.away_top.specs.Files.{asked_of, callable_of}
 use Rattle.away_top.specs.ExpandCourse.{AllHeld, AllRead, IsExpandedFor}
 use Rattle.away_top.specs.FormatCourse.{IsFormatted}
+use Rattle.away_top.specs.InlineCourse.{IsInlinedFor, IsReadableQuery, MayBeInlined}
 use Rattle.expanding.specs.Expanded.{Refuses as RefusesExpanded}
 use Rattle.program_check.specs.Refusing.{IsProgram as IsProgramOf}
 use Rattle.cert_json.specs.Lines.{IsLine}
@@ -210,6 +211,30 @@ abbrev pub Expanded : RoomySink → RoomySink → Status → List ℕ → List (
 Expanded before after result tables held =
     (result ≡ NoMemory)
     ⊎ ((text : List ℕ) × IsExpandedFor tables held text
+    × (length text ≤ before.room → IsWritten before after result text))
+
+-- ---- inline
+
+-- The files of the schema, the query and the function are held and within their limits. The schema
+-- and the function break no rule. The function's calls in the query may be replaced, whatever its
+-- forms are, and what is written nests no deeper than is read. No read is to fail.
+pub record MayInline (files : HeldFiles) (schema query func tables calling function : List ℕ)
+    : Type 0 where
+  pub holds_schema : held_at files.held schema ≡ Some tables
+  pub holds_query : held_at files.held query ≡ Some calling
+  pub holds_function : held_at files.held func ≡ Some function
+  pub fit_schema : IsFitSchema tables
+  pub short : length calling ≤ 67108864
+  pub is : IsReadableQuery calling
+  pub fit_function : IsFitFunction fit_schema.is.schema function
+  pub may : MayBeInlined fit_schema.is.schema is.written fit_function.is.written
+  pub no_failure : files.fails ≡ []
+
+-- Memory was wanting, or there is the text that the call writes, where the room holds it.
+abbrev pub InlinedIn : RoomySink → RoomySink → Status → List ℕ → List ℕ → List ℕ → Type 0
+InlinedIn before after result tables calling function =
+    (result ≡ NoMemory)
+    ⊎ ((text : List ℕ) × IsInlinedFor tables calling function text
     × (length text ≤ before.room → IsWritten before after result text))
 
 -- ---- demo

@@ -50,3 +50,7 @@ limit_rule which found = codes "X5 " ++ (limit_name which ++ (codes " " ++ decim
 -- the rule of what a function exceeds that would be written, with what is counted and the count
 abbrev pub growth_rule : Grown → ℕ → List ℕ
 growth_rule which found = codes "E4 " ++ (growth_name which ++ (codes " " ++ decimal found))
+
+-- the rule of a query that would be written, with its nesting
+abbrev pub nesting_rule : ℕ → List ℕ
+nesting_rule found = codes "I4 " ++ decimal found

@@ -38,6 +38,11 @@ pub(crate) enum Command<'a> {
         main: &'a str,
         others: &'a [String],
     },
+    Inline {
+        schema: &'a str,
+        query: &'a str,
+        func: &'a str,
+    },
     Check {
         schema: &'a str,
         func: &'a str,
@@ -105,7 +110,7 @@ impl<'a> Command<'a> {
         Command::named_of_calls(word, rest)
     }
 
-    /// The command of this name that writes a function with calls in another form.
+    /// The command of this name that writes a function or a query with calls in another form.
     fn named_of_calls(word: &str, rest: &'a [String]) -> Command<'a>
         ensures { as_command result ≡ asked_by call_forms word.now (map string_bytes rest.now) }
     {
@@ -114,6 +119,9 @@ impl<'a> Command<'a> {
         }
         if word == "expand" {
             return expand(rest);
+        }
+        if word == "inline" {
+            return inline(rest);
         }
         Command::named_over_tables(word, rest)
     }
@@ -190,6 +198,19 @@ fn expand<'a>(rest: &'a [String]) -> Command<'a>
             schema: schema.as_str(),
             main: main.as_str(),
             others,
+        },
+        _ => Command::NoForm,
+    }
+}
+
+fn inline<'a>(rest: &'a [String]) -> Command<'a>
+    ensures { as_command result ≡ form.with_three form.inline (map string_bytes rest.now) }
+{
+    match rest {
+        [schema, query, func] => Command::Inline {
+            schema: schema.as_str(),
+            query: query.as_str(),
+            func: func.as_str(),
         },
         _ => Command::NoForm,
     }

@@ -2,7 +2,7 @@
 
 ghost use Rattle.std.specs.Prelude.{◌≡◌, IfOk, codes};
 ghost use Rattle.away_names.specs.Rules.{number};
-ghost use Rattle.away_top.specs.Lines.{bad_token, growth_name, growth_rule, limit_rule, limit_name, line, numbered_rule, outside_word, read_fault, refusal};
+ghost use Rattle.away_top.specs.Lines.{bad_token, growth_name, growth_rule, limit_rule, limit_name, line, nesting_rule, numbered_rule, outside_word, read_fault, refusal};
 ghost use Rattle.away_top.specs.Help.{help_text, version_text};
 ghost use Rattle.away_top.specs.Steps.{IsEnding};
 
@@ -15,7 +15,7 @@ use std::alloc::{AllocError, Global};
 use tail_calls::Grown;
 
 const HELP: &[u8] =
-    b"away compile SCHEMA FUNC                 write the query that the function in FUNC becomes, over the tables of SCHEMA\naway certify SCHEMA FUNC                 write a certificate of that query, a line, and behind it the query\naway batch SCHEMA FUNC TABLE             write one query in which each row of the table TABLE of SCHEMA is a call of the function in FUNC\naway untail SCHEMA FUNC                  write the function in FUNC with its calls of itself as turns of a loop\naway expand SCHEMA MAIN FUNC..           write the function in MAIN with its calls of those in FUNC.. expanded\naway check SCHEMA FUNC QUERY CERT         write whether the certificate in CERT shows that the query in QUERY answers as the function in FUNC\naway format FUNC                         write the function in FUNC as the one text that it prints as\naway sql BOUND SCHEMA QUERY DIR ARG..    write what the query in QUERY answers over the tables in DIR, within BOUND iterations\naway rows BOUND SCHEMA QUERY DIR ARG..   write the rows that the query in QUERY gives over the tables in DIR, within BOUND iterations\naway fn BOUND SCHEMA FUNC DIR ARG..      write what the function in FUNC answers over the tables in DIR, within BOUND turns\naway demo N                              make the case of the number N, and write how long its function and its query are and what they answer\naway --help                              write these lines\naway --version                           write the program's name and version\n";
+    b"away compile SCHEMA FUNC                 write the query that the function in FUNC becomes, over the tables of SCHEMA\naway certify SCHEMA FUNC                 write a certificate of that query, a line, and behind it the query\naway batch SCHEMA FUNC TABLE             write one query in which each row of the table TABLE of SCHEMA is a call of the function in FUNC\naway untail SCHEMA FUNC                  write the function in FUNC with its calls of itself as turns of a loop\naway expand SCHEMA MAIN FUNC..           write the function in MAIN with its calls of those in FUNC.. expanded\naway inline SCHEMA QUERY FUNC            write the query in QUERY with its calls of the function in FUNC as subqueries over one recursive part\naway check SCHEMA FUNC QUERY CERT         write whether the certificate in CERT shows that the query in QUERY answers as the function in FUNC\naway format FUNC                         write the function in FUNC as the one text that it prints as\naway sql BOUND SCHEMA QUERY DIR ARG..    write what the query in QUERY answers over the tables in DIR, within BOUND iterations\naway rows BOUND SCHEMA QUERY DIR ARG..   write the rows that the query in QUERY gives over the tables in DIR, within BOUND iterations\naway fn BOUND SCHEMA FUNC DIR ARG..      write what the function in FUNC answers over the tables in DIR, within BOUND turns\naway demo N                              make the case of the number N, and write how long its function and its query are and what they answer\naway --help                              write these lines\naway --version                           write the program's name and version\n";
 
 /// A status with the whole output of the run.
 #[derive(Drop)]
@@ -181,6 +181,17 @@ pub fn refused_growth(
     let mut rule = b"E4 ".to_vec(alloc)?;
     rule.extend_from_slice(growth_text(which))?;
     rule.push(b' ')?;
+    rule.extend_from_slice(buffer.format(found).as_bytes())?;
+    refused(alloc, name, &rule)
+}
+
+/// The file is refused for the nesting of the query that would be written.
+pub fn refused_nesting(alloc: Global, name: &str, found: u64) -> Result<Ending, AllocError>
+    ensures { IfOk result (λ ending. IsEnding ending Status.Refused
+        (refusal name.now (nesting_rule found))) }
+{
+    let mut buffer = Buffer::new();
+    let mut rule = b"I4 ".to_vec(alloc)?;
     rule.extend_from_slice(buffer.format(found).as_bytes())?;
     refused(alloc, name, &rule)
 }

@@ -14,12 +14,14 @@ ghost use Rattle.away_top.specs.InMemory.{
   Expanded,
   Formatted,
   HoldsCertified,
+  InlinedIn,
   Judged,
   MayBatch,
   MayCheck,
   MayCompile,
   MayExpand,
   MayFormat,
+  MayInline,
   MayRun,
   MayUntail,
   Shown,
@@ -42,7 +44,7 @@ use std::alloc::Global;
 /// Where they are those of `check`, it is the verdict on its files, where they are those of `sql` or `fn`, the answer of the query or
 /// the function, where they are those of `rows`, the rows of the query, where they are those of `format`, the text of the function, where they
 /// are those of `untail`, the function with its calls of itself as turns of a loop, where they are those of `expand`, the main function with
-/// its calls of the others expanded, and where they are `demo` and a number, a summary of that case.
+/// its calls of the others expanded, where they are those of `inline`, the query with its calls of the function as subqueries, and where they are `demo` and a number, a summary of that case.
 pub fn away_in_memory(
     alloc: Global,
     words: &[String],
@@ -77,6 +79,10 @@ pub fn away_in_memory(
         → map string_bytes words.now ≡ codes "expand" ∷ schema ∷ main ∷ others
         → MayExpand files.old schema main others tables functions → out.old.fails ≡ []
         → Expanded out.old out.new result tables functions }
+    ensures inline { (schema query func tables calling function : List ℕ)
+        → map string_bytes words.now ≡ codes "inline" ∷ schema ∷ query ∷ func ∷ []
+        → MayInline files.old schema query func tables calling function → out.old.fails ≡ []
+        → InlinedIn out.old out.new result tables calling function }
     ensures demo { (word : List ℕ) → map string_bytes words.now ≡ codes "demo" ∷ word ∷ []
         → IsSome (bound_of word)
         → out.old.fails ≡ [] → Shown out.old out.new result word }

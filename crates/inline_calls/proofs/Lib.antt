@@ -1,0 +1,10 @@
+mod PartingRules
+mod MovingRules
+mod Marking
+mod FailRules
+mod JudgedRules
+mod ResolvingRules
+mod InlinedTrees
+mod InliningRules
+mod StartRules
+mod TreeRules

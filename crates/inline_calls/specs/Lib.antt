@@ -1,0 +1,14 @@
+pub mod Parting
+pub mod Leaves
+pub mod Moving
+pub mod Forms
+pub mod Seen
+pub mod Judged
+pub mod Fails
+pub mod Marks
+pub mod Refusing
+pub mod Tree
+pub mod Resolving
+pub mod Written
+pub mod Reading
+pub mod Worked

@@ -1,0 +1,17 @@
+pub mod SlotsAside
+pub mod Typed
+pub mod Resolved
+pub mod Judged
+pub mod Asked
+pub mod Arguments
+pub mod SomeCall
+pub mod Depths
+pub mod Reading
+pub mod NamedAggregates
+pub mod PartedAggregates
+pub mod Own
+pub mod Stays
+pub mod ListReads
+pub mod Slotless
+pub mod ListOwn
+pub mod Whole

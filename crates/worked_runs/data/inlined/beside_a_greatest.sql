@@ -1,0 +1,1 @@
+SELECT (SELECT max(nums.n) FROM nums), inc(1)

@@ -1,0 +1,1 @@
+SELECT nums.n FROM nums WHERE collatz(nums.n) = 8

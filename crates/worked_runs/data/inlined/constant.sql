@@ -1,0 +1,3 @@
+CREATE FUNCTION f() RETURNS bigint LANGUAGE plpgsql AS $$
+BEGIN RETURN 1; END;
+$$;

@@ -1,0 +1,3 @@
+CREATE FUNCTION inc(n bigint) RETURNS bigint LANGUAGE plpgsql AS $$
+BEGIN FOR i IN 1..n LOOP NULL; END LOOP; RETURN n; END;
+$$;

@@ -1,0 +1,1 @@
+SELECT endless(nums.n) FROM nums

@@ -1,0 +1,1 @@
+SELECT inc(nums.n) / 0 FROM nums

@@ -1,0 +1,1 @@
+SELECT inc(nums.n) FROM nums WHERE 1 / 0 > 0

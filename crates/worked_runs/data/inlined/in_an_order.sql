@@ -1,0 +1,1 @@
+SELECT inc(n) AS m FROM nums ORDER BY n DESC

@@ -1,0 +1,1 @@
+SELECT COALESCE(inc(nums.n), 0) FROM nums

@@ -1,0 +1,1 @@
+SELECT inc(nums.n) IS NULL FROM nums

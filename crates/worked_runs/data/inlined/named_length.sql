@@ -1,0 +1,3 @@
+CREATE FUNCTION length(s text) RETURNS bigint LANGUAGE plpgsql AS $$
+BEGIN RETURN 1; END;
+$$;

@@ -1,0 +1,1 @@
+SELECT inc(nums.n) FROM nums LIMIT -1

@@ -1,0 +1,1 @@
+SELECT nums.n, inc(nums.n) FROM nums

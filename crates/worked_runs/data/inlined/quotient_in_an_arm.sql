@@ -1,0 +1,1 @@
+SELECT CASE WHEN n = 0 THEN 0 ELSE inv(n) END FROM nums

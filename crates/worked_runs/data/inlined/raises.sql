@@ -1,0 +1,3 @@
+CREATE FUNCTION inc(n bigint) RETURNS bigint LANGUAGE plpgsql AS $$
+BEGIN IF n > 0 THEN RAISE EXCEPTION 'no'; END IF; RETURN n; END;
+$$;

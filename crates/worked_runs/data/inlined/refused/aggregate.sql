@@ -1,0 +1,1 @@
+SELECT max(nums.n), inc(1) FROM nums

@@ -1,0 +1,1 @@
+SELECT f(nums.n) FROM nums

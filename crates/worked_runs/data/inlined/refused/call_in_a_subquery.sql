@@ -1,0 +1,1 @@
+SELECT (SELECT inc(1))

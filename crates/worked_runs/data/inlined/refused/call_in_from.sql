@@ -1,0 +1,1 @@
+SELECT t.m FROM (SELECT inc(1)) AS t(m)

@@ -1,0 +1,1 @@
+SELECT nums.n FROM nums LIMIT inc(1)

@@ -1,0 +1,1 @@
+SELECT nums.n FROM nums ORDER BY inc(nums.n)

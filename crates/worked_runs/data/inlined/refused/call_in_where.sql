@@ -1,0 +1,1 @@
+SELECT nums.n FROM nums WHERE inc(nums.n) = 7

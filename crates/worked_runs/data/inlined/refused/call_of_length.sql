@@ -1,0 +1,1 @@
+SELECT length('a')

@@ -1,0 +1,1 @@
+SELECT inc(1) AS away_a

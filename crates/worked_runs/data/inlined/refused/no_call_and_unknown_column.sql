@@ -1,0 +1,1 @@
+SELECT nums.m FROM nums

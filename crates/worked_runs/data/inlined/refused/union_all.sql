@@ -1,0 +1,1 @@
+SELECT inc(1) UNION ALL SELECT inc(2)

@@ -1,0 +1,1 @@
+WITH RECURSIVE t(i) AS (SELECT 1::bigint UNION ALL SELECT t.i + 1 FROM t WHERE t.i < 3) SELECT inc(t.i) FROM t

@@ -1,0 +1,1 @@
+CREATE TABLE nums (n bigint);

@@ -1,0 +1,3 @@
+CREATE FUNCTION inc(n bigint) RETURNS bigint LANGUAGE plpgsql AS $$
+BEGIN RETURN m; END;
+$$;

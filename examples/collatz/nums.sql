@@ -1,0 +1,3 @@
+CREATE TABLE nums (
+    n bigint
+);

@@ -1,0 +1,1 @@
+SELECT n, collatz(n) FROM nums
