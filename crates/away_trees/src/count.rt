@@ -70,6 +70,22 @@ fn with_arm(before: u64, arm: &Arm) -> Option<u64>
     with_statements(before.checked_add(1)?, arm.body.as_slice())
 }
 
+/// How many nodes a statement has with what stands in it, where that fits into 64 bits.
+pub fn nodes_of_statement(s: &Stmt) -> Option<u64>
+    ensures some { IfSome result (λ n. n ≡ spec.nodes_of s.now) }
+    ensures none { IfNone result (2 ^ 64 ≤ spec.nodes_of s.now) }
+{
+    with_statement(0, s)
+}
+
+/// How many nodes an arm has with its statements, where that fits into 64 bits.
+pub fn nodes_of_arm(arm: &Arm) -> Option<u64>
+    ensures some { IfSome result (λ n. n ≡ spec.nodes_of_arm arm.now) }
+    ensures none { IfNone result (2 ^ 64 ≤ spec.nodes_of_arm arm.now) }
+{
+    with_arm(0, arm)
+}
+
 /// How many nodes a function has, where that fits into 64 bits: its statements, arms, declarations, parameters and targets of
 /// INTO. Each condition of IF, ELSIF or CASE with its statements is an arm, and so is each ELSE.
 #[tactic(auto, unfolding(crate::specs::Count::nodes))]

@@ -7,7 +7,7 @@ mod schemas;
 mod statements;
 mod tree_laws;
 
-pub use count::{node_count, nodes, weight};
+pub use count::{node_count, nodes, nodes_of_arm, nodes_of_statement, weight};
 pub use queries::{Col, Expr, FromItem, Item, Key, Query, Recursive, Select, Source};
 pub use schemas::{ColumnSchema, Schema, TableSchema};
 pub use statements::{Arm, Decl, Function, LoopKind, Raised, Stmt};

@@ -20,6 +20,7 @@ use crate::slots::{Slot, Slots};
 use crate::statement_types::{Asking, asked_stmt};
 use away_names::lookups::narrow;
 use away_names::note::{Note, joined};
+use away_names::rule::Rule;
 use away_names::scope::{Listed, Scope, Tables, Variable};
 use away_names::tables::tables_of;
 use away_trees::{Function, Schema, Stmt};
@@ -166,6 +167,13 @@ fn head_note(f: &Function) -> Note
     ensures { result ≡ spec.head_note f.now }
 {
     joined(kept(&f.name), params_note(f.params.as_slice()))
+}
+
+/// The least rule that the function's head breaks: its name, and its parameters.
+pub fn head_rule(f: &Function) -> Option<Rule>
+    ensures { result ≡ (spec.head_note f.now).least }
+{
+    head_note(f).least
 }
 
 fn verdict_of(alloc: Global, s: &Schema, f: &Function) -> Result<Verdict, NoMemory>

@@ -32,7 +32,7 @@ pub use checked_query::CheckedQuery;
 pub use checked_rows::CheckedRows;
 pub use checked_schema::CheckedSchema;
 pub use finding::Finding;
-pub use function_check::{NamedBody, check_function, named_body};
+pub use function_check::{NamedBody, check_function, head_rule, named_body};
 pub use laws::{a_function_has_one_checked_tree, a_query_has_one_checked_tree};
 pub use query_check::{check_query, resolved_file};
 pub use rows_check::check_rows;

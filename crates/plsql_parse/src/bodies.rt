@@ -16,7 +16,7 @@ use sqlite_items::Boxed;
 use std::alloc::Global;
 
 /// A block, perhaps behind its label, and `;` or not.
-pub(crate) fn body_of(alloc: Global, tokens: &mut Cursor<'_>) -> Result<Boxed<Stmt>, Refusal>
+pub fn body_of(alloc: Global, tokens: &mut Cursor<'_>) -> Result<Boxed<Stmt>, Refusal>
     ensures found { Gives AnyTree any_plan (part body) body_plan tokens.old result tokens.new }
     ensures shrinks { length tokens.new ≤ length tokens.old }
 {

@@ -29,7 +29,7 @@ pub(crate) fn decls_of(alloc: Global, tokens: &mut Cursor<'_>) -> Result<Items<D
 }
 
 /// A name, CONSTANT or not, and what stands behind it.
-fn decl_of(alloc: Global, tokens: &mut Cursor<'_>) -> Result<Decl, Refusal>
+pub fn decl_of(alloc: Global, tokens: &mut Cursor<'_>) -> Result<Decl, Refusal>
     ensures found { Gives AnyTree any_plan (part decl) decl_plan tokens.old result tokens.new }
     ensures shrinks { length tokens.new ≤ length tokens.old }
     ensures shorter { IfOk result (λ _. length tokens.new < length tokens.old) }

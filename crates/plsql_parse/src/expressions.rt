@@ -14,7 +14,7 @@ use sqlite_items::Boxed;
 use std::alloc::Global;
 
 /// An expression.
-pub(crate) fn value_of(alloc: Global, tokens: &mut Cursor<'_>) -> Result<Boxed<Expr>, Refusal>
+pub fn value_of(alloc: Global, tokens: &mut Cursor<'_>) -> Result<Boxed<Expr>, Refusal>
     ensures found { Gives AnyTree any_plan (sql (at Or))
         (any_plan (sql (at Or))) tokens.old result tokens.new }
     ensures shrinks { length tokens.new ≤ length tokens.old }

@@ -2,20 +2,20 @@
 #![tactic(auto)]
 
 mod attributes;
-mod bodies;
+pub mod bodies;
 mod clauses;
-mod counts;
-mod declarations;
-mod expressions;
-mod headers;
+pub mod counts;
+pub mod declarations;
+pub mod expressions;
+pub mod headers;
 mod laws;
-mod lookahead;
-mod loop_kinds;
-mod outside;
-mod read;
+pub mod lookahead;
+pub mod loop_kinds;
+pub mod outside;
+pub mod read;
 mod select_into;
 mod simple_statements;
-mod statements;
+pub mod statements;
 mod words_and_strings;
 mod worked_functions;
 

@@ -30,7 +30,7 @@ fn opens(mark: Mark) -> bool
 }
 
 /// Whether a block stands next.
-pub(crate) fn sees_block(tokens: &Cursor<'_>) -> bool
+pub fn sees_block(tokens: &Cursor<'_>) -> bool
     ensures { result ≡ plan.next plan.opens_block tokens.now }
 {
     match tokens.peek() {
@@ -49,7 +49,7 @@ fn opens_block(mark: Mark) -> bool
 }
 
 /// Whether what stands next ends a list of statements.
-pub(crate) fn sees_closing(tokens: &Cursor<'_>) -> bool
+pub fn sees_closing(tokens: &Cursor<'_>) -> bool
     ensures { result ≡ plan.next plan.closes tokens.now }
 {
     match tokens.peek() {
@@ -68,7 +68,7 @@ fn closes(mark: Mark) -> bool
 }
 
 /// Whether a name stands next.
-pub(crate) fn sees_name(tokens: &Cursor<'_>) -> bool
+pub fn sees_name(tokens: &Cursor<'_>) -> bool
     ensures { result ≡ is_name tokens.now }
 {
     match tokens.peek() {

@@ -18,7 +18,7 @@ use sqlite_items::Boxed;
 use std::alloc::Global;
 
 /// WHILE and its condition, FOR and its bounds, or nothing.
-pub(crate) fn kind_of(alloc: Global, tokens: &mut Cursor<'_>) -> Result<Boxed<LoopKind>, Refusal>
+pub fn kind_of(alloc: Global, tokens: &mut Cursor<'_>) -> Result<Boxed<LoopKind>, Refusal>
     ensures found { Gives AnyTree any_plan (part kind) kind_plan tokens.old result tokens.new }
     ensures shrinks { length tokens.new ≤ length tokens.old }
 {

@@ -21,13 +21,16 @@ use sqlite_items::Boxed;
 use std::alloc::Global;
 
 /// The greatest nesting of a body that is read.
-const MOST_NESTING: u64 = 64;
+pub const MOST_NESTING: u64 = 64;
 
-const MOST_NODES: u64 = 500;
+/// The greatest number of nodes that is read.
+pub const MOST_NODES: u64 = 500;
 
-const MOST_VARIABLES: u64 = 64;
+/// The greatest number of variables that is read.
+pub const MOST_VARIABLES: u64 = 64;
 
-const MOST_LOOPS: u64 = 64;
+/// The greatest number of loops that is read.
+pub const MOST_LOOPS: u64 = 64;
 
 /// The function that a whole file makes (PostgreSQL manual, CREATE FUNCTION).
 pub fn read_function(alloc: Global, bytes: &[u8]) -> Result<Function, ReadRefusal>
@@ -45,7 +48,7 @@ pub fn read_function(alloc: Global, bytes: &[u8]) -> Result<Function, ReadRefusa
 }
 
 /// The token lists of bytes that are a text, where the body's nests no deeper than is read.
-fn lists_of<'a>(alloc: Global, bytes: &'a [u8]) -> Result<FunctionTokens<'a>, ReadRefusal>
+pub fn lists_of<'a>(alloc: Global, bytes: &'a [u8]) -> Result<FunctionTokens<'a>, ReadRefusal>
     ensures ok { IfOk result (λ lists. HasFewTokens bytes.now (map seen lists.outer.items)
         (map seen lists.body.items)) }
     ensures err { IfErr result (RefusesLists bytes.now) }
@@ -63,7 +66,7 @@ fn lists_of<'a>(alloc: Global, bytes: &'a [u8]) -> Result<FunctionTokens<'a>, Re
 }
 
 /// The function that the two lists are, with nothing left of either.
-fn whole_function(
+pub fn whole_function(
     alloc: Global,
     outer: &[Token<'_>],
     inner: &[Token<'_>],

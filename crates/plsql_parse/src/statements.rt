@@ -47,7 +47,7 @@ fn statements_of(alloc: Global, tokens: &mut Cursor<'_>) -> Result<Items<Stmt>, 
 }
 
 #[cycle(reader)]
-fn statement_of(alloc: Global, tokens: &mut Cursor<'_>) -> Result<Stmt, Refusal>
+pub fn statement_of(alloc: Global, tokens: &mut Cursor<'_>) -> Result<Stmt, Refusal>
     ensures found { Gives AnyTree any_plan
         (part statement) statement_plan tokens.old result tokens.new }
     ensures shrinks { length tokens.new ≤ length tokens.old }
@@ -166,7 +166,7 @@ fn elsif_arms(alloc: Global, tokens: &mut Cursor<'_>) -> Result<Items<Arm>, Refu
 }
 
 /// Takes ELSIF or ELSEIF, if one of them stands next.
-fn eat_elsif(tokens: &mut Cursor<'_>) -> bool
+pub fn eat_elsif(tokens: &mut Cursor<'_>) -> bool
     ensures yes { OnTrue result ((tokens.old ≡ mark Elsif ∷ tokens.new)
         ⊎ ((tokens.old ≡ mark Elseif ∷ tokens.new) × ¬ (Begins tokens.old Elsif))) }
     ensures no { OnFalse result ((tokens.new ≡ tokens.old) × ¬ (Begins tokens.old Elsif)
@@ -194,7 +194,7 @@ fn when_arms(alloc: Global, tokens: &mut Cursor<'_>) -> Result<Items<Arm>, Refus
 
 /// A condition, THEN and its statements.
 #[cycle(reader)]
-fn arm_of(alloc: Global, tokens: &mut Cursor<'_>) -> Result<Arm, Refusal>
+pub fn arm_of(alloc: Global, tokens: &mut Cursor<'_>) -> Result<Arm, Refusal>
     ensures found { Gives AnyTree any_plan (part branch) branch_plan tokens.old result tokens.new }
     ensures shrinks { length tokens.new ≤ length tokens.old }
 {

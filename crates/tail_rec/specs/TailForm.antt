@@ -1,5 +1,5 @@
 -- The tail form that is built.
-use Rattle.std.specs.Prelude.{◌≡◌, List}
+use Rattle.std.specs.Prelude.{◌≡◌, ℕ, List}
 use Rattle.away_types.specs.declared.slots.Slot.{Slot}
 use Rattle.block_forms.specs.declared.forms.Goto.{Goto}
 use Rattle.block_forms.specs.declared.forms.Ssa.{Ssa}
@@ -14,3 +14,10 @@ pub record IsTailForm (slots : List Slot) (goto : Goto) (ssa : Ssa) (anf : Anf) 
   pub columns : tail.columns ≡ columns_of (widths_of (type_of_name slots ssa.names) anf.blocks tail.labels)
   pub places : tail.places
       ≡ places_of (type_of_name slots ssa.names) anf.blocks (starts_of (widths_of (type_of_name slots ssa.names) anf.blocks tail.labels)) tail.labels
+
+-- with these labels
+pub record IsColumned (slots : List Slot) (ssa : Ssa) (anf : Anf) (chosen : List ℕ) (tail : Tail) : Type 0 where
+  pub labels : tail.labels ≡ chosen
+  pub columns : tail.columns ≡ columns_of (widths_of (type_of_name slots ssa.names) anf.blocks chosen)
+  pub places : tail.places
+      ≡ places_of (type_of_name slots ssa.names) anf.blocks (starts_of (widths_of (type_of_name slots ssa.names) anf.blocks chosen)) chosen

@@ -8,4 +8,4 @@ mod places;
 mod tail;
 mod walk;
 
-pub use tail::to_tail;
+pub use tail::{tail_of, to_tail};

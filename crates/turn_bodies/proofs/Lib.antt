@@ -1,0 +1,5 @@
+pub mod BodyTrees
+pub mod PlaceRules
+pub mod TreeSteps
+pub mod ClosedTrees
+pub mod Unfolds

@@ -1,0 +1,4 @@
+pub mod RowRules
+pub mod Over
+pub mod CleanNotes
+pub mod Taken
