@@ -1,0 +1,15 @@
+pub mod ChosenTerms
+pub mod EachPasses
+pub mod Nodes
+pub mod SameRules
+pub mod SameTrees
+pub mod SureLists
+pub mod SureRules
+pub mod WorkedTerms
+pub mod Results
+pub mod LeafRules
+pub mod ReferenceRules
+pub mod PlacingRules
+pub mod Fusing
+pub mod PlacedOverRows
+pub mod TermRules
