@@ -20,7 +20,7 @@ use Rattle.away_top.specs.AnswerLines.{answer_end, value_line}
 use Rattle.away_top.specs.RowRecords.{records_text, rows_end}
 use Rattle.away_top.specs.Arguments.{bound_of}
 use Rattle.away_top.specs.BatchCourse.{EndsWith, batch_course, place_of}
-use Rattle.away_top.specs.Commands.{Command, batch, check, command_of, compile, course, course_of, demo, expand, format, help, inline, no_form, over_tables, untail, version}
+use Rattle.away_top.specs.Commands.{Command, batch, check, command_of, compile, course, course_of, demo, expand, explain, format, help, inline, no_form, over_tables, untail, version}
 use Rattle.cert_json.specs.Forms.{Cert}
 use Rattle.stage_check.specs.declared.verdict.Verdict.TheVariants.{Accepted, Fails}
 use Rattle.away_top.specs.Certificates.{RefusesCert, cert_course}
@@ -39,6 +39,8 @@ use Rattle.plsql_parse.specs.Refusals as functions
 use Rattle.away_trees.specs.declared.statements.Function.{Function}
 use Rattle.away_top.specs.FormatCourse.{format_course}
 use Rattle.away_top.specs.ExpandCourse as expands
+use Rattle.away_top.specs.ExplainCourse.{TellsCounts, explain_course}
+use Rattle.away_top.specs.Explanations.{ExplainedBy}
 use Rattle.away_top.specs.InlineCourse as inlines
 use Rattle.away_top.specs.UntailCourse as untails
 use Rattle.away_top.specs.Refusals.{RefusesFunction, RefusesRead, RefusesQuery, RefusesRowQuery, RefusesSchema}
@@ -237,6 +239,17 @@ plain_inline schema query func text =
       ),
     )
 
+-- ---- a place and a reason, or counts
+
+plain_explained : (func : List ℕ) (s : Schema) (bytes : List ℕ) → ArePlain (ExplainedBy func s bytes)
+plain_explained func s bytes status output e = subst IsPlain (sym e.1) tt
+
+plain_counts : (s : Schema) (f : Function) (text : List ℕ) → ArePlain (TellsCounts s f text)
+plain_counts s f text status output told = subst IsPlain (sym told.2.0) tt
+
+plain_explain : (schema func text : List ℕ) → IsPlainCourse (explain_course schema func text)
+plain_explain schema func text = λ bytes. (plain_refusal schema (RefusesSchema bytes), λ s more. (plain_explained func s.schema more, λ f. plain_counts s.schema f.written text))
+
 -- ---- a text
 
 plain_format : (func : List ℕ) → IsPlainCourse (format_course func)
@@ -259,6 +272,7 @@ plain_command (check schema func query cert) text = plain_check schema func quer
 plain_command (untail schema func) text = plain_untail schema func text
 plain_command (expand schema main others) text = plain_expand schema main others text
 plain_command (inline schema query func) text = plain_inline schema query func text
+plain_command (explain schema func) text = plain_explain schema func text
 plain_command (format func) text = plain_format func
 plain_command (demo number) text = plain_shown (bound_of number) text
 plain_command (over_tables what bound schema file dir args) text = plain_run what bound schema file dir args

@@ -8,6 +8,7 @@ ghost use Rattle.away_top.specs.Commands.{
   command_of,
   forms,
   table_forms,
+  turn_forms,
 };
 ghost use Rattle.away_top.specs.Commands as form;
 
@@ -41,6 +42,10 @@ pub(crate) enum Command<'a> {
     Inline {
         schema: &'a str,
         query: &'a str,
+        func: &'a str,
+    },
+    Explain {
+        schema: &'a str,
         func: &'a str,
     },
     Check {
@@ -122,6 +127,16 @@ impl<'a> Command<'a> {
         }
         if word == "inline" {
             return inline(rest);
+        }
+        Command::named_of_turns(word, rest)
+    }
+
+    /// The command of this name that tells of a function.
+    fn named_of_turns(word: &str, rest: &'a [String]) -> Command<'a>
+        ensures { as_command result ≡ asked_by turn_forms word.now (map string_bytes rest.now) }
+    {
+        if word == "explain" {
+            return explain(rest);
         }
         Command::named_over_tables(word, rest)
     }
@@ -210,6 +225,18 @@ fn inline<'a>(rest: &'a [String]) -> Command<'a>
         [schema, query, func] => Command::Inline {
             schema: schema.as_str(),
             query: query.as_str(),
+            func: func.as_str(),
+        },
+        _ => Command::NoForm,
+    }
+}
+
+fn explain<'a>(rest: &'a [String]) -> Command<'a>
+    ensures { as_command result ≡ form.with_two form.explain (map string_bytes rest.now) }
+{
+    match rest {
+        [schema, func] => Command::Explain {
+            schema: schema.as_str(),
             func: func.as_str(),
         },
         _ => Command::NoForm,

@@ -4,10 +4,11 @@ ghost use Rattle.std.specs.Prelude.{◌≡◌, IfOk, codes};
 ghost use Rattle.away_names.specs.Rules.{number};
 ghost use Rattle.away_top.specs.Lines.{bad_token, growth_name, growth_rule, limit_rule, limit_name, line, nesting_rule, numbered_rule, outside_word, read_fault, refusal};
 ghost use Rattle.away_top.specs.Help.{help_text, version_text};
+ghost use Rattle.away_top.specs.Refusals.{IsRule};
 ghost use Rattle.away_top.specs.Steps.{IsEnding};
 
 use crate::Status;
-use away_lex::LimitKind;
+use away_lex::{LimitKind, ReadRefusal};
 use away_names::rule::Rule;
 use away_values::{Name, NoMemory};
 use itoa::Buffer;
@@ -15,7 +16,7 @@ use std::alloc::{AllocError, Global};
 use tail_calls::Grown;
 
 const HELP: &[u8] =
-    b"away compile SCHEMA FUNC                 write the query that the function in FUNC becomes, over the tables of SCHEMA\naway certify SCHEMA FUNC                 write a certificate of that query, a line, and behind it the query\naway batch SCHEMA FUNC TABLE             write one query in which each row of the table TABLE of SCHEMA is a call of the function in FUNC\naway untail SCHEMA FUNC                  write the function in FUNC with its calls of itself as turns of a loop\naway expand SCHEMA MAIN FUNC..           write the function in MAIN with its calls of those in FUNC.. expanded\naway inline SCHEMA QUERY FUNC            write the query in QUERY with its calls of the function in FUNC as subqueries over one recursive part\naway check SCHEMA FUNC QUERY CERT         write whether the certificate in CERT shows that the query in QUERY answers as the function in FUNC\naway format FUNC                         write the function in FUNC as the one text that it prints as\naway sql BOUND SCHEMA QUERY DIR ARG..    write what the query in QUERY answers over the tables in DIR, within BOUND iterations\naway rows BOUND SCHEMA QUERY DIR ARG..   write the rows that the query in QUERY gives over the tables in DIR, within BOUND iterations\naway fn BOUND SCHEMA FUNC DIR ARG..      write what the function in FUNC answers over the tables in DIR, within BOUND turns\naway demo N                              make the case of the number N, and write how long its function and its query are and what they answer\naway --help                              write these lines\naway --version                           write the program's name and version\n";
+    b"away compile SCHEMA FUNC                 write the query that the function in FUNC becomes, over the tables of SCHEMA\naway certify SCHEMA FUNC                 write a certificate of that query, a line, and behind it the query\naway batch SCHEMA FUNC TABLE             write one query in which each row of the table TABLE of SCHEMA is a call of the function in FUNC\naway untail SCHEMA FUNC                  write the function in FUNC with its calls of itself as turns of a loop\naway expand SCHEMA MAIN FUNC..           write the function in MAIN with its calls of those in FUNC.. expanded\naway inline SCHEMA QUERY FUNC            write the query in QUERY with its calls of the function in FUNC as subqueries over one recursive part\naway explain SCHEMA FUNC                 write where and why the function in FUNC is refused, or the counts of the function and of its query\naway check SCHEMA FUNC QUERY CERT         write whether the certificate in CERT shows that the query in QUERY answers as the function in FUNC\naway format FUNC                         write the function in FUNC as the one text that it prints as\naway sql BOUND SCHEMA QUERY DIR ARG..    write what the query in QUERY answers over the tables in DIR, within BOUND iterations\naway rows BOUND SCHEMA QUERY DIR ARG..   write the rows that the query in QUERY gives over the tables in DIR, within BOUND iterations\naway fn BOUND SCHEMA FUNC DIR ARG..      write what the function in FUNC answers over the tables in DIR, within BOUND turns\naway demo N                              make the case of the number N, and write how long its function and its query are and what they answer\naway --help                              write these lines\naway --version                           write the program's name and version\n";
 
 /// A status with the whole output of the run.
 #[derive(Drop)]
@@ -117,54 +118,68 @@ pub fn refused(alloc: Global, name: &str, rule: &[u8]) -> Result<Ending, AllocEr
     })
 }
 
-/// The file is refused for a bad token.
-pub fn refused_token(alloc: Global, name: &str, offset: u64) -> Result<Ending, AllocError>
-    ensures { IfOk result (λ ending. IsEnding ending Status.Refused
-        (refusal name.now (bad_token offset))) }
-{
-    let mut buffer = Buffer::new();
-    let mut rule = b"X2 ".to_vec(alloc)?;
-    rule.extend_from_slice(buffer.format(offset).as_bytes())?;
-    refused(alloc, name, &rule)
-}
-
-/// The file is refused for a word of a form that isn't read.
-pub fn refused_word(alloc: Global, name: &str, word: &Name) -> Result<Ending, AllocError>
-    ensures { IfOk result (λ ending. IsEnding ending Status.Refused
-        (refusal name.now (outside_word word.now))) }
-{
-    let mut rule = b"X4 ".to_vec(alloc)?;
-    rule.extend_from_slice(word.text().as_bytes())?;
-    refused(alloc, name, &rule)
-}
-
 /// The file is refused for a rule of names, scopes or types.
 pub fn refused_rule(alloc: Global, name: &str, rule: Rule) -> Result<Ending, AllocError>
     ensures { IfOk result (λ ending. IsEnding ending Status.Refused
         (refusal name.now (numbered_rule (number rule)))) }
 {
-    let mut buffer = Buffer::new();
-    let mut word = b"X".to_vec(alloc)?;
-    word.extend_from_slice(buffer.format(rule.number()).as_bytes())?;
+    let word = rule_text(alloc, rule)?;
     refused(alloc, name, &word)
 }
 
-/// The file is refused for a limit.
-pub fn refused_limit(
-    alloc: Global,
-    name: &str,
-    which: LimitKind,
-    found: u64,
-) -> Result<Ending, AllocError>
-    ensures { IfOk result (λ ending. IsEnding ending Status.Refused
-        (refusal name.now (limit_rule which found))) }
+/// The rule of a bad token.
+fn token_text(alloc: Global, offset: u64) -> Result<Vec<u8>, AllocError>
+    ensures { IfOk result (λ text. text.items ≡ bad_token offset) }
+{
+    let mut buffer = Buffer::new();
+    let mut rule = b"X2 ".to_vec(alloc)?;
+    rule.extend_from_slice(buffer.format(offset).as_bytes())?;
+    Ok(rule)
+}
+
+/// The rule of a word that isn't read.
+fn word_text(alloc: Global, word: &Name) -> Result<Vec<u8>, AllocError>
+    ensures { IfOk result (λ text. text.items ≡ outside_word word.now) }
+{
+    let mut rule = b"X4 ".to_vec(alloc)?;
+    rule.extend_from_slice(word.text().as_bytes())?;
+    Ok(rule)
+}
+
+/// A rule of names, scopes or types.
+pub(crate) fn rule_text(alloc: Global, rule: Rule) -> Result<Vec<u8>, AllocError>
+    ensures { IfOk result (λ text. text.items ≡ numbered_rule (number rule)) }
+{
+    let mut buffer = Buffer::new();
+    let mut word = b"X".to_vec(alloc)?;
+    word.extend_from_slice(buffer.format(rule.number()).as_bytes())?;
+    Ok(word)
+}
+
+/// The rule of a limit.
+fn limit_text(alloc: Global, which: LimitKind, found: u64) -> Result<Vec<u8>, AllocError>
+    ensures { IfOk result (λ text. text.items ≡ limit_rule which found) }
 {
     let mut buffer = Buffer::new();
     let mut rule = b"X5 ".to_vec(alloc)?;
-    rule.extend_from_slice(limit_text(which))?;
+    rule.extend_from_slice(limit_word(which))?;
     rule.push(b' ')?;
     rule.extend_from_slice(buffer.format(found).as_bytes())?;
-    refused(alloc, name, &rule)
+    Ok(rule)
+}
+
+/// The rule by which a reader refuses a file.
+pub(crate) fn read_text(alloc: Global, error: &ReadRefusal) -> Result<Vec<u8>, AllocError>
+    ensures { IfOk result (λ text. IsRule error.now text.items) }
+{
+    match error {
+        ReadRefusal::NotText => b"X1".to_vec(alloc),
+        ReadRefusal::Token { offset } => token_text(alloc, *offset),
+        ReadRefusal::NoTree => b"X3".to_vec(alloc),
+        ReadRefusal::Outside { word } => word_text(alloc, word),
+        ReadRefusal::Limit { which, found } => limit_text(alloc, *which, *found),
+        ReadRefusal::NoMemory => Err(AllocError),
+    }
 }
 
 /// The file is refused for what the function that would be written exceeds.
@@ -208,7 +223,7 @@ fn growth_text(which: Grown) -> &'static [u8]
     }
 }
 
-fn limit_text(which: LimitKind) -> &'static [u8]
+fn limit_word(which: LimitKind) -> &'static [u8]
     ensures { result.now ≡ limit_name which }
 {
     match which {

@@ -17,9 +17,7 @@ ghost use Rattle.away_top.specs.Refusals.{RefusesFunction, RefusesQuery, Refuses
 ghost use Rattle.away_top.specs.Runs.{Follows, Holds, IsRead, StopsAt};
 ghost use Rattle.away_top.specs.Steps.{IsHalt, IsJudged, ReadRefused, stretch_end};
 
-use crate::ending::{
-    Ending, Halt, refused, refused_limit, refused_rule, refused_token, refused_word, unreadable,
-};
+use crate::ending::{Ending, Halt, read_text, refused, refused_rule, unreadable};
 use crate::{Files, ReadError};
 use away_lex::ReadRefusal;
 use away_trees::{Function, Query, Schema};
@@ -280,12 +278,6 @@ pub(crate) fn bytes_of<F: Files>(
 pub(crate) fn refuse(alloc: Global, name: &str, error: ReadRefusal) -> Result<Ending, AllocError>
     ensures { IfOk result (ReadRefused name.now error) }
 {
-    match error {
-        ReadRefusal::NotText => refused(alloc, name, b"X1"),
-        ReadRefusal::Token { offset } => refused_token(alloc, name, offset),
-        ReadRefusal::NoTree => refused(alloc, name, b"X3"),
-        ReadRefusal::Outside { word } => refused_word(alloc, name, &word),
-        ReadRefusal::Limit { which, found } => refused_limit(alloc, name, which, found),
-        ReadRefusal::NoMemory => Err(AllocError),
-    }
+    let rule = read_text(alloc, &error)?;
+    refused(alloc, name, &rule)
 }

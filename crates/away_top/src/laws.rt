@@ -12,6 +12,7 @@ ghost use Rattle.away_top.specs.InMemory.{
   BeginsWith,
   Ended,
   Expanded,
+  Explained,
   Formatted,
   HoldsCertified,
   InlinedIn,
@@ -20,6 +21,7 @@ ghost use Rattle.away_top.specs.InMemory.{
   MayCheck,
   MayCompile,
   MayExpand,
+  MayExplain,
   MayFormat,
   MayInline,
   MayRun,
@@ -44,7 +46,8 @@ use std::alloc::Global;
 /// Where they are those of `check`, it is the verdict on its files, where they are those of `sql` or `fn`, the answer of the query or
 /// the function, where they are those of `rows`, the rows of the query, where they are those of `format`, the text of the function, where they
 /// are those of `untail`, the function with its calls of itself as turns of a loop, where they are those of `expand`, the main function with
-/// its calls of the others expanded, where they are those of `inline`, the query with its calls of the function as subqueries, and where they are `demo` and a number, a summary of that case.
+/// its calls of the others expanded, where they are those of `inline`, the query with its calls of the function as subqueries, where they are those of `explain`, the place and the reason of a
+/// refusal, or the counts of the function, and where they are `demo` and a number, a summary of that case.
 pub fn away_in_memory(
     alloc: Global,
     words: &[String],
@@ -83,6 +86,10 @@ pub fn away_in_memory(
         → map string_bytes words.now ≡ codes "inline" ∷ schema ∷ query ∷ func ∷ []
         → MayInline files.old schema query func tables calling function → out.old.fails ≡ []
         → InlinedIn out.old out.new result tables calling function }
+    ensures explain { (schema func tables function : List ℕ)
+        → map string_bytes words.now ≡ codes "explain" ∷ schema ∷ func ∷ []
+        → (may : MayExplain files.old schema func tables function) → out.old.fails ≡ []
+        → Explained out.old out.new result func may.fit_schema.is.schema function }
     ensures demo { (word : List ℕ) → map string_bytes words.now ≡ codes "demo" ∷ word ∷ []
         → IsSome (bound_of word)
         → out.old.fails ≡ [] → Shown out.old out.new result word }

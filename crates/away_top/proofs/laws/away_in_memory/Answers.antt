@@ -8,6 +8,7 @@ use Rattle.away_top.proofs.FormatsInMemory as formats
 use Rattle.away_top.proofs.InMemory.{translated}
 use Rattle.away_top.proofs.RunsInMemory.{run_told}
 use Rattle.away_top.proofs.ExpandsInMemory as expands
+use Rattle.away_top.proofs.ExplainsInMemory as explains
 use Rattle.away_top.proofs.InlinesInMemory as inlines
 use Rattle.away_top.proofs.UntailsInMemory as untails
 use Rattle.away_top.proofs.laws.away_in_memory.Goals as goal
@@ -62,6 +63,11 @@ pub returns-clause-inline : goal.returns-clause-inline
 returns-clause-inline c = λ schema query func tables calling function is may none.
     let ended = returns-clause-every c may.no_failure none in
     inlines.inlined c.args.files.now schema query func tables calling function may c.args.out.now c.away.new.out (map string_bytes c.args.words.now) ended.0 c.away.result is ended.1
+
+pub returns-clause-explain : goal.returns-clause-explain
+returns-clause-explain c = λ schema func tables function is may none.
+    let ended = returns-clause-every c may.no_failure none in
+    explains.explained c.args.files.now schema func tables function may c.args.out.now c.away.new.out (map string_bytes c.args.words.now) ended.0 c.away.result is ended.1
 
 pub returns-clause-demo : goal.returns-clause-demo
 returns-clause-demo c = λ word is spells none.

@@ -25,6 +25,10 @@ pub returns-in-Inline : goal.returns-in-Inline
 returns-in-Inline g c =
     subst (λ (x : Command). Runs g.F.Files c.args.files.now (course_of (as_command x)) c.inline.new.files (run_end c.inline.result)) (sym c.in-Inline.is) c.inline.ensures
 
+pub returns-in-Explain : goal.returns-in-Explain
+returns-in-Explain g c =
+    subst (λ (x : Command). Runs g.F.Files c.args.files.now (course_of (as_command x)) c.explain.new.files (run_end c.explain.result)) (sym c.in-Explain.is) c.explain.ensures
+
 pub returns-in-Format : goal.returns-in-Format
 returns-in-Format g c =
     subst (λ (x : Command). Runs g.F.Files c.args.files.now (course_of (as_command x)) c.format.new.files (run_end c.format.result)) (sym c.in-Format.is)

@@ -1,0 +1,124 @@
+-- How a run of `explain` goes, and what the parts of its code make of a file's bytes.
+use Rattle.std.proofs.Common.{◌≡◌, inl, inr, refl, ap, subst, sym, ℕ, List, [], length}
+use Rattle.std.specs.Prelude.{Option, Some}
+use Rattle.away_lex.specs.declared.refusals.ReadRefusal.{ReadRefusal}
+use Rattle.away_names.specs.declared.rule.Rule.{Rule}
+use Rattle.away_names.specs.Rules.{number}
+use Rattle.away_trees.specs.declared.schemas.Schema.{Schema}
+use Rattle.away_trees.specs.declared.statements.Function.{Function}
+use Rattle.away_types.specs.declared.checked_function.CheckedFunction.{CheckedFunction}
+use Rattle.away_types.specs.declared.finding.Finding.{Finding}
+use Rattle.away_types.specs.CheckedFunctions.{IsChecked}
+use Rattle.away_types.specs.FunctionChecks.{function_note, head_note}
+use Rattle.function_places.specs.declared.stuck_places.Stuck.{Stuck}
+use Rattle.plsql_parse.specs.Refusals as functions
+use Rattle.refusal_reasons.specs.Reasons.{read_reason, rule_reason}
+use Rattle.away_top.specs.declared.explain.Head.{Head}
+use Rattle.away_top.specs.declared.ending.Halt.{Halt}
+use Rattle.away_top.specs.declared.host.Files.{Ghosts as Files}
+use Rattle.away_top.specs.declared.status.Status.{Status}
+use Rattle.away_top.specs.declared.status.Status.TheVariants.{Refused}
+use Rattle.away_top.specs.Course.{Course, ends, judges}
+use Rattle.away_top.specs.ExplainCourse.{EndsOn, OwnCounts, Tells, TellsCounts, explain_course, explained_course, own_counts}
+use Rattle.away_top.specs.Explaining.{IsHead, own}
+use Rattle.away_top.specs.Explanations.{ExplainedBy, IsFindingPlace, IsFindingTold, IsReadTold, IsTold, RefusedAt}
+use Rattle.away_top.specs.Files.{Callable, as_callable, callable_of, schema_course}
+use Rattle.away_top.specs.Lines.{numbered_rule}
+use Rattle.away_top.specs.Refusals.{IsFunction, IsRule, ReadsAsFunction}
+use Rattle.away_top.specs.Runs.{End, wants_memory, ended, goes_on, Follows, Holds, IsEnd, IsRead, Runs, StopsAt}
+use Rattle.away_top.specs.Steps.{IsHalt, halt_end}
+use Rattle.away_top.proofs.Judging.{callable_is}
+use Rattle.away_top.proofs.Stretches.{goes_further, goes_on_there, stops_early, stops_there}
+
+-- ---- the run
+
+-- how the bytes of the function's file are judged
+abbrev pub of_bytes : List ℕ → List ℕ → Schema → List ℕ → Course ⊥
+of_bytes func made s bytes = judges (ExplainedBy func s bytes) (IsFunction s bytes) (λ f. ends (TellsCounts s f.written made))
+
+judged_so : {D : Type 0} (F : Files D) (now : D) (func made : List ℕ) (s : Schema) (bytes : List ℕ) (end : End ⊥) → IsEnd (EndsOn func s bytes made) end
+    → Follows F now (of_bytes func made s bytes) now end
+judged_so F now func made s bytes wants_memory h = inl (record { same = refl; how = tt })
+judged_so F now func made s bytes (ended status output) (inl refused) = inl (record { same = refl; how = refused })
+judged_so F now func made s bytes (ended status output) (inr (f, so)) = inr (f, record { same = refl; how = so })
+judged_so F now func made s bytes (goes_on never) h = absurd never
+
+module _ {D : Type 0} (F : Files D) (schema func : List ℕ) where
+  -- the run ends with the schema's file
+  pub tables_stop : (old new : D) (halt : Halt) → Follows F old (schema_course schema) new (halt_end halt) → Runs F old (explain_course schema func) new (halt_end halt)
+  tables_stop old new halt first = record { text = []; follows = stops_early F old new (schema_course schema) (explained_course func []) halt first }
+
+  module _ (old middle new : D) (tables : Schema) (first : Follows F old (schema_course schema) middle (goes_on tables)) (read : IsRead F middle func new) where
+    -- it ends since the function's can't be read or is too long
+    pub file_stops : (halt : Halt) → IsHalt (StopsAt F middle func 1048576 new) halt → Runs F old (explain_course schema func) new (halt_end halt)
+    file_stops halt stops = record {
+      text = [];
+      follows = goes_further F old middle new (schema_course schema) (explained_course func []) tables (halt_end halt) first
+          (stops_there F middle new func 1048576 (of_bytes func [] tables) halt read stops);
+    }
+
+    -- it comes to what is told of the bytes
+    pub comes_to_bytes : (bytes : List ℕ) (end : End ⊥) → Holds F middle func 1048576 bytes → ((text : List ℕ) × IsEnd (EndsOn func tables bytes text) end) → Runs F old (explain_course schema func) new end
+    comes_to_bytes bytes end holds (text, is) = record {
+      text = text;
+      follows = goes_further F old middle new (schema_course schema) (explained_course func text) tables end first
+          (goes_on_there F middle new new func 1048576 (of_bytes func text tables) bytes end read holds (judged_so F new func text tables bytes end is));
+    }
+
+-- ---- a file that isn't read
+
+module _ (func bytes : List ℕ) (refusal : ReadRefusal) where
+  -- the three lines tell the reader's refusal
+  pub read_told : (found : Stuck) (rule reason : List ℕ) (end : End ⊥) → RefusedAt bytes refusal found → IsRule refusal rule → reason ≡ read_reason refusal found.ended
+      → IsEnd (λ status output. IsTold func bytes found.offset rule reason output × (status ≡ Refused)) end
+      → IsEnd (λ status output. IsReadTold func bytes refusal output × (status ≡ Refused)) end
+  read_told found rule reason wants_memory place is why h = tt
+  read_told found rule reason (ended status output) place is why h =
+      (record { rule = rule; rule_is = is; found = found; place = place; told = subst (λ r. IsTold func bytes found.offset rule r output) why h.0 }, h.1)
+  read_told found rule reason (goes_on never) place is why h = absurd never
+
+  pub unread_so : (s : Schema) (end : End ⊥) → functions.Refuses bytes refusal → IsEnd (λ status output. IsReadTold func bytes refusal output × (status ≡ Refused)) end
+      → (text : List ℕ) × IsEnd (EndsOn func s bytes text) end
+  unread_so s wants_memory refuses h = ([], tt)
+  unread_so s (ended status output) refuses h = ([], inl (inl (record { refusal = refusal; refuses = refuses; told = h.0 }), h.1))
+  unread_so s (goes_on never) refuses h = absurd never
+
+-- ---- a function that is read
+
+-- the three lines tell the finding
+pub finding_told : (func bytes : List ℕ) (params : ℕ) (head : Option Rule) (finding : Finding) (offset : ℕ) (rule reason : List ℕ) (end : End ⊥) → IsFindingPlace bytes params head finding offset
+    → rule ≡ numbered_rule (number finding.rule) → reason ≡ rule_reason finding.rule → IsEnd (λ status output. IsTold func bytes offset rule reason output × (status ≡ Refused)) end
+    → IsEnd (λ status output. IsFindingTold func bytes params head finding output × (status ≡ Refused)) end
+finding_told func bytes params head finding offset rule reason wants_memory place is why h = tt
+finding_told func bytes params head finding offset rule reason (ended status output) place is why h =
+    (record { offset = offset; place = place; told = subst (λ u. IsTold func bytes offset u (rule_reason finding.rule) output) is (subst (λ r. IsTold func bytes offset rule r output) why h.0) }, h.1)
+finding_told func bytes params head finding offset rule reason (goes_on never) place is why h = absurd never
+
+module _ (func : List ℕ) (s : Schema) (bytes : List ℕ) (f : Function) (head : Head) (reads : ReadsAsFunction bytes f) (kept : IsHead f head) where
+  pub broken_so : (finding : Finding) (end : End ⊥) → (function_note s f).first ≡ Some finding → IsEnd (λ status output. IsFindingTold func bytes head.params head.rule finding output × (status ≡ Refused)) end
+      → (text : List ℕ) × IsEnd (EndsOn func s bytes text) end
+  broken_so finding wants_memory first h = ([], tt)
+  broken_so finding (ended status output) first h =
+      let params : head.params ≡ length f.params = ap (λ (c : OwnCounts). c.params) kept.counts_are in
+      let told : IsFindingTold func bytes (length f.params) head.rule finding output = subst (λ n. IsFindingTold func bytes n head.rule finding output) params h.0 in (
+        [],
+        inl (
+          inr (record {
+            function = f;
+            reads_as = reads;
+            finding = finding;
+            first = first;
+            told = subst (λ r. IsFindingTold func bytes (length f.params) r finding output) kept.rule_is told;
+          }),
+          h.1,
+        ),
+      )
+  broken_so finding (goes_on never) first h = absurd never
+
+  pub counted_so : (checked : CheckedFunction) (end : End ⊥) → IsChecked s f checked.function checked.slots → ((text : List ℕ) × IsEnd (Tells s (as_callable checked) (own head) text) end)
+      → (text : List ℕ) × IsEnd (EndsOn func s bytes text) end
+  counted_so checked wants_memory is (text, h) = ([], tt)
+  counted_so checked (ended status output) is (text, h) =
+      let tells : Tells s (callable_of s f) (own head) text status output = subst (λ c. Tells s c (own head) text status output) (callable_is s f checked is) h in
+      (text, inr (record { written = f; reads_as = reads; unbroken = is.unbroken }, subst (λ c. Tells s (callable_of s f) c text status output) kept.counts_are tells))
+  counted_so checked (goes_on never) is (text, h) = absurd h

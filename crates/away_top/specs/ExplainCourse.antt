@@ -1,0 +1,125 @@
+-- `explain SCHEMA FUNC`: a function's file that is refused is told with the place and the reason, an
+-- accepted function with its sizes.
+use Rattle.std.specs.Prelude.{◌≡◌, ◌⊎◌, ℕ, ◌≤◌, List, [], ◌∷◌, ◌++◌, length, codes, Some}
+use Rattle.std.specs.declared.option.Option.{Option}
+use Rattle.std.specs.Fmt.{decimal}
+use Rattle.std.specs.Io.KnownBytes.{Appends}
+use Rattle.away_trees.specs.declared.schemas.Schema.{Schema}
+use Rattle.away_trees.specs.declared.statements.Function.{Function}
+use Rattle.away_trees.specs.Count.{nodes}
+use Rattle.away_trees.specs.Limits.{variables, loops}
+use Rattle.cert_json.specs.Forms.{Cert}
+use Rattle.away_top.specs.declared.compile.Wanted.TheVariants.{Query}
+use Rattle.away_top.specs.declared.status.Status.{Status}
+use Rattle.away_top.specs.declared.status.Status.TheVariants.{Done}
+use Rattle.away_top.specs.CompileCourse.{IsCompiledFrom, compile_course}
+use Rattle.away_top.specs.Course.{Course, Exactly, Outcome, and_then, ends, judges, reads}
+use Rattle.away_top.specs.Explanations.{ExplainedBy, Explains}
+use Rattle.away_top.specs.Files.{Callable, callable_of, schema_course}
+use Rattle.away_top.specs.Lines.{line}
+use Rattle.away_top.specs.Refusals.{IsFunction, IsSchema}
+
+-- ---- an accepted function
+
+-- what is counted, and how many there are
+pub record Count : Type 0 where
+  pub what : List ℕ
+  pub found : ℕ
+
+abbrev pub count : List ℕ → ℕ → Count
+count what found = record { what = what; found = found }
+
+-- a line each: what is counted, a blank and the number
+abbrev pub count_lines : List Count → List ℕ
+count_lines [] = []
+count_lines (c ∷ counts) = line (c.what ++ (codes " " ++ decimal c.found)) ++ count_lines counts
+
+-- the counts of a function as it is written
+pub record OwnCounts : Type 0 where
+  pub nodes : ℕ
+  pub variables : ℕ
+  pub loops : ℕ
+  pub params : ℕ
+
+abbrev pub own_counts : Function → OwnCounts
+own_counts f = record { nodes = nodes f; variables = variables f; loops = loops f; params = length f.params }
+
+-- these, the labels and the columns of the tail form, and the bytes of the query
+abbrev pub counts : OwnCounts → Cert → ℕ → List Count
+counts own forms bytes =
+    count (codes "nodes") own.nodes
+    ∷ count (codes "variables") own.variables
+    ∷ count (codes "loops") own.loops
+    ∷ count (codes "parameters") own.params
+    ∷ count (codes "labels") (length forms.tail.labels)
+    ∷ count (codes "columns") (length forms.tail.columns)
+    ∷ count (codes "bytes") bytes
+    ∷ []
+
+-- they are told of a function with such counts, whose query is this text
+abbrev pub Tells : Schema → Callable → OwnCounts → List ℕ → Status → List ℕ → Type 0
+Tells s f own made status output =
+    (forms : Cert) × IsCompiledFrom s f forms made
+    × Exactly Done (count_lines (counts own forms (length made))) status output
+
+-- the same of a function that the file reads as
+abbrev pub TellsCounts : Schema → Function → List ℕ → Status → List ℕ → Type 0
+TellsCounts s f made = Tells s (callable_of s f) (own_counts f) made
+
+-- ---- the course
+
+-- how a run ends at these bytes of the function's file
+abbrev pub EndsOn : List ℕ → Schema → List ℕ → List ℕ → Status → List ℕ → Type 0
+EndsOn func s bytes made status output =
+    ExplainedBy func s bytes status output
+    ⊎ ((f : IsFunction s bytes) × TellsCounts s f.written made status output)
+
+-- the function's file is read and judged over the tables of the schema
+abbrev pub explained_course : List ℕ → List ℕ → Schema → Course ⊥
+explained_course func made s =
+    reads func 1048576
+    (λ bytes. judges (ExplainedBy func s bytes) (IsFunction s bytes)
+    (λ f. ends (TellsCounts s f.written made)))
+
+abbrev pub explain_course : List ℕ → List ℕ → List ℕ → Course ⊥
+explain_course schema func made = and_then (schema_course schema) (explained_course func made)
+
+-- ---- the whole run
+
+-- The bytes of one file read as a schema, which breaks no rule, and those of the other as a function
+-- that breaks none. The output tells its counts, and those of a query that it is compiled to.
+pub record IsCounted (schema func output : List ℕ) : Type 0 where
+  pub tables : IsSchema schema
+  pub function : IsFunction tables.schema func
+  pub text : List ℕ
+  pub forms : Cert
+  pub compiled : IsCompiledFrom tables.schema (callable_of tables.schema function.written) forms text
+  pub output_is : output ≡ count_lines (counts (own_counts function.written) forms (length text))
+
+-- Where the words are those of `explain` and the files tell what they hold, such counts were written.
+abbrev pub WritesCounts : (List ℕ → Option (List ℕ)) → Option (List ℕ) → Option (List ℕ)
+    → List (List ℕ) → Type 0
+WritesCounts held before after words =
+    (schema func tables function : List ℕ)
+    → words ≡ codes "explain" ∷ schema ∷ func ∷ []
+    → held schema ≡ Some tables → held func ≡ Some function
+    → (output : List ℕ) × IsCounted tables function output × Appends before after output
+
+-- Where the function's file was refused, and that of the schema wasn't, the place and the reason were
+-- written.
+abbrev pub WritesReason : (List ℕ → Option (List ℕ)) → Option (List ℕ) → Option (List ℕ)
+    → List (List ℕ) → Type 0
+WritesReason held before after words =
+    (schema func tables function : List ℕ) (s : IsSchema tables)
+    → words ≡ codes "explain" ∷ schema ∷ func ∷ []
+    → held schema ≡ Some tables → length tables ≤ 67108864
+    → held func ≡ Some function → length function ≤ 1048576
+    → (output : List ℕ) × Explains func s.schema function output × Appends before after output
+
+-- ---- laws
+
+-- A run of `compile` over the same files may end with the same status.
+abbrev pub EndsAsCompile : Type 0
+EndsAsCompile = (held : List ℕ → Option (List ℕ)) (schema func made : List ℕ) (status : Status)
+    (output : List ℕ) → Outcome held (explain_course schema func made) status output
+    → (other : List ℕ) × Outcome held (compile_course Query schema func made) status other

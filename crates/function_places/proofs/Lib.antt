@@ -1,0 +1,10 @@
+pub mod NodeSteps
+pub mod Starts
+pub mod HavePlaces
+pub mod AddedKinds
+pub mod Counting
+pub mod TooDeep
+pub mod LimitSteps
+pub mod NamePlaces
+pub mod StuckSteps
+pub mod PlaceTokens

@@ -1,0 +1,5 @@
+pub mod NodePlaces
+pub mod TokenPlaces
+pub mod LimitPlaces
+pub mod StuckPlaces
+pub mod PlaceLaws

@@ -1,0 +1,4 @@
+pub mod Instead
+pub mod Entries
+pub mod Reasons
+pub mod Laws
