@@ -1,0 +1,16 @@
+use Rattle.std.proofs.Common.{arith}
+use Rattle.turn_query.proofs.LevelRules.{next_read, none_read, all_read}
+use Rattle.turn_query.proofs.levels.behind_reads.Goals as goal
+
+pub loop-left-init : goal.loop-left-init
+loop-left-init c = (omega arith, none_read c.args.first c.args.many c.args.e)
+
+pub loop-left-preserved : goal.loop-left-preserved
+loop-left-preserved c = (
+  omega (arith, c.loop-left.invariant.0),
+  next_read c.args.first c.loop-left.left c.args.many c.loop-left.behind c.in_ok-behind_read.field-0 c.args.e c.in_ok-sum.field-0
+  c.loop-left-test.true c.loop-left.invariant.0 c.in_ok-sum.ensures c.loop-left.invariant.1 c.in_ok-behind_read.ensures,
+)
+
+pub returns : goal.returns
+returns c = all_read c.args.first c.loop-left.left c.args.many c.loop-left.behind c.args.e c.loop-left-test.false c.loop-left.invariant.1

@@ -1,0 +1,7 @@
+-- each arm by proofs/PlanSteps, with y = as_body c.args.body.now, refs = scope_of c.args.refs.now:
+-- Sets, may_wait yes:   ok_by c.waiting_plan.result _ _ (λ p h. set_waits w m g refs y n t x (is_sets body n t rest' c.in-Sets.is ∙ ap (sets n t ∘ as_body) get-eq) b c.in_ok-may_wait.ensures (as_plan p) c.if-may_wait.true h) c.waiting_plan.ensures
+-- Sets, no:             set_settles .. (as_plan p) (as_plan plan) (as_settled settling) no (settle.ensures ∙ ap (λ ty. settled w m g refs ty t) type_of.ensures) plan_of_named.ensures h
+-- Enters:               enters_plan w m g refs y params args x (as_plan p) is h, with as_slice's equations under paired
+-- Picks, yes / no:      test_waits; test_settles .. (as_plan first) (as_plan second) (as_settled settling) steps no settle.ensures plan_of_yes.ensures steps_is plan_of_no.ensures h
+-- Returns, Fails, Calls, Endless: end_plan w m g refs y z (as_plan p) is refl h (BodyParts has is_sets, is_enters, is_picks; the others are ap as_body is ∙ of_returns ..)
+-- plan_of_named, .._entered, .._yes, .._no: ok_by of plan_of's ensures, with sum's and settled_name's (guard_of_yes's) equations under spec.plan

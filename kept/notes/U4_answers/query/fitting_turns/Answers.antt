@@ -1,0 +1,4 @@
+-- names of the returns as the check offers them
+-- steps >= MOST_LEVELS:  one_turn c.args.steps c.args.asked c.requires c.if-steps-ge120.true
+-- asked <= most:         all_turns steps asked c.most.most refl c.requires c.if-asked-le_most.true
+-- else:                  most_turns steps asked c.most.most refl c.if-steps-ge120.false c.if-asked-le_most.false

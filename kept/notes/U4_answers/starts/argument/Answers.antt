@@ -1,0 +1,2 @@
+-- returns-in-None: no_argument (types_in c.args.w.now) c.args.ty c.args.places.now c.args.params.now c.args.place e (sym c.passed.ensures ∙ c.in-None.is) h, under ok_by of null's ensures
+-- returns at Some, Some: an_argument (types_in w) ty places params place name number _ _ (sym c.passed.ensures ∙ c.in-Some.is) number_is c.type_of.ensures refl
