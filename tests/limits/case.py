@@ -12,6 +12,7 @@ COMPILE = ["compile", "s.sql", "f.sql"]
 INLINE = ["inline", "s.sql", "q.sql", "f.sql"]
 EXPAND = ["expand", "s.sql", "f.sql"]
 CERTIFY = ["certify", "s.sql", "f.sql"]
+UNROLL = ["unroll", "64", "s.sql", "f.sql"]
 CHECK = ["check", "s.sql", "f.sql", "q.sql", "c.json"]
 
 

@@ -1,6 +1,6 @@
 """The limits of what is read, each at its number and one above, with the line that is answered."""
 
-from case import CERTIFY, COMPILE, EXPAND, FILE, FN, FUNCTION, INLINE, NULL, SQL, TEXT, Case, function, one_row
+from case import CERTIFY, COMPILE, EXPAND, FILE, FN, FUNCTION, INLINE, NULL, SQL, TEXT, UNROLL, Case, function, one_row
 
 DEEP = (8192, 4096)  # KiB of stack for queries of 256 pairs in one another
 AROUND = {
@@ -28,6 +28,7 @@ def of_function(name, text, line, *words):
     if line.startswith("value"):
         yield Case(f"{name}, compiled", {"f.sql": text}, COMPILE, status=0)
         yield Case(f"{name}, certified", {"f.sql": text}, CERTIFY, status=0)
+        yield Case(f"{name}, unrolled", {"f.sql": text}, UNROLL, status=0)
 
 
 def nesting():

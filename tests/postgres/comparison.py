@@ -13,13 +13,13 @@ from loading import load
 TURNS = "1000000"
 SHORT_SECONDS = 0.5
 OVER_TIME = "over time"
-HEADINGS = ("arguments", "function", "ms", "query", "ms", "in sql", "ms", "differs")
+HEADINGS = ("arguments", "function", "ms", "query", "ms", "in sql", "ms", "unrolled", "ms", "differs")
 
 
 class Comparison:
     def __init__(self, server, away, options):
         self.connection = server.connect()
-        self.seconds, self.with_demo = options.seconds, options.demo
+        self.seconds, self.with_demo, self.turns = options.seconds, options.demo, str(options.turns)
         self.away = away
         self.compared = self.known = self.unmarked = self.unrun = 0
         print(f"PostgreSQL {self.connection.run('SHOW server_version')[0][0]}, {away.line('--version')}")
@@ -30,12 +30,13 @@ class Comparison:
         with tempfile.TemporaryDirectory(prefix="away-case-") as folder:
             files = write_case(case, pathlib.Path(folder))
             compiled = self.away.call("compile", files.schema, files.function)
-            if compiled.returncode != 0:
+            unrolled = self.away.call("unroll", self.turns, files.schema, files.function)
+            if compiled.returncode != 0 or unrolled.returncode != 0:
                 self.unrun += 1
-                print(f"  not compiled: {compiled.stdout.strip()}")
+                print(f"  not written: {compiled.stdout.strip() or unrolled.stdout.strip()}")
                 return
             try:
-                loaded = self._load(case, compiled.stdout)
+                loaded = self._load(case, compiled.stdout, unrolled.stdout)
             except Fault as fault:
                 self.unrun += 1
                 print(f"  not loaded: {fault}")
@@ -49,11 +50,13 @@ class Comparison:
               + (f"; {self.unrun} cases didn't run" if self.unrun else ""))
         return 1 if self.unmarked or self.unrun else 0
 
-    def _load(self, case, query):
-        """Loads the case, and its query in both forms."""
+    def _load(self, case, query, unrolled):
+        """Loads the case, its query in both forms, and that of several turns in an iteration."""
         loaded, run = load(self.connection, case), self.connection.run
         listed = ", ".join(loaded.types)
-        run(f"PREPARE away_query{f'({listed})' if listed else ''} AS {query}")
+        typed = f"({listed})" if listed else ""
+        run(f"PREPARE away_query{typed} AS {query}")
+        run(f"PREPARE away_unrolled{typed} AS {unrolled}")
         run(f"CREATE FUNCTION public.away_in_sql({listed}) RETURNS TABLE (away_result {loaded.result}, away_fault text)"
             f" LANGUAGE sql AS $away${query}$away$")
         run(f"SET statement_timeout = '{self.seconds}s'")
@@ -68,6 +71,7 @@ class Comparison:
             self._timed(f"SELECT public.{loaded.function}({given})", _function_answer, loaded.result),
             self._timed(f"EXECUTE away_query{in_parentheses}", _query_answer, loaded.result),
             self._timed(f"SELECT * FROM public.away_in_sql({given})", _query_answer, loaded.result),
+            self._timed(f"EXECUTE away_unrolled{in_parentheses}", _query_answer, loaded.result),
         ]
         said = {"away fn": self.away.line("fn", TURNS, files.schema, files.function, files.tables, *words)}
         if self.with_demo and case.number is not None:
@@ -85,14 +89,14 @@ class Comparison:
 
     def _judge(self, case, words, answers, said):
         """What differs, and why where that is known."""
-        function, query, in_sql = answers
-        sides = {"query": query, "in sql": in_sql}
+        function, query, in_sql, unrolled = answers
+        sides = {"query": query, "in sql": in_sql, "unrolled": unrolled}
         sides.update((f"{command} says {answer}", answer) for command, answer in said.items())
         others = [name for name, answer in sides.items() if answer != function]
         if not others:
             return ""
         instead, reason = KNOWN.get((case.name, tuple(words)), (None, None))
-        if set(said.values()) == {function} and {query, in_sql} <= {function, instead}:
+        if {unrolled, *said.values()} == {function} and {query, in_sql} <= {function, instead}:
             self.known += 1
             return f"known: {reason}"
         self.unmarked += 1

@@ -12,15 +12,17 @@ use Rattle.away_top.specs.declared.host.Files.{Ghosts as Files}
 use Rattle.away_top.specs.declared.status.Status.{Status}
 use Rattle.away_top.specs.declared.status.Status.TheVariants.{Done, Refused, Usage, ReadFault, WriteFault, NoMemory, More, Fault, NotAccepted, Shape}
 use Rattle.csv_tables.specs.Files.{Or, rows_in}
+use Rattle.away_types.specs.CheckedQueries.{resolved_query}
 use Rattle.sql_meaning.specs.Context.{Rows}
+use Rattle.sql_meaning.specs.Working.{sql}
 use Rattle.sql_eval.specs.declared.rows_answer.RowsAnswer.TheVariants as rows
 use Rattle.away_top.specs.declared.over_tables.program.Reply.{Reply}
 use Rattle.away_top.specs.declared.over_tables.program.Reply.TheVariants as reply
 use Rattle.away_top.specs.AnswerLines.{answer_end, value_line}
 use Rattle.away_top.specs.RowRecords.{records_text, rows_end}
-use Rattle.away_top.specs.Arguments.{bound_of}
+use Rattle.away_top.specs.Arguments.{bound_of, values_for}
 use Rattle.away_top.specs.BatchCourse.{EndsWith, batch_course, place_of}
-use Rattle.away_top.specs.Commands.{Command, batch, check, command_of, compile, course, course_of, demo, expand, explain, format, help, inline, no_form, over_tables, untail, version}
+use Rattle.away_top.specs.Commands.{Command, batch, check, command_of, compile, course, course_of, demo, expand, explain, format, help, inline, no_form, over_tables, unroll, unrolled, untail, version}
 use Rattle.cert_json.specs.Forms.{Cert}
 use Rattle.stage_check.specs.declared.verdict.Verdict.TheVariants.{Accepted, Fails}
 use Rattle.away_top.specs.Certificates.{RefusesCert, cert_course}
@@ -42,6 +44,8 @@ use Rattle.away_top.specs.ExpandCourse as expands
 use Rattle.away_top.specs.ExplainCourse.{TellsCounts, explain_course}
 use Rattle.away_top.specs.Explanations.{ExplainedBy}
 use Rattle.away_top.specs.InlineCourse as inlines
+use Rattle.away_top.specs.UnrollCourse as unrolls
+use Rattle.away_top.specs.UnrolledCourse as unrolleds
 use Rattle.away_top.specs.UntailCourse as untails
 use Rattle.away_top.specs.Refusals.{RefusesFunction, RefusesRead, RefusesQuery, RefusesRowQuery, RefusesSchema}
 use Rattle.away_top.specs.Runs.{ended, Follows}
@@ -239,6 +243,34 @@ plain_inline schema query func text =
       ),
     )
 
+-- ---- several turns in an iteration
+
+plain_unroll : (turns schema func text : List ℕ) → IsPlainCourse (unrolls.unroll_course turns schema func text)
+plain_unroll turns schema func text =
+    plain_then (spelled (unrolls.turns_of turns)) (unrolls.with_turns schema func text) (plain_spelled (unrolls.turns_of turns))
+    (λ most bytes. (plain_refusal schema (RefusesSchema bytes), λ s more. (plain_refusal func (RefusesFunction s.schema more), λ f status output end. subst IsPlain (sym end.1.0) tt)))
+
+plain_in_turns : (bound most : ℕ) (dir text : List ℕ) (s : Schema) (f : Callable) (values : List Value) (tables : List Rows) → ArePlain (unrolleds.TellsUnrolled bound most text s f values tables)
+plain_in_turns bound most dir text s f values tables status output told = plain_told (reply.Answer (sql (resolved_query s told.0.query) tables values bound)) status output told.1
+
+plain_turn_values : (bound most : ℕ) (dir text : List ℕ) (s : Schema) (f : Callable) (values : List Value) → IsPlainCourse (unrolleds.with_values bound most dir text s f values)
+plain_turn_values bound most dir text s f values =
+    plain_then {A = List Rows} {B = ⊥} (tables_course dir s.tables) (λ tables. ends (unrolleds.TellsUnrolled bound most text s f values tables)) (plain_tables dir [] s.tables) (plain_in_turns bound most dir text s f values)
+
+plain_turn_arguments : (bound most : ℕ) (dir : List ℕ) (args : List (List ℕ)) (text : List ℕ) (s : Schema) (f : Callable) → IsPlainCourse (unrolleds.with_function bound most dir args text s f)
+plain_turn_arguments bound most dir args text s f =
+    plain_then (spelled (values_for f.function.params args)) (unrolleds.with_values bound most dir text s f) (plain_spelled (values_for f.function.params args)) (plain_turn_values bound most dir text s f)
+
+plain_turn_schema : (bound most : ℕ) (func dir : List ℕ) (args : List (List ℕ)) (text : List ℕ) (s : Schema) → IsPlainCourse (unrolleds.with_schema bound most func dir args text s)
+plain_turn_schema bound most func dir args text s =
+    plain_then {A = Callable} {B = ⊥} (function_course s func) (unrolleds.with_function bound most dir args text s) (λ bytes. (plain_refusal func (RefusesFunction s bytes), λ f. tt)) (plain_turn_arguments bound most dir args text s)
+
+plain_unrolled : (bound turns schema func dir : List ℕ) (args : List (List ℕ)) (text : List ℕ) → IsPlainCourse (unrolleds.unrolled_course bound turns schema func dir args text)
+plain_unrolled bound turns schema func dir args text =
+    plain_then (spelled (bound_of bound)) (unrolleds.with_bound turns schema func dir args text) (plain_spelled (bound_of bound))
+    (λ limit. plain_then (spelled (unrolls.turns_of turns)) (unrolleds.with_turns limit schema func dir args text) (plain_spelled (unrolls.turns_of turns))
+    (λ most. plain_then {A = Schema} {B = ⊥} (schema_course schema) (unrolleds.with_schema limit most func dir args text) (λ bytes. (plain_refusal schema (RefusesSchema bytes), λ s. tt)) (plain_turn_schema limit most func dir args text)))
+
 -- ---- a place and a reason, or counts
 
 plain_explained : (func : List ℕ) (s : Schema) (bytes : List ℕ) → ArePlain (ExplainedBy func s bytes)
@@ -272,6 +304,8 @@ plain_command (check schema func query cert) text = plain_check schema func quer
 plain_command (untail schema func) text = plain_untail schema func text
 plain_command (expand schema main others) text = plain_expand schema main others text
 plain_command (inline schema query func) text = plain_inline schema query func text
+plain_command (unroll turns schema func) text = plain_unroll turns schema func text
+plain_command (unrolled bound turns schema func dir args) text = plain_unrolled bound turns schema func dir args text
 plain_command (explain schema func) text = plain_explain schema func text
 plain_command (format func) text = plain_format func
 plain_command (demo number) text = plain_shown (bound_of number) text

@@ -28,13 +28,13 @@ use Rattle.away_top.proofs.Unrefused.{function_unrefused, query_unrefused, row_q
 use Rattle.away_top.proofs.Telling.{runs_so, telling}
 use Rattle.away_top.proofs.Words.{asks_run}
 
-some_of : {A : Type 0} (o : Option A) → IsSome o → (a : A) × (o ≡ Some a)
+pub some_of : {A : Type 0} (o : Option A) → IsSome o → (a : A) × (o ≡ Some a)
 some_of None s = absurd (cc)
 some_of (Some a) s = (a, refl)
 
 -- ---- files that are fit lead to an answer
 
-tells_reply : (r : Reply) (status : Status) (output : List ℕ) → Tells r status output → IsAnswer status
+pub tells_reply : (r : Reply) (status : Status) (output : List ℕ) → Tells r status output → IsAnswer status
 tells_reply (reply.Answer (answer.Value v)) status output e = subst IsAnswer (sym e.0) tt
 tells_reply (reply.Answer (answer.Fault c)) status output e = subst IsAnswer (sym e.0) tt
 tells_reply (reply.Answer answer.More) status output e = subst IsAnswer (sym e.0) tt

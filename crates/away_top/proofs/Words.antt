@@ -4,7 +4,7 @@ use Rattle.away_top.specs.declared.compile.Wanted.{Wanted}
 use Rattle.away_top.specs.declared.compile.Wanted.TheVariants as wanted
 use Rattle.away_top.specs.declared.over_tables.program.Runnable.{Runnable}
 use Rattle.away_top.specs.declared.over_tables.program.Runnable.TheVariants as runnable
-use Rattle.away_top.specs.Commands.{batch, check, command_of, compile, demo, expand, explain, format, inline, over_tables, untail}
+use Rattle.away_top.specs.Commands.{batch, check, command_of, compile, demo, expand, explain, format, inline, over_tables, unroll, unrolled, untail}
 use Rattle.away_top.specs.CompileCourse.{word_of as compile_word}
 use Rattle.away_top.specs.Programs.{word_of}
 
@@ -47,6 +47,15 @@ asks_run runnable.Function bound schema file dir args = refl
 pub asks_inline : (schema query func : List ℕ) → command_of (codes "inline" ∷ schema ∷ query ∷ func ∷ []) ≡ inline schema query func
 unfolding command_of
 asks_inline schema query func = refl
+
+pub asks_unroll : (turns schema func : List ℕ) → command_of (codes "unroll" ∷ turns ∷ schema ∷ func ∷ []) ≡ unroll turns schema func
+unfolding command_of
+asks_unroll turns schema func = refl
+
+pub asks_unrolled : (bound turns schema func dir : List ℕ) (args : List (List ℕ))
+    → command_of (codes "unrolled" ∷ bound ∷ turns ∷ schema ∷ func ∷ dir ∷ args) ≡ unrolled bound turns schema func dir args
+unfolding command_of
+asks_unrolled bound turns schema func dir args = refl
 
 pub asks_explain : (schema func : List ℕ) → command_of (codes "explain" ∷ schema ∷ func ∷ []) ≡ explain schema func
 unfolding command_of

@@ -44,6 +44,19 @@ pub(crate) enum Command<'a> {
         query: &'a str,
         func: &'a str,
     },
+    Unroll {
+        turns: &'a str,
+        schema: &'a str,
+        func: &'a str,
+    },
+    Unrolled {
+        bound: &'a str,
+        turns: &'a str,
+        schema: &'a str,
+        func: &'a str,
+        dir: &'a str,
+        args: &'a [String],
+    },
     Explain {
         schema: &'a str,
         func: &'a str,
@@ -131,10 +144,16 @@ impl<'a> Command<'a> {
         Command::named_of_turns(word, rest)
     }
 
-    /// The command of this name that tells of a function.
+    /// The command of this name that writes or runs a query of several turns in an iteration, or tells of a function.
     fn named_of_turns(word: &str, rest: &'a [String]) -> Command<'a>
         ensures { as_command result ≡ asked_by turn_forms word.now (map string_bytes rest.now) }
     {
+        if word == "unroll" {
+            return unroll(rest);
+        }
+        if word == "unrolled" {
+            return unrolled(rest);
+        }
         if word == "explain" {
             return explain(rest);
         }
@@ -226,6 +245,35 @@ fn inline<'a>(rest: &'a [String]) -> Command<'a>
             schema: schema.as_str(),
             query: query.as_str(),
             func: func.as_str(),
+        },
+        _ => Command::NoForm,
+    }
+}
+
+fn unroll<'a>(rest: &'a [String]) -> Command<'a>
+    ensures { as_command result ≡ form.with_three form.unroll (map string_bytes rest.now) }
+{
+    match rest {
+        [turns, schema, func] => Command::Unroll {
+            turns: turns.as_str(),
+            schema: schema.as_str(),
+            func: func.as_str(),
+        },
+        _ => Command::NoForm,
+    }
+}
+
+fn unrolled<'a>(rest: &'a [String]) -> Command<'a>
+    ensures { as_command result ≡ form.with_turns form.unrolled (map string_bytes rest.now) }
+{
+    match rest {
+        [bound, turns, schema, func, dir, args @ ..] => Command::Unrolled {
+            bound: bound.as_str(),
+            turns: turns.as_str(),
+            schema: schema.as_str(),
+            func: func.as_str(),
+            dir: dir.as_str(),
+            args,
         },
         _ => Command::NoForm,
     }

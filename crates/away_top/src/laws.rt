@@ -33,6 +33,7 @@ ghost use Rattle.away_top.specs.InMemory.{
 };
 ghost use Rattle.away_top.specs.MemoryFiles.{held_at};
 ghost use Rattle.away_top.specs.Programs.{word_of};
+ghost use Rattle.away_top.specs.UnrollInMemory.{AnsweredInTurns, MayRunUnrolled, MayUnroll, UnrolledIn};
 
 use crate::{MemoryFiles, MemorySink, Status, away};
 use std::alloc::Global;
@@ -46,8 +47,10 @@ use std::alloc::Global;
 /// Where they are those of `check`, it is the verdict on its files, where they are those of `sql` or `fn`, the answer of the query or
 /// the function, where they are those of `rows`, the rows of the query, where they are those of `format`, the text of the function, where they
 /// are those of `untail`, the function with its calls of itself as turns of a loop, where they are those of `expand`, the main function with
-/// its calls of the others expanded, where they are those of `inline`, the query with its calls of the function as subqueries, where they are those of `explain`, the place and the reason of a
-/// refusal, or the counts of the function, and where they are `demo` and a number, a summary of that case.
+/// its calls of the others expanded, where they are those of `inline`, the query with its calls of the function as subqueries, where they are
+/// those of `unroll`, a query in which one iteration runs several turns, where they are those of `unrolled`, the answer of that query, where
+/// they are those of `explain`, the place and the reason of a refusal, or the counts of the function, and where they are `demo` and a
+/// number, a summary of that case.
 pub fn away_in_memory(
     alloc: Global,
     words: &[String],
@@ -86,6 +89,15 @@ pub fn away_in_memory(
         → map string_bytes words.now ≡ codes "inline" ∷ schema ∷ query ∷ func ∷ []
         → MayInline files.old schema query func tables calling function → out.old.fails ≡ []
         → InlinedIn out.old out.new result tables calling function }
+    ensures unroll { (turns schema func tables function : List ℕ)
+        → map string_bytes words.now ≡ codes "unroll" ∷ turns ∷ schema ∷ func ∷ []
+        → MayUnroll files.old turns schema func tables function → out.old.fails ≡ []
+        → UnrolledIn out.old out.new result turns tables function }
+    ensures unrolled { (bound turns schema func dir : List ℕ) (args : List (List ℕ))
+        → map string_bytes words.now
+        ≡ codes "unrolled" ∷ bound ∷ turns ∷ schema ∷ func ∷ dir ∷ args
+        → MayRunUnrolled files.old bound turns schema func dir args → out.old.fails ≡ []
+        → AnsweredInTurns files.old out.old out.new result bound turns schema func dir args }
     ensures explain { (schema func tables function : List ℕ)
         → map string_bytes words.now ≡ codes "explain" ∷ schema ∷ func ∷ []
         → (may : MayExplain files.old schema func tables function) → out.old.fails ≡ []

@@ -6,3 +6,4 @@ pub mod program;
 pub mod row_records;
 pub mod run;
 pub mod tables;
+pub mod unrolled;

@@ -52,7 +52,7 @@ fn reply_ending(alloc: Global, reply: &Reply) -> Result<Ending, AllocError>
 }
 
 /// What words spell, if they spell one.
-fn spelled<T>(alloc: Global, value: Option<T>) -> Result<T, Halt>
+pub(crate) fn spelled<T>(alloc: Global, value: Option<T>) -> Result<T, Halt>
     ensures { IsSpelled value result }
 {
     match value {

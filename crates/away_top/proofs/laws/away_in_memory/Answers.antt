@@ -10,6 +10,8 @@ use Rattle.away_top.proofs.RunsInMemory.{run_told}
 use Rattle.away_top.proofs.ExpandsInMemory as expands
 use Rattle.away_top.proofs.ExplainsInMemory as explains
 use Rattle.away_top.proofs.InlinesInMemory as inlines
+use Rattle.away_top.proofs.UnrolledInMemory as unrolleds
+use Rattle.away_top.proofs.UnrollsInMemory as unrolls
 use Rattle.away_top.proofs.UntailsInMemory as untails
 use Rattle.away_top.proofs.laws.away_in_memory.Goals as goal
 
@@ -63,6 +65,16 @@ pub returns-clause-inline : goal.returns-clause-inline
 returns-clause-inline c = λ schema query func tables calling function is may none.
     let ended = returns-clause-every c may.no_failure none in
     inlines.inlined c.args.files.now schema query func tables calling function may c.args.out.now c.away.new.out (map string_bytes c.args.words.now) ended.0 c.away.result is ended.1
+
+pub returns-clause-unroll : goal.returns-clause-unroll
+returns-clause-unroll c = λ turns schema func tables function is may none.
+    let ended = returns-clause-every c may.no_failure none in
+    unrolls.unrolled c.args.files.now turns schema func tables function may c.args.out.now c.away.new.out (map string_bytes c.args.words.now) ended.0 c.away.result is ended.1
+
+pub returns-clause-unrolled : goal.returns-clause-unrolled
+returns-clause-unrolled c = λ bound turns schema func dir args is may none.
+    let ended = returns-clause-every c may.no_failure none in
+    unrolleds.told c.args.files.now c.args.out.now c.away.new.out (map string_bytes c.args.words.now) ended.0 bound turns schema func dir args c.away.result is may ended.1
 
 pub returns-clause-explain : goal.returns-clause-explain
 returns-clause-explain c = λ schema func tables function is may none.

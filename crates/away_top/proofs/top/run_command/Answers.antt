@@ -25,6 +25,14 @@ pub returns-in-Inline : goal.returns-in-Inline
 returns-in-Inline g c =
     subst (λ (x : Command). Runs g.F.Files c.args.files.now (course_of (as_command x)) c.inline.new.files (run_end c.inline.result)) (sym c.in-Inline.is) c.inline.ensures
 
+pub returns-in-Unroll : goal.returns-in-Unroll
+returns-in-Unroll g c =
+    subst (λ (x : Command). Runs g.F.Files c.args.files.now (course_of (as_command x)) c.unroll.new.files (run_end c.unroll.result)) (sym c.in-Unroll.is) c.unroll.ensures
+
+pub returns-in-Unrolled : goal.returns-in-Unrolled
+returns-in-Unrolled g c =
+    subst (λ (x : Command). Runs g.F.Files c.args.files.now (course_of (as_command x)) c.run_unrolled.new.files (run_end c.run_unrolled.result)) (sym c.in-Unrolled.is) c.run_unrolled.ensures
+
 pub returns-in-Explain : goal.returns-in-Explain
 returns-in-Explain g c =
     subst (λ (x : Command). Runs g.F.Files c.args.files.now (course_of (as_command x)) c.explain.new.files (run_end c.explain.result)) (sym c.in-Explain.is) c.explain.ensures

@@ -1,0 +1,16 @@
+pub mod BodyParts
+pub mod CellRules
+pub mod PassedRules
+pub mod TwoLists
+pub mod WaitRules
+pub mod WaitSteps
+pub mod Numbers
+pub mod Nameless
+pub mod TreeIsTemplate
+pub mod Standing
+pub mod PlanSteps
+pub mod LevelRules
+pub mod StartRules
+pub mod FittingRules
+pub mod Makings
+pub mod QueryRules

@@ -1,0 +1,15 @@
+-- How many turns an iteration has: as many as are asked for, or the most whose levels aren't more
+-- than a query nests well; and at least one.
+use Rattle.std.specs.Prelude.{ℕ, suc, ◌*◌, ◌<◌, ◌≤◌}
+
+-- the most selects that stand one over another in the second term, but for those of one turn alone
+abbrev pub most_levels : ℕ
+most_levels = 120
+
+-- k turns of so many steps each, where so many turns are asked for: a turn has a level for each
+-- step, and one more
+pub record FittingTurns (steps asked k : ℕ) : Type 0 where
+  pub some : 0 < k
+  pub few : k ≤ asked
+  pub levels : 1 < k → k * suc steps ≤ most_levels
+  pub most : k < asked → most_levels < suc k * suc steps

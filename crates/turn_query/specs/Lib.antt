@@ -1,0 +1,7 @@
+pub mod Filled
+pub mod Waits
+pub mod Plans
+pub mod TurnTree
+pub mod Fitting
+pub mod TurnsQuery
+pub mod FilledTurns

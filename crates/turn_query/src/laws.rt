@@ -1,0 +1,14 @@
+//! What holds of the query of turns.
+
+ghost use Rattle.turn_query.specs.TurnsQuery.{QueriesStandInTurns};
+
+use turn_terms::{what_is_chosen_is_total, what_is_the_same_is_one};
+
+/// Where the forms before it are in their relations, the query of their unfolded labels stands behind the function, so that what is proved of such
+/// queries holds of it.
+pub fn queries_of_turns_stand_in_turns()
+    ensures { QueriesStandInTurns }
+{
+    what_is_the_same_is_one();
+    what_is_chosen_is_total();
+}

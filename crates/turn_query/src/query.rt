@@ -1,0 +1,244 @@
+//! The query: its recursive table, and the select of the finished row.
+
+ghost use Rattle.std.specs.Prelude.{◌≡◌, ℕ, suc, ◌<◌, ◌∷◌, [], List, map, length, take, Some, IfOk};
+ghost use Rattle.away_trees.specs.declared.queries.Expr.TheViews.{roll-Recursive, roll-Query};
+ghost use Rattle.away_trees.specs.declared.queries.Expr.TheVariants as expr;
+ghost use Rattle.block_forms.specs.Expressions.{expressions};
+ghost use Rattle.sql_meaning.specs.Trees as trees;
+ghost use Rattle.cte_parts.specs.Names.{table_name, row_names};
+ghost use Rattle.turn_query.specs.Fitting.{FittingTurns};
+ghost use Rattle.turn_query.specs.FilledTurns as spec;
+ghost use Rattle.turn_query.specs.FilledTurns.{IsFitting};
+ghost use Rattle.turn_query.specs.Plans.{as_plan};
+ghost use Rattle.turn_query.specs.TurnTree as tree;
+ghost use Rattle.turn_query.specs.TurnsQuery.{IsTurnsQuery};
+
+use crate::levels::{all_items, all_of, level_as, over_turn, over_turns};
+use crate::plans::Plan;
+use crate::starts::{entry_place, start};
+use crate::turns::turn_plan;
+use away_trees::{Expr, FromItem, Item, Query, Recursive, Select};
+use away_types::CheckedFunction;
+use away_values::NoMemory;
+use block_forms::{ExprTable, Goto, Ssa};
+use call_forms::{Anf, Tail};
+use cte_parts::{Known, add, alone, col, not, only, row_names, select, sum, working};
+use sqlite_items::{Boxed, Items};
+use std::alloc::Global;
+use turn_bodies::Unfolded;
+use turn_terms::Writer;
+
+/// The most selects that stand one over another in the second term, but for those of one turn alone.
+const MOST_LEVELS: usize = 120;
+
+/// As many turns of so many steps as are asked for, or the most whose levels aren't too many; and at least one.
+fn fitting_turns(steps: usize, asked: usize) -> usize
+    requires { 0 < asked }
+    ensures { FittingTurns steps asked result }
+{
+    if steps >= MOST_LEVELS {
+        return 1;
+    }
+    let most = MOST_LEVELS / (steps + 1);
+    if asked <= most { asked } else { most }
+}
+
+/// The first row as the item below the turn of the entry.
+fn start_item(
+    alloc: Global,
+    w: &Writer<'_>,
+    anf: &Anf,
+    tail: &Tail,
+    entry: u32,
+) -> Result<Boxed<FromItem>, NoMemory>
+    ensures { IfOk result (λ i. i ≡ tree.level_as (length w.now.columns.now) 0
+        (spec.start w.now anf.now tail.now entry)) }
+{
+    let start = start(alloc, w, anf, tail, entry)?;
+    level_as(alloc, w.columns.len(), 0, start)
+}
+
+/// The first term: the arguments, and the turn of the entry.
+fn first(
+    alloc: Global,
+    w: &Writer<'_>,
+    anf: &Anf,
+    tail: &Tail,
+    entry: u32,
+) -> Result<Boxed<Select>, NoMemory>
+    ensures { IfOk result (λ s. s ≡ spec.first w.now anf.now tail.now entry) }
+{
+    let columns = w.columns.len();
+    let width = sum(columns, 4)?;
+    let turn = turn_plan(alloc, w, anf, tail, entry_place(tail, entry), &[entry])?;
+    let start = start_item(alloc, w, anf, tail, entry)?;
+    let item = over_turn(alloc, columns, width, &turn, start)?;
+    all_of(alloc, columns, item)
+}
+
+/// The rows of the working table that go on.
+fn going(alloc: Global, tables: usize, columns: usize) -> Result<Boxed<FromItem>, NoMemory>
+    ensures { IfOk result (λ i. i ≡ tree.going tables columns) }
+{
+    let goes_on = Boxed::new(alloc, col(0, 0, 0)?)?;
+    let list = all_items(alloc, sum(columns, 4)?)?;
+    let from = working(alloc, tables, columns)?;
+    let rows = select(alloc, list, from, Some(goes_on.into_inner()));
+    level_as(alloc, columns, 0, Boxed::new(alloc, rows)?)
+}
+
+/// So many turns of a plan over the rows that go on.
+fn turns_of(
+    alloc: Global,
+    columns: usize,
+    plan: &Plan,
+    turns: usize,
+    tables: usize,
+) -> Result<Boxed<Select>, NoMemory>
+    ensures { IfOk result (λ s. s ≡ tree.all_of columns (tree.over_turns columns
+        (tree.width_of columns) (as_plan plan.now) turns (tree.going tables columns))) }
+{
+    let width = sum(columns, 4)?;
+    let going = going(alloc, tables, columns)?;
+    let item = over_turns(alloc, columns, width, plan, turns, going)?;
+    all_of(alloc, columns, item)
+}
+
+/// The result and the fault of the finished row, of a table with so many columns behind `go` and `fn`.
+fn outcomes(alloc: Global, columns: usize) -> Result<Items<Item>, NoMemory>
+    ensures { IfOk result (λ list. list ≡ map trees.item (trees.col 0 0 (suc (suc columns))
+        ∷ trees.col 0 0 (suc (suc (suc columns))) ∷ [])) }
+{
+    let mut list = only(alloc, col(0, 0, sum(columns, 2)?)?)?;
+    add(&mut list, col(0, 0, sum(columns, 3)?)?)?;
+    Ok(list)
+}
+
+/// The row is finished.
+fn is_over(alloc: Global) -> Result<Boxed<Expr>, NoMemory>
+    ensures { IfOk result (λ e. e ≡ expr.Not (trees.col 0 0 0)) }
+{
+    Ok(Boxed::new(alloc, not(alloc, col(0, 0, 0)?)?)?)
+}
+
+/// The select of the finished row.
+fn last(alloc: Global, tables: usize, columns: usize) -> Result<Items<Select>, NoMemory>
+    ensures { IfOk result (λ list. list ≡ tree.last tables columns ∷ []) }
+{
+    let over = is_over(alloc)?;
+    let list = outcomes(alloc, columns)?;
+    let from = working(alloc, tables, columns)?;
+    alone(alloc, select(alloc, list, from, Some(over.into_inner())))
+}
+
+/// A query over a recursive table of two terms, with its name and those of its columns.
+fn over_table(
+    alloc: Global,
+    columns: usize,
+    first: Boxed<Select>,
+    second: Boxed<Select>,
+    selects: Items<Select>,
+) -> Result<Boxed<Query>, NoMemory>
+    ensures { IfOk result (λ q. q ≡ roll-Query (record {
+      recursive = Some (roll-Recursive (record {
+        name = table_name;
+        columns = row_names columns;
+        first = first ∷ [];
+        second = second;
+      }));
+      selects = selects;
+    })) }
+{
+    let name = Known::Table.name(alloc)?;
+    let columns = row_names(alloc, columns)?;
+    let first = alone(alloc, first.into_inner())?;
+    let query = Query {
+        recursive: Some(Recursive {
+            name,
+            columns,
+            first,
+            second: second.into_inner(),
+        }),
+        selects,
+    };
+    Ok(Boxed::new(alloc, query)?)
+}
+
+/// The query with the turns of a plan.
+fn query_of(
+    alloc: Global,
+    w: &Writer<'_>,
+    anf: &Anf,
+    tail: &Tail,
+    entry: u32,
+    plan: &Plan,
+    turns: usize,
+    tables: usize,
+) -> Result<Boxed<Query>, NoMemory>
+    ensures { (heads : List ℕ) → as_plan plan.now ≡ spec.turn_plan w.now anf.now tail.now 0 heads
+        → IfOk result (λ q. q ≡ spec.whole w.now anf.now tail.now entry tables heads turns) }
+{
+    let columns = w.columns.len();
+    let second = turns_of(alloc, columns, plan, turns, tables)?;
+    let first = first(alloc, w, anf, tail, entry)?;
+    let last = last(alloc, tables, columns)?;
+    over_table(alloc, columns, first, second, last)
+}
+
+/// The labels that are called: the first ones.
+fn called_labels<'a>(x: &'a Unfolded) -> &'a [u32]
+    ensures { result.now ≡ take x.now.heads x.now.tail.labels }
+{
+    let labels = x.tail.labels.as_slice();
+    if x.heads >= labels.len() {
+        return labels;
+    }
+    &labels[..x.heads]
+}
+
+/// The query of a writer, with as many turns as fit.
+fn fitting_query(
+    alloc: Global,
+    w: &Writer<'_>,
+    anf: &Anf,
+    x: &Unfolded,
+    entry: u32,
+    tables: usize,
+    asked: usize,
+) -> Result<Boxed<Query>, NoMemory>
+    requires { 0 < asked }
+    ensures { IfOk result (λ q. IsFitting w.now anf.now x.now entry tables asked q) }
+{
+    let heads = called_labels(x);
+    let plan = turn_plan(alloc, w, anf, &x.tail, 0, heads)?;
+    let turns = fitting_turns(plan.steps.len(), asked);
+    query_of(alloc, w, anf, &x.tail, entry, &plan, turns, tables)
+}
+
+/// The query of unfolded labels over so many tables, with as many turns in an iteration as are asked for, or fewer, where more selects would stand one
+/// over another in its second term than databases read well.
+pub fn turns_query(
+    alloc: Global,
+    f: &CheckedFunction,
+    goto: &Goto,
+    ssa: &Ssa,
+    anf: &Anf,
+    x: &Unfolded,
+    table: &ExprTable,
+    tables: usize,
+    turns: usize,
+) -> Result<Boxed<Query>, NoMemory>
+    requires entries { table.now.list ≡ expressions f.now.function }
+    requires some { 0 < turns }
+    ensures { IfOk result (λ q. IsTurnsQuery f.now.function f.now.slots goto.now ssa.now anf.now
+        x.now tables turns q) }
+{
+    let w = Writer {
+        table: table.list.as_slice(),
+        slots: f.slots.as_slice(),
+        names: ssa.names.as_slice(),
+        result: f.function.result,
+        columns: x.tail.columns.as_slice(),
+    };
+    fitting_query(alloc, &w, anf, x, goto.entry, tables, turns)
+}
