@@ -1,6 +1,7 @@
 //! `unroll K SCHEMA FUNC`.
 
 ghost use Rattle.std.specs.Prelude.{◌≡◌, ◌<◌, IfSome, List, ℕ};
+ghost use Rattle.cte_prints.specs.Texts.{IsOfTexts};
 ghost use Rattle.away_top.specs.Files.{as_callable, over_function};
 ghost use Rattle.away_top.specs.Runs.{IsEnd, Runs};
 ghost use Rattle.away_top.specs.Steps.{run_end};
@@ -82,7 +83,8 @@ fn written(
     f: &CheckedFunction,
     most: usize,
 ) -> Result<Ending, Halt>
-    requires { 0 < most }
+    requires some { 0 < most }
+    requires texts { IsOfTexts s.now.schema f.now.function f.now.slots }
     ensures { (text : List ℕ) × IsEnd (spec.Unrolls most text s.now.schema (as_callable f.now))
         (run_end result) }
 {

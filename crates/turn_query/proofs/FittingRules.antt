@@ -4,15 +4,6 @@ use Rattle.std.proofs.Math.Nat.{div-mul-le_self, mul-le-mul_right}
 use Rattle.std.proofs.lemmas.Nat.{le-div, div-add-mod', mod_below}
 use Rattle.turn_query.specs.Fitting.{FittingTurns}
 
--- a turn alone
-pub one_turn : (steps asked : ℕ) → 0 < asked → 120 ≤ steps → FittingTurns steps asked 1
-one_turn steps asked some many = record {
-  some = omega arith;
-  few = omega (arith, some);
-  levels = λ more. absurd (let no : ⊥ = omega (arith, more) in no);
-  most = λ less. omega (arith, many);
-}
-
 -- as many as fit have at most so many levels, and one more has more
 within : (steps : ℕ) → (120 / (steps + 1)) * suc steps ≤ 120
 within steps =
@@ -32,7 +23,7 @@ pub all_turns : (steps asked most : ℕ) → most ≡ 120 / (steps + 1) → 0 < 
 all_turns steps asked most is some le = record {
   some = some;
   few = omega arith;
-  levels = λ more.
+  levels =
       let less : asked * suc steps ≤ (120 / (steps + 1)) * suc steps = mul-le-mul_right (suc steps) (subst (λ n. asked ≤ n) is le) in
       let whole = within steps in
       omega (arith, less, whole);
@@ -49,6 +40,6 @@ most_turns steps asked most is few lt =
     subst (λ n. FittingTurns steps asked n) (sym is) (record {
       some = there;
       few = let less : 120 / (steps + 1) < asked = subst (λ n. n < asked) is lt in omega (arith, less);
-      levels = λ more. within steps;
+      levels = within steps;
       most = λ less. beyond steps;
     })

@@ -1,5 +1,5 @@
 -- What a writer has at hand is what the query of a function is made of.
-use Rattle.std.proofs.Common.{◌≡◌, ap, ◌∙◌, subst, ℕ, List, length}
+use Rattle.std.proofs.Common.{◌≡◌, ap, ◌∙◌, subst, ℕ, List, length, Option, Some, None, IfSome}
 use Rattle.away_trees.specs.declared.queries.Expr.{Expr}
 use Rattle.away_trees.specs.declared.queries.Query.{Query}
 use Rattle.away_trees.specs.declared.statements.Function.{Function}
@@ -36,9 +36,14 @@ module _ (f : Function) (slots : List Slot) (g : Goto) (z : Ssa) (a : Anf) (x : 
       (λ i. bare (tree.tree (table i) (λ n. type_or_bigint (type_of_name (slots_are i) (names i) n)) (columns i) (result i) a x.tail g.entry tables heads turns))
       ∙ tree_is_template (expressions f) (types_of slots z) f.result a x.tail g.entry tables heads turns
 
-  pub is_turns_query : (q : Query) → IsFitting w a x g.entry tables asked q → IsTurnsQuery f slots g z a x tables asked q
+  is_turns_query : (q : Query) → IsFitting w a x g.entry tables asked q → IsTurnsQuery f slots g z a x tables asked q
   is_turns_query q is = record {
     turns = is.turns;
     fitting = subst (λ (es : List Expr). FittingTurns (length es) asked is.turns) steps_are is.fitting;
     query = ap bare is.query ∙ query_is is.turns;
   }
+
+  pub may_be_turns_query : (found : Option Query) → IfSome found (IsFitting w a x g.entry tables asked)
+      → IfSome found (IsTurnsQuery f slots g z a x tables asked)
+  may_be_turns_query None is = is
+  may_be_turns_query (Some q) is = is_turns_query q is

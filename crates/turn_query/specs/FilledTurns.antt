@@ -45,6 +45,10 @@ module _ (w : Writer) (a : Anf) (r : Tail) where
   abbrev pub entry_place : ℕ → ℕ
   entry_place = one_turn.entry_place w.table.now (types_in w) w.result a r
 
+  -- the turn of the entry
+  abbrev pub entry_turn : ℕ → Plan
+  entry_turn entry = turn_plan (entry_place entry) (entry ∷ [])
+
   -- the cells of the first row
   abbrev pub start_cells : ℕ → List Expr
   start_cells entry =

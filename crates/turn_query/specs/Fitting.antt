@@ -1,8 +1,8 @@
 -- How many turns an iteration has: as many as are asked for, or the most whose levels aren't more
--- than a query nests well; and at least one.
+-- than a query nests well. There is no such number where those of one turn are more.
 use Rattle.std.specs.Prelude.{ℕ, suc, ◌*◌, ◌<◌, ◌≤◌}
 
--- the most selects that stand one over another in the second term, but for those of one turn alone
+-- the most selects that stand one over another in the second term
 abbrev pub most_levels : ℕ
 most_levels = 120
 
@@ -11,5 +11,5 @@ most_levels = 120
 pub record FittingTurns (steps asked k : ℕ) : Type 0 where
   pub some : 0 < k
   pub few : k ≤ asked
-  pub levels : 1 < k → k * suc steps ≤ most_levels
+  pub levels : k * suc steps ≤ most_levels
   pub most : k < asked → most_levels < suc k * suc steps

@@ -1,6 +1,6 @@
 //! The query: its recursive table, and the select of the finished row.
 
-ghost use Rattle.std.specs.Prelude.{◌≡◌, ℕ, suc, ◌<◌, ◌∷◌, [], List, map, length, take, Some, IfOk};
+ghost use Rattle.std.specs.Prelude.{◌≡◌, ℕ, suc, ◌<◌, ◌∷◌, [], List, map, length, take, Some, IfOk, IfSome};
 ghost use Rattle.away_trees.specs.declared.queries.Expr.TheViews.{roll-Recursive, roll-Query};
 ghost use Rattle.away_trees.specs.declared.queries.Expr.TheVariants as expr;
 ghost use Rattle.block_forms.specs.Expressions.{expressions};
@@ -28,19 +28,27 @@ use std::alloc::Global;
 use turn_bodies::Unfolded;
 use turn_terms::Writer;
 
-/// The most selects that stand one over another in the second term, but for those of one turn alone.
+/// The most selects that stand one over another in a term: neither the reader of texts nor databases take queries that nest much deeper.
 const MOST_LEVELS: usize = 120;
 
-/// As many turns of so many steps as are asked for, or the most whose levels aren't too many; and at least one.
-fn fitting_turns(steps: usize, asked: usize) -> usize
+/// The most labels that are called. Each select of a turn computes for all labels, so that with more of them a query that visits one label in an
+/// iteration is the faster one, and is built in a fraction of the time.
+const MOST_LABELS: usize = 16;
+
+/// As many turns of so many steps as are asked for, or the most whose levels aren't too many. No number does where one turn has too many.
+fn fitting_turns(steps: usize, asked: usize) -> Option<usize>
     requires { 0 < asked }
-    ensures { FittingTurns steps asked result }
+    ensures { IfSome result (FittingTurns steps asked) }
 {
     if steps >= MOST_LEVELS {
-        return 1;
+        return None;
     }
     let most = MOST_LEVELS / (steps + 1);
-    if asked <= most { asked } else { most }
+    if asked <= most {
+        Some(asked)
+    } else {
+        Some(most)
+    }
 }
 
 /// The first row as the item below the turn of the entry.
@@ -58,6 +66,19 @@ fn start_item(
     level_as(alloc, w.columns.len(), 0, start)
 }
 
+/// The turn of the entry.
+fn entry_turn(
+    alloc: Global,
+    w: &Writer<'_>,
+    anf: &Anf,
+    tail: &Tail,
+    entry: u32,
+) -> Result<Plan, NoMemory>
+    ensures { IfOk result (λ p. as_plan p ≡ spec.entry_turn w.now anf.now tail.now entry) }
+{
+    turn_plan(alloc, w, anf, tail, entry_place(tail, entry), &[entry])
+}
+
 /// The first term: the arguments, and the turn of the entry.
 fn first(
     alloc: Global,
@@ -65,14 +86,15 @@ fn first(
     anf: &Anf,
     tail: &Tail,
     entry: u32,
+    turn: &Plan,
 ) -> Result<Boxed<Select>, NoMemory>
+    requires { as_plan turn.now ≡ spec.entry_turn w.now anf.now tail.now entry }
     ensures { IfOk result (λ s. s ≡ spec.first w.now anf.now tail.now entry) }
 {
     let columns = w.columns.len();
     let width = sum(columns, 4)?;
-    let turn = turn_plan(alloc, w, anf, tail, entry_place(tail, entry), &[entry])?;
     let start = start_item(alloc, w, anf, tail, entry)?;
-    let item = over_turn(alloc, columns, width, &turn, start)?;
+    let item = over_turn(alloc, columns, width, turn, start)?;
     all_of(alloc, columns, item)
 }
 
@@ -164,23 +186,25 @@ fn over_table(
     Ok(Boxed::new(alloc, query)?)
 }
 
-/// The query with the turns of a plan.
+/// The query with the turn of the entry, and the turns of a plan.
 fn query_of(
     alloc: Global,
     w: &Writer<'_>,
     anf: &Anf,
     tail: &Tail,
     entry: u32,
+    turn: &Plan,
     plan: &Plan,
     turns: usize,
     tables: usize,
 ) -> Result<Boxed<Query>, NoMemory>
+    requires { as_plan turn.now ≡ spec.entry_turn w.now anf.now tail.now entry }
     ensures { (heads : List ℕ) → as_plan plan.now ≡ spec.turn_plan w.now anf.now tail.now 0 heads
         → IfOk result (λ q. q ≡ spec.whole w.now anf.now tail.now entry tables heads turns) }
 {
     let columns = w.columns.len();
     let second = turns_of(alloc, columns, plan, turns, tables)?;
-    let first = first(alloc, w, anf, tail, entry)?;
+    let first = first(alloc, w, anf, tail, entry, turn)?;
     let last = last(alloc, tables, columns)?;
     over_table(alloc, columns, first, second, last)
 }
@@ -196,6 +220,32 @@ fn called_labels<'a>(x: &'a Unfolded) -> &'a [u32]
     &labels[..x.heads]
 }
 
+/// The query with the turn of the entry, and as many turns as fit.
+fn behind_entry(
+    alloc: Global,
+    w: &Writer<'_>,
+    anf: &Anf,
+    x: &Unfolded,
+    entry: u32,
+    turn: &Plan,
+    tables: usize,
+    asked: usize,
+) -> Result<Option<Boxed<Query>>, NoMemory>
+    requires some { 0 < asked }
+    requires turn { as_plan turn.now ≡ spec.entry_turn w.now anf.now x.now.tail entry }
+    ensures { IfOk result (λ found. IfSome found
+        (IsFitting w.now anf.now x.now entry tables asked)) }
+{
+    let heads = called_labels(x);
+    let plan = turn_plan(alloc, w, anf, &x.tail, 0, heads)?;
+    match fitting_turns(plan.steps.len(), asked) {
+        None => Ok(None),
+        Some(turns) => Ok(Some(query_of(
+            alloc, w, anf, &x.tail, entry, turn, &plan, turns, tables,
+        )?)),
+    }
+}
+
 /// The query of a writer, with as many turns as fit.
 fn fitting_query(
     alloc: Global,
@@ -205,18 +255,24 @@ fn fitting_query(
     entry: u32,
     tables: usize,
     asked: usize,
-) -> Result<Boxed<Query>, NoMemory>
+) -> Result<Option<Boxed<Query>>, NoMemory>
     requires { 0 < asked }
-    ensures { IfOk result (λ q. IsFitting w.now anf.now x.now entry tables asked q) }
+    ensures { IfOk result (λ found. IfSome found
+        (IsFitting w.now anf.now x.now entry tables asked)) }
 {
-    let heads = called_labels(x);
-    let plan = turn_plan(alloc, w, anf, &x.tail, 0, heads)?;
-    let turns = fitting_turns(plan.steps.len(), asked);
-    query_of(alloc, w, anf, &x.tail, entry, &plan, turns, tables)
+    if called_labels(x).len() > MOST_LABELS {
+        return Ok(None);
+    }
+    let turn = entry_turn(alloc, w, anf, &x.tail, entry)?;
+    if turn.steps.len() >= MOST_LEVELS {
+        return Ok(None);
+    }
+    behind_entry(alloc, w, anf, x, entry, &turn, tables, asked)
 }
 
 /// The query of unfolded labels over so many tables, with as many turns in an iteration as are asked for, or fewer, where more selects would stand one
-/// over another in its second term than databases read well.
+/// over another in its second term than databases read well. There is none where one turn alone, or that of the entry, has too many of them, and where
+/// so many labels are called that a query which visits one in an iteration is the faster one.
 pub fn turns_query(
     alloc: Global,
     f: &CheckedFunction,
@@ -227,11 +283,11 @@ pub fn turns_query(
     table: &ExprTable,
     tables: usize,
     turns: usize,
-) -> Result<Boxed<Query>, NoMemory>
+) -> Result<Option<Boxed<Query>>, NoMemory>
     requires entries { table.now.list ≡ expressions f.now.function }
     requires some { 0 < turns }
-    ensures { IfOk result (λ q. IsTurnsQuery f.now.function f.now.slots goto.now ssa.now anf.now
-        x.now tables turns q) }
+    ensures { IfOk result (λ found. IfSome found (IsTurnsQuery f.now.function f.now.slots goto.now
+        ssa.now anf.now x.now tables turns)) }
 {
     let w = Writer {
         table: table.list.as_slice(),

@@ -1,1 +1,2 @@
 mod SameTrees
+mod OneTurn

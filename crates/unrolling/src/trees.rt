@@ -1,6 +1,6 @@
 //! The builders one behind the other.
 
-ghost use Rattle.std.specs.Prelude.{◌<◌, IfOk};
+ghost use Rattle.std.specs.Prelude.{◌<◌, IfOk, IfSome};
 ghost use Rattle.unrolling.specs.InTurns.{IsInTurns};
 
 use anf_build::to_calls;
@@ -16,15 +16,16 @@ use std::alloc::Global;
 use turn_bodies::unfold;
 use turn_query::{queries_of_turns_stand_in_turns, turns_query};
 
-/// The tree of the query with up to so many turns in an iteration, whose columns stand by their places.
+/// The tree of the query with up to so many turns in an iteration, whose columns stand by their places; none where a turn is too large for one.
 pub(crate) fn tree_in_turns(
     alloc: Global,
     s: &CheckedSchema,
     f: &CheckedFunction,
     turns: usize,
-) -> Result<Boxed<Query>, NoMemory>
+) -> Result<Option<Boxed<Query>>, NoMemory>
     requires { 0 < turns }
-    ensures { IfOk result (IsInTurns s.now.schema f.now.function f.now.slots turns) }
+    ensures { IfOk result (λ found. IfSome found
+        (IsInTurns s.now.schema f.now.function f.now.slots turns)) }
 {
     normal_forms_are_short(f);
     queries_of_turns_stand_in_turns();

@@ -2,6 +2,7 @@
 
 ghost use Rattle.std.specs.Prelude.{◌<◌, List, ℕ, map, string_bytes};
 ghost use Rattle.sql_meaning.specs.AtBound.{rows_of_tables};
+ghost use Rattle.cte_prints.specs.Texts.{IsOfTexts};
 ghost use Rattle.away_top.specs.Files.{as_callable};
 ghost use Rattle.away_top.specs.Runs.{IsEnd, Runs};
 ghost use Rattle.away_top.specs.Steps.{run_end};
@@ -105,7 +106,8 @@ fn with_function<F: Files>(
     args: &[String],
     files: &mut F,
 ) -> Result<Ending, Halt>
-    requires { 0 < most }
+    requires some { 0 < most }
+    requires texts { IsOfTexts tables.now.schema function.now.function function.now.slots }
     ensures { Runs F.Files files.old (λ text. spec.with_function bound most dir.now
         (map string_bytes args.now) text tables.now.schema (as_callable function.now)) files.new
         (run_end result) }
@@ -134,7 +136,8 @@ fn with_values<F: Files>(
     values: &[Value],
     files: &mut F,
 ) -> Result<Ending, Halt>
-    requires { 0 < most }
+    requires some { 0 < most }
+    requires texts { IsOfTexts tables.now.schema function.now.function function.now.slots }
     ensures { Runs F.Files files.old (λ text. spec.with_values bound most dir.now text
         tables.now.schema (as_callable function.now) values.now) files.new (run_end result) }
 {
@@ -152,7 +155,8 @@ fn answered(
     values: &[Value],
     bound: u64,
 ) -> Result<Ending, Halt>
-    requires { 0 < most }
+    requires some { 0 < most }
+    requires texts { IsOfTexts s.now.schema f.now.function f.now.slots }
     ensures { (text : List ℕ) × IsEnd (spec.TellsUnrolled bound most text s.now.schema
         (as_callable f.now) values.now (rows_of_tables tables.now.list)) (run_end result) }
 {

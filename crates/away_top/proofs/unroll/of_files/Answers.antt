@@ -1,12 +1,20 @@
 use Rattle.std.proofs.lemmas.Result.{err_from_is_err_and}
-use Rattle.std.proofs.Common.{ℕ, List, subst}
+use Rattle.std.proofs.Common.{ℕ, List, subst, sym}
 use Rattle.away_types.specs.declared.checked_function.CheckedFunction.{CheckedFunction}
 use Rattle.away_top.specs.Files.{as_callable}
 use Rattle.away_top.specs.Runs.{IsEnd}
 use Rattle.away_top.specs.Steps.{run_end}
 use Rattle.away_top.specs.UnrollCourse.{Unrolls}
 use Rattle.away_top.proofs.Compiling.{comes_to, function_stops, schema_stops}
+use Rattle.away_top.proofs.ReadTexts.{of_texts}
+use Rattle.cte_prints.specs.Texts.{IsOfTexts}
 use Rattle.away_top.proofs.unroll.of_files.Goals as goal
+
+pub written-requires-clause-texts : goal.written-requires-clause-texts
+written-requires-clause-texts g c =
+    let tables = c.in_ok-tables.tables.schema in
+    subst (λ (f : CheckedFunction). IsOfTexts tables f.function f.slots) (sym c.get.ensures)
+    (of_texts g.F.Files c.schema_of.new.files c.function_of.new.files c.args.func.now tables (as_callable c.in_ok-function.function) c.in_ok-function.ensures)
 
 pub returns-in_err-tables : goal.returns-in_err-tables
 returns-in_err-tables g c =
