@@ -170,7 +170,7 @@ module _ (held : List ℕ → Option (List ℕ)) (schema func made : List ℕ) w
 
   judged_ends : (s : Schema) (bytes : List ℕ) (status : Status) (output : List ℕ) → Outcome held (of_bytes func made s bytes) status output → (other : List ℕ) × Outcome held (made_of s bytes) status other
   judged_ends s bytes status output (inl refused) = let r = refuses_so func s bytes output refused.0 in (refusal func r.0, inl (r.0, r.1, (refused.1, refl)))
-  judged_ends s bytes status output (inr (f, told)) = (made, inr (f, (record { forms = told.0; text = made; is = told.1; output_is = refl }, (told.2.0, refl))))
+  judged_ends s bytes status output (inr (f, (forms, compiled, (faults, are, e)))) = (made, inr (f, (record { forms = forms; text = made; is = compiled; output_is = refl }, (e.0, refl))))
 
   function_ends : (s : Schema) (status : Status) (output : List ℕ) → Outcome held (explained_course func made s) status output → (other : List ℕ) × Outcome held (reads func 1048576 (made_of s)) status other
   function_ends s status output o =

@@ -65,11 +65,11 @@ module _ {D : Type 0} (F : Files D) where
       λ b is k so. subst (λ x. Explains func x more output) (subst (λ z. (u : IsSchema z) → u.schema ≡ t.schema) (sym is) (λ u. same_schema u t) k) so in
       subst (λ b. Explains func t.schema b output) function_is (over bytes schema_is s h.how.0)
   of_refused old new schema func tables function text output status refused t told_schema few told_function short (inr (middle, read, inr (bytes, holds, inr (s, inr (last, reread, inr (more, held, inr (f, h))))))) =
-      absurd (let wrong : Done ≡ Refused = sym h.how.2.0 ∙ refused in cc)
+      absurd (let wrong : Done ≡ Refused = sym h.how.2.2.0 ∙ refused in cc)
 
 module _ {tables function : List ℕ} (s : IsSchema tables) where
   counted_for : (f : IsFunction s.schema function) (text output : List ℕ) (status : Status) → TellsCounts s.schema f.written text status output → IsCounted tables function output
-  counted_for f text output status (forms, compiled, e) = record { tables = s; function = f; text = text; forms = forms; compiled = compiled; output_is = e.1 }
+  counted_for f text output status (forms, compiled, (faults, are, e)) = record { tables = s; function = f; text = text; forms = forms; compiled = compiled; faults = faults; are_faults = are; output_is = e.1 }
 
   done_for : (func text output : List ℕ) (status : Status) → status ≡ Done → EndsOn func s.schema function text status output → IsCounted tables function output
   done_for func text output status done (inl refused) = absurd (let wrong : Refused ≡ Done = sym refused.1 ∙ done in cc)

@@ -277,7 +277,7 @@ plain_explained : (func : List ℕ) (s : Schema) (bytes : List ℕ) → ArePlain
 plain_explained func s bytes status output e = subst IsPlain (sym e.1) tt
 
 plain_counts : (s : Schema) (f : Function) (text : List ℕ) → ArePlain (TellsCounts s f text)
-plain_counts s f text status output told = subst IsPlain (sym told.2.0) tt
+plain_counts s f text status output (forms, compiled, (faults, are, e)) = subst IsPlain (sym e.0) tt
 
 plain_explain : (schema func text : List ℕ) → IsPlainCourse (explain_course schema func text)
 plain_explain schema func text = λ bytes. (plain_refusal schema (RefusesSchema bytes), λ s more. (plain_explained func s.schema more, λ f. plain_counts s.schema f.written text))

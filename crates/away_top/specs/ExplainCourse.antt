@@ -1,6 +1,6 @@
 -- `explain SCHEMA FUNC`: a function's file that is refused is told with the place and the reason, an
 -- accepted function with its sizes.
-use Rattle.std.specs.Prelude.{◌≡◌, ◌⊎◌, ℕ, ◌≤◌, List, [], ◌∷◌, ◌++◌, length, codes, Some}
+use Rattle.std.specs.Prelude.{◌≡◌, ◌⊎◌, ℕ, ◌≤◌, List, [], ◌∷◌, ◌++◌, length, codes, flat_map, Some}
 use Rattle.std.specs.declared.option.Option.{Option}
 use Rattle.std.specs.Fmt.{decimal}
 use Rattle.std.specs.Io.KnownBytes.{Appends}
@@ -8,7 +8,9 @@ use Rattle.away_trees.specs.declared.schemas.Schema.{Schema}
 use Rattle.away_trees.specs.declared.statements.Function.{Function}
 use Rattle.away_trees.specs.Count.{nodes}
 use Rattle.away_trees.specs.Limits.{variables, loops}
+use Rattle.away_values.specs.declared.values.Class.{Class}
 use Rattle.cert_json.specs.Forms.{Cert}
+use Rattle.inline_calls.specs.Faults.{AreFaults}
 use Rattle.away_top.specs.declared.compile.Wanted.TheVariants.{Query}
 use Rattle.away_top.specs.declared.status.Status.{Status}
 use Rattle.away_top.specs.declared.status.Status.TheVariants.{Done}
@@ -56,11 +58,26 @@ counts own forms bytes =
     ∷ count (codes "bytes") bytes
     ∷ []
 
--- they are told of a function with such counts, whose query is this text
+abbrev pub with_blank : Class → List ℕ
+with_blank c = codes " " ++ c.code
+
+-- a blank and the code of each class, or that there is none
+abbrev pub fault_words : List Class → List ℕ
+fault_words [] = codes " none"
+fault_words (c ∷ cs) = flat_map with_blank (c ∷ cs)
+
+-- the lines of the counts, and one of the SQLSTATEs
+abbrev pub explained_lines : OwnCounts → Cert → ℕ → List Class → List ℕ
+explained_lines own forms bytes faults =
+    count_lines (counts own forms bytes) ++ line (codes "faults" ++ fault_words faults)
+
+-- They are told of a function with such counts, whose query is this text. The SQLSTATEs are those
+-- with which a block fails that is reached from the entry of the goto form.
 abbrev pub Tells : Schema → Callable → OwnCounts → List ℕ → Status → List ℕ → Type 0
 Tells s f own made status output =
     (forms : Cert) × IsCompiledFrom s f forms made
-    × Exactly Done (count_lines (counts own forms (length made))) status output
+    × ((faults : List Class) × AreFaults forms.goto faults
+    × Exactly Done (explained_lines own forms (length made) faults) status output)
 
 -- the same of a function that the file reads as
 abbrev pub TellsCounts : Schema → Function → List ℕ → Status → List ℕ → Type 0
@@ -87,14 +104,17 @@ explain_course schema func made = and_then (schema_course schema) (explained_cou
 -- ---- the whole run
 
 -- The bytes of one file read as a schema, which breaks no rule, and those of the other as a function
--- that breaks none. The output tells its counts, and those of a query that it is compiled to.
+-- that breaks none. The output tells its counts, those of a query that it is compiled to, and the
+-- SQLSTATEs of its own faults.
 pub record IsCounted (schema func output : List ℕ) : Type 0 where
   pub tables : IsSchema schema
   pub function : IsFunction tables.schema func
   pub text : List ℕ
   pub forms : Cert
   pub compiled : IsCompiledFrom tables.schema (callable_of tables.schema function.written) forms text
-  pub output_is : output ≡ count_lines (counts (own_counts function.written) forms (length text))
+  pub faults : List Class
+  pub are_faults : AreFaults forms.goto faults
+  pub output_is : output ≡ explained_lines (own_counts function.written) forms (length text) faults
 
 -- Where the words are those of `explain` and the files tell what they hold, such counts were written.
 abbrev pub WritesCounts : (List ℕ → Option (List ℕ)) → Option (List ℕ) → Option (List ℕ)

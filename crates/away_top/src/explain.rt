@@ -7,7 +7,7 @@ ghost use Rattle.away_lex.specs.declared.refusals.ReadRefusal.TheVariants as ref
 ghost use Rattle.cte_prints.specs.Texts.{IsOfTexts};
 ghost use Rattle.function_places.specs.LimitPlaces.{IsLimitPlace};
 ghost use Rattle.function_places.specs.TokenPlaces.{IsWordPlace};
-ghost use Rattle.away_top.specs.ExplainCourse.{EndsOn, Tells, count_lines, counts as counted_of, explain_course};
+ghost use Rattle.away_top.specs.ExplainCourse.{EndsOn, Tells, count_lines, counts as counted_of, explain_course, explained_lines};
 ghost use Rattle.away_top.specs.Explaining.{IsHead, as_count, own};
 ghost use Rattle.away_top.specs.Explanations as spec;
 ghost use Rattle.away_top.specs.Explanations.{IsFindingPlace, IsFindingTold, IsReadTold, IsTold, RefusedAt};
@@ -19,6 +19,7 @@ ghost use Rattle.away_top.specs.Steps.{run_end};
 
 use crate::ending::{Ending, Halt, read_text, rule_text};
 use crate::explanation::explanation;
+use crate::fault_lines::put_faults;
 use crate::files::{MAX_FUNCTION, bytes_of, schema_of};
 use crate::{Files, Status};
 use away_lex::{LimitKind, ReadRefusal};
@@ -27,9 +28,10 @@ use away_trees::{Function, nodes};
 use away_types::{
     CheckedFunction, CheckedSchema, Finding, FunctionRefusal, check_function, head_rule,
 };
-use away_values::NoMemory;
+use away_values::{Class, NoMemory};
 use compiling::Compiled;
 use function_places::{Stuck, element_place, limit_place, name_place, stuck_place, word_place};
+use inline_calls::faults_of;
 use itoa::Buffer;
 use plsql_parse::counts::counts_of;
 use plsql_parse::read_function;
@@ -175,14 +177,30 @@ fn counted(
         (own head) text) (run_end result) }
 {
     let compiled = compiling::compile(alloc, tables, checked)?;
+    let faults = faults_of(alloc, &compiled.cert.goto)?;
     Ok(Ending {
         status: Status::Done,
-        output: lines_of(alloc, head, &compiled)?,
+        output: lines_of(alloc, head, &compiled, &faults)?,
     })
 }
 
+/// The counts of a function and of its query, a line each, and one of the SQLSTATEs of its own faults.
+fn lines_of(
+    alloc: Global,
+    head: Head,
+    compiled: &Compiled,
+    faults: &[Class],
+) -> Result<Vec<u8>, AllocError>
+    ensures { IfOk result (λ output. output.items ≡ explained_lines (own head) compiled.now.cert
+        (length (string_bytes compiled.now.text)) faults.now) }
+{
+    let mut output = own_lines(alloc, head, compiled)?;
+    put_faults(&mut output, faults)?;
+    Ok(output)
+}
+
 /// The counts of a function and of its query, a line each.
-fn lines_of(alloc: Global, head: Head, compiled: &Compiled) -> Result<Vec<u8>, AllocError>
+fn own_lines(alloc: Global, head: Head, compiled: &Compiled) -> Result<Vec<u8>, AllocError>
     ensures { IfOk result (λ output. output.items ≡ count_lines
         (counted_of (own head) compiled.now.cert (length (string_bytes compiled.now.text)))) }
 {

@@ -7,8 +7,7 @@ use Rattle.std.proofs.lemmas.List.{length-set}
 use Rattle.block_forms.specs.declared.forms.Block.{Block}
 use Rattle.block_forms.specs.declared.forms.Goto.{Goto}
 use Rattle.inline_law.specs.Fails.{Reached, at_entry, by_end}
-use Rattle.inline_calls.specs.Fails.{TellsFails}
-use Rattle.inline_calls.specs.Marks.{AreUnmarked, Follows, IsSpread, MarkedFails, TellsMarkedFail, led, marked, was}
+use Rattle.inline_calls.specs.Marks.{AreReached, AreUnmarked, Follows, IsSpread, MarkedFails, led, marked, was}
 
 pub got_inside : {A : Type 0} (xs : List A) (n : ℕ) (x : A) → slice_get xs n ≡ Some x → n < length xs
 got_inside [] n x e = absurd (cc)
@@ -51,11 +50,8 @@ module _ (goto : Goto) (start new : List Bool) (at : AtEntry goto.blocks goto.en
   marked_by b (by_end {b = a} x r is leads) lt =
       spread.closed b (record { number = a; block = x; is_marked = marked_by a r (got_inside goto.blocks a x is); is = is; leads = leads }) (within b lt)
 
-  pub fails_told : (told : Bool) → TellsMarkedFail goto.blocks new told → TellsFails goto told
-  fails_told told t = (
-    λ yes. let m = t.0 yes in record { number = m.number; block = m.block; reached = reached_by m.number (spread.only m.number m.is_marked); is = m.is; fails = m.fails },
-    λ f. t.1 (record { number = f.number; block = f.block; is_marked = marked_by f.number f.reached (got_inside goto.blocks f.number f.block f.is); is = f.is; fails = f.fails }),
-  )
+  pub are_reached : AreReached goto new
+  are_reached = record { as_many = spread.as_many ∙ at.as_many; only = λ b m. reached_by b (spread.only b m); all = marked_by }
 
 -- no marked block below n fails
 abbrev pub NoneFailsBelow : List Block → List Bool → ℕ → Type 0

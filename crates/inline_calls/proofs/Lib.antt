@@ -2,6 +2,7 @@ mod PartingRules
 mod MovingRules
 mod Marking
 mod FailRules
+mod FaultRules
 mod JudgedRules
 mod ResolvingRules
 mod InlinedTrees

@@ -7,6 +7,8 @@ pub mod Judged
 pub mod Fails
 pub mod Marks
 pub mod Refusing
+pub mod Faults
+pub mod MarkedFaults
 pub mod Tree
 pub mod Resolving
 pub mod Written

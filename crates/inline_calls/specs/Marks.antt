@@ -20,7 +20,8 @@ use Rattle.std.specs.Prelude.{
 use Rattle.block_forms.specs.declared.forms.Block.{Block}
 use Rattle.block_forms.specs.declared.forms.End.{End}
 use Rattle.block_forms.specs.declared.forms.End.TheVariants.{Jump, Branch, Return, Fail}
-use Rattle.inline_law.specs.Fails.{IsFail, Leads}
+use Rattle.block_forms.specs.declared.forms.Goto.{Goto}
+use Rattle.inline_law.specs.Fails.{IsFail, Leads, Reached}
 
 abbrev pub marked : List Bool → ℕ → Bool
 marked marks b = get_or marks b false
@@ -87,3 +88,10 @@ is_fail _ = false
 pub record AreUnmarked (n : ℕ) (marks : List Bool) : Type 0 where
   pub as_many : length marks ≡ n
   pub none : (b : ℕ) → marked marks b ≡ false
+
+-- exactly the blocks that are reached are marked
+pub record AreReached (goto : Goto) (marks : List Bool) : Type 0 where
+  pub as_many : length marks ≡ length goto.blocks
+  pub only : (b : ℕ) → marked marks b ≡ true → Reached goto.blocks goto.entry b
+  pub all : (b : ℕ) → Reached goto.blocks goto.entry b → b < length goto.blocks
+      → marked marks b ≡ true

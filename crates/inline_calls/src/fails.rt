@@ -97,23 +97,30 @@ fn some_fails(blocks: &[Block], marks: &[bool]) -> bool
     false
 }
 
-/// Whether a block that the entry reaches fails, where none is marked before.
-fn fails_from_entry(goto: &Goto, marks: &mut [bool]) -> bool
+/// Marks the blocks that the entry reaches, where none is marked before.
+fn mark_reached(goto: &Goto, marks: &mut [bool])
     requires { marks_of.AreUnmarked (length goto.now.blocks) marks.old }
-    ensures { spec.TellsFails goto.now result }
+    ensures { marks_of.AreReached goto.now marks.new }
 {
-    let blocks = goto.blocks.as_slice();
     if (goto.entry as usize) < marks.len() {
         mark(marks, goto.entry);
     }
-    spread(blocks, marks);
-    some_fails(blocks, marks)
+    spread(goto.blocks.as_slice(), marks);
+}
+
+/// A mark for each block, set where the entry reaches it.
+pub(crate) fn reached(alloc: Global, goto: &Goto) -> Result<Vec<bool>, AllocError>
+    ensures { IfOk result (λ marks. marks_of.AreReached goto.now marks.items) }
+{
+    let mut marks = unmarked(alloc, goto.blocks.as_slice())?;
+    mark_reached(goto, &mut marks);
+    Ok(marks)
 }
 
 /// A block that jumps and branches reach from the entry fails.
 pub(crate) fn may_fail(alloc: Global, goto: &Goto) -> Result<bool, AllocError>
     ensures { IfOk result (spec.TellsFails goto.now) }
 {
-    let mut marks = unmarked(alloc, goto.blocks.as_slice())?;
-    Ok(fails_from_entry(goto, &mut marks))
+    let marks = reached(alloc, goto)?;
+    Ok(some_fails(goto.blocks.as_slice(), &marks))
 }

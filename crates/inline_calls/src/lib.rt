@@ -4,6 +4,7 @@
 mod check;
 mod examples;
 mod fails;
+mod faults;
 mod forms;
 mod inlining;
 mod judged;
@@ -18,6 +19,7 @@ mod tree;
 
 pub use check::check_calls;
 pub use examples::{forms_are_told, places_are_told, rules_are_told};
+pub use faults::{faults_of, faults_tell_inline};
 pub use forms::PartedSelect;
 pub use inlining::{Inlined, inline};
 pub use refusals::{CallsRefusal, InlineRefusal};

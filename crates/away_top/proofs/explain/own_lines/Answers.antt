@@ -2,7 +2,7 @@ use Rattle.std.proofs.Common.{IfOk, ◌≡◌, ap, length, string_bytes, subst}
 use Rattle.away_top.specs.ExplainCourse.{count_lines}
 use Rattle.away_top.specs.Explaining.{own}
 use Rattle.away_top.proofs.Counting.{same_counts}
-use Rattle.away_top.proofs.explain.lines_of.Goals as goal
+use Rattle.away_top.proofs.explain.own_lines.Goals as goal
 
 pub returns : goal.returns
 returns c =
