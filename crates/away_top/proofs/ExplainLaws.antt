@@ -2,6 +2,7 @@
 use Rattle.std.proofs.Common.{◌≡◌, ◌∙◌, ◌⊎◌, ◌<◌, inl, inr, refl, ap, subst, sym, ℕ, zero, suc, ◌++◌, Bool, true, false, List, [], ◌∷◌, Some, None, get_or, length, arith}
 use Rattle.std.specs.Prelude.{Option}
 use Rattle.std.proofs.lemmas.Option.{get_or_from_slice_get, slice_get_within}
+use Rattle.std.proofs.lemmas.List.Elements.{All-append, All-nil}
 use Rattle.away_grammar.specs.FunctionFile.{LexesFile}
 use Rattle.away_grammar.specs.OutsideWords.{first_outside, outside_word, stands_outside}
 use Rattle.away_grammar.specs.Tokens.{Lexeme}
@@ -14,11 +15,13 @@ use Rattle.away_names.specs.Rules.{number}
 use Rattle.away_trees.specs.declared.schemas.Schema.{Schema}
 use Rattle.away_types.specs.declared.finding.Finding.{Finding}
 use Rattle.function_places.specs.declared.stuck_places.Stuck.{Stuck}
+use Rattle.function_places.specs.Hints.{AreInLine}
 use Rattle.function_places.specs.LimitPlaces.{IsElementPlace, IsLimitPlace}
 use Rattle.function_places.specs.NodePlaces.{IsNodePlace}
 use Rattle.function_places.specs.StuckPlaces.{IsStuckPlace, StandsAt}
 use Rattle.function_places.specs.TokenPlaces.{BeginsIn, IsNamePlace, IsToken, IsWordPlace}
 use Rattle.plsql_parse.specs.Refusals as functions
+use Rattle.text_places.specs.Lines.{IsInLine}
 use Rattle.refusal_reasons.specs.Laws.{AreLines}
 use Rattle.refusal_reasons.specs.Reasons.{read_reason, rule_reason}
 use Rattle.away_top.specs.declared.compile.Wanted.TheVariants.{Query}
@@ -27,7 +30,7 @@ use Rattle.away_top.specs.declared.status.Status.TheVariants.{Refused}
 use Rattle.away_top.specs.CompileCourse.{Compiles, compile_course}
 use Rattle.away_top.specs.Course.{AtFile, Course, Outcome, RefusedBy, ends, judges, reads}
 use Rattle.away_top.specs.ExplainCourse.{EndsAsCompile, explain_course, explained_course}
-use Rattle.away_top.specs.Explanations.{Explains, IsBroken, IsExplanation, IsFindingPlace, IsPlace, IsUnread, RefusedAt}
+use Rattle.away_top.specs.Explanations.{Explains, IsBroken, IsExplanation, IsFindingPlace, IsHinted, IsPlace, IsReason, IsUnread, RefusedAt}
 use Rattle.away_top.specs.Files.{callable_of}
 use Rattle.away_top.specs.Lines.{numbered_rule, refusal}
 use Rattle.away_top.specs.Refusals.{IsFunction, IsSchema, RefusesFunction, RefusesSchema}
@@ -117,15 +120,28 @@ finding_token : (bytes : List ℕ) (params : ℕ) (head : Option Rule) (finding 
 finding_token bytes params head finding offset (inl (is, n)) = name_token bytes offset n
 finding_token bytes params head finding offset (inr (other, n)) = element_token bytes params finding.node offset n
 
-module _ (lines : AreLines) (name : List ℕ) (s : Schema) (bytes output : List ℕ) where
+hint_line : (hints : AreInLine) (refusal : ReadRefusal) (ended : Bool) (hint : List ℕ) → IsHinted refusal ended hint → IsInLine hint
+hint_line hints read.NotText ended hint is = subst IsInLine (sym is) (All-nil (λ b. ¬ (b ≡ 10)))
+hint_line hints (read.Token offset) ended hint is = subst IsInLine (sym is) (All-nil (λ b. ¬ (b ≡ 10)))
+hint_line hints read.NoTree ended hint is = hints ended hint is
+hint_line hints (read.Outside word) ended hint is = subst IsInLine (sym is) (All-nil (λ b. ¬ (b ≡ 10)))
+hint_line hints (read.Limit which count) ended hint is = subst IsInLine (sym is) (All-nil (λ b. ¬ (b ≡ 10)))
+hint_line hints read.NoMemory ended hint is = subst IsInLine (sym is) (All-nil (λ b. ¬ (b ≡ 10)))
+
+reason_line : (lines : AreLines) (hints : AreInLine) (refusal : ReadRefusal) (ended : Bool) (reason : List ℕ) → IsReason refusal ended reason → IsInLine reason
+reason_line lines hints refusal ended reason r =
+    subst IsInLine (sym r.reason_is)
+    (All-append (λ b. ¬ (b ≡ 10)) (read_reason refusal ended) r.hint (lines.of_refusals refusal ended) (hint_line hints refusal ended r.hint r.hinted))
+
+module _ (lines : AreLines) (hints : AreInLine) (name : List ℕ) (s : Schema) (bytes output : List ℕ) where
   of_unread : IsUnread name bytes output → IsExplanation name s bytes output
   of_unread u = record {
     rule = u.told.rule;
     refuses = inl (u.refusal, u.refuses, u.told.rule_is);
     offset = u.told.found.offset;
     place = read_place bytes u.refusal u.told.found u.refuses u.told.place;
-    reason = read_reason u.refusal u.told.found.ended;
-    one_line = lines.of_refusals u.refusal u.told.found.ended;
+    reason = u.told.reason;
+    one_line = reason_line lines hints u.refusal u.told.found.ended u.told.reason u.told.reasoned;
     told = u.told.told;
   }
 

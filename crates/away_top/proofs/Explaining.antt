@@ -12,7 +12,7 @@ use Rattle.away_types.specs.CheckedFunctions.{IsChecked}
 use Rattle.away_types.specs.FunctionChecks.{function_note, head_note}
 use Rattle.function_places.specs.declared.stuck_places.Stuck.{Stuck}
 use Rattle.plsql_parse.specs.Refusals as functions
-use Rattle.refusal_reasons.specs.Reasons.{read_reason, rule_reason}
+use Rattle.refusal_reasons.specs.Reasons.{rule_reason}
 use Rattle.away_top.specs.declared.explain.Head.{Head}
 use Rattle.away_top.specs.declared.ending.Halt.{Halt}
 use Rattle.away_top.specs.declared.host.Files.{Ghosts as Files}
@@ -21,7 +21,7 @@ use Rattle.away_top.specs.declared.status.Status.TheVariants.{Refused}
 use Rattle.away_top.specs.Course.{Course, ends, judges}
 use Rattle.away_top.specs.ExplainCourse.{EndsOn, OwnCounts, Tells, TellsCounts, explain_course, explained_course, own_counts}
 use Rattle.away_top.specs.Explaining.{IsHead, own}
-use Rattle.away_top.specs.Explanations.{ExplainedBy, IsFindingPlace, IsFindingTold, IsReadTold, IsTold, RefusedAt}
+use Rattle.away_top.specs.Explanations.{ExplainedBy, IsFindingPlace, IsFindingTold, IsReadTold, IsReason, IsTold, RefusedAt}
 use Rattle.away_top.specs.Files.{Callable, as_callable, callable_of, schema_course}
 use Rattle.away_top.specs.Lines.{numbered_rule}
 use Rattle.away_top.specs.Refusals.{IsFunction, IsRule, ReadsAsFunction}
@@ -69,12 +69,12 @@ module _ {D : Type 0} (F : Files D) (schema func : List ℕ) where
 
 module _ (func bytes : List ℕ) (refusal : ReadRefusal) where
   -- the three lines tell the reader's refusal
-  pub read_told : (found : Stuck) (rule reason : List ℕ) (end : End ⊥) → RefusedAt bytes refusal found → IsRule refusal rule → reason ≡ read_reason refusal found.ended
+  pub read_told : (found : Stuck) (rule reason : List ℕ) (end : End ⊥) → RefusedAt bytes refusal found → IsRule refusal rule → IsReason refusal found.ended reason
       → IsEnd (λ status output. IsTold func bytes found.offset rule reason output × (status ≡ Refused)) end
       → IsEnd (λ status output. IsReadTold func bytes refusal output × (status ≡ Refused)) end
   read_told found rule reason wants_memory place is why h = tt
   read_told found rule reason (ended status output) place is why h =
-      (record { rule = rule; rule_is = is; found = found; place = place; told = subst (λ r. IsTold func bytes found.offset rule r output) why h.0 }, h.1)
+      (record { rule = rule; rule_is = is; found = found; place = place; reason = reason; reasoned = why; told = h.0 }, h.1)
   read_told found rule reason (goes_on never) place is why h = absurd never
 
   pub unread_so : (s : Schema) (end : End ⊥) → functions.Refuses bytes refusal → IsEnd (λ status output. IsReadTold func bytes refusal output × (status ≡ Refused)) end

@@ -1,5 +1,5 @@
 -- What `explain` tells of a function's file that is refused: where, by which rule, and why.
-use Rattle.std.specs.Prelude.{◌≡◌, ◌⊎◌, ◌==◌, ℕ, Bool, true, false, List, ◌++◌, length, codes, Some, None}
+use Rattle.std.specs.Prelude.{◌≡◌, ◌⊎◌, ◌==◌, ℕ, Bool, true, false, List, [], ◌++◌, length, codes, Some, None}
 use Rattle.std.specs.declared.option.Option.{Option}
 use Rattle.std.specs.Fmt.{decimal}
 use Rattle.away_grammar.specs.FunctionFile.{LexesFile}
@@ -20,6 +20,7 @@ use Rattle.away_trees.specs.declared.statements.Function.{Function}
 use Rattle.away_types.specs.declared.finding.Finding.{Finding}
 use Rattle.away_types.specs.FunctionChecks.{function_note, head_note}
 use Rattle.function_places.specs.declared.stuck_places.Stuck.{Stuck}
+use Rattle.function_places.specs.Hints.{IsHint}
 use Rattle.function_places.specs.LimitPlaces.{IsElementPlace, IsLimitPlace}
 use Rattle.function_places.specs.StuckPlaces.{IsStuckPlace}
 use Rattle.function_places.specs.TokenPlaces.{IsNamePlace, IsToken, IsWordPlace}
@@ -62,13 +63,30 @@ RefusedAt bytes (Outside word) found = IsWordPlace bytes found.offset
 RefusedAt bytes (Limit which count) found = IsLimitPlace bytes which found.offset
 RefusedAt bytes NoMemory found = ⊥
 
--- the reader's refusal is told at such a place
+-- What is told behind the reason: where no function goes on, what could stand there.
+abbrev pub IsHinted : ReadRefusal → Bool → List ℕ → Type 0
+IsHinted NotText ended hint = hint ≡ []
+IsHinted (Token offset) ended hint = hint ≡ []
+IsHinted NoTree ended hint = IsHint ended hint
+IsHinted (Outside word) ended hint = hint ≡ []
+IsHinted (Limit which count) ended hint = hint ≡ []
+IsHinted NoMemory ended hint = hint ≡ []
+
+-- the reason, and the hint behind it
+pub record IsReason (refusal : ReadRefusal) (ended : Bool) (reason : List ℕ) : Type 0 where
+  pub hint : List ℕ
+  pub hinted : IsHinted refusal ended hint
+  pub reason_is : reason ≡ read_reason refusal ended ++ hint
+
+-- the reader's refusal is told at such a place for such a reason
 pub record IsReadTold (name bytes : List ℕ) (refusal : ReadRefusal) (output : List ℕ) : Type 0 where
   pub rule : List ℕ
   pub rule_is : IsRule refusal rule
   pub found : Stuck
   pub place : RefusedAt bytes refusal found
-  pub told : IsTold name bytes found.offset rule (read_reason refusal found.ended) output
+  pub reason : List ℕ
+  pub reasoned : IsReason refusal found.ended reason
+  pub told : IsTold name bytes found.offset rule reason output
 
 -- ---- a function that breaks a rule
 

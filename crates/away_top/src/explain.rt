@@ -10,7 +10,8 @@ ghost use Rattle.function_places.specs.TokenPlaces.{IsWordPlace};
 ghost use Rattle.away_top.specs.ExplainCourse.{EndsOn, Tells, count_lines, counts as counted_of, explain_course, explained_lines};
 ghost use Rattle.away_top.specs.Explaining.{IsHead, as_count, own};
 ghost use Rattle.away_top.specs.Explanations as spec;
-ghost use Rattle.away_top.specs.Explanations.{IsFindingPlace, IsFindingTold, IsReadTold, IsTold, RefusedAt};
+ghost use Rattle.away_top.specs.Explanations.{IsFindingPlace, IsFindingTold, IsHinted, IsReadTold, IsReason};
+ghost use Rattle.away_top.specs.Explanations.{IsTold, RefusedAt};
 ghost use Rattle.away_top.specs.Files.{as_callable};
 ghost use Rattle.away_top.specs.Lines.{line};
 ghost use Rattle.away_top.specs.Refusals.{ReadsAsFunction};
@@ -30,7 +31,9 @@ use away_types::{
 };
 use away_values::{Class, NoMemory};
 use compiling::Compiled;
-use function_places::{Stuck, element_place, limit_place, name_place, stuck_place, word_place};
+use function_places::{
+    Stuck, could_stand, element_place, limit_place, name_place, stuck_place, word_place,
+};
 use inline_calls::faults_of;
 use itoa::Buffer;
 use plsql_parse::counts::counts_of;
@@ -253,14 +256,42 @@ fn unread(alloc: Global, func: &str, bytes: &[u8], error: &ReadRefusal) -> Resul
         return Err(Halt::NoMemory);
     };
     let rule = read_text(alloc, error)?;
-    told(
-        alloc,
-        func,
-        bytes,
-        found.offset,
-        &rule,
-        read_reason(error, found.ended),
-    )
+    let reason = reason_of(alloc, bytes, error, found)?;
+    told(alloc, func, bytes, found.offset, &rule, &reason)
+}
+
+/// Why a file isn't read, and what could stand at the place.
+fn reason_of(
+    alloc: Global,
+    bytes: &[u8],
+    error: &ReadRefusal,
+    found: Stuck,
+) -> Result<String, NoMemory>
+    ensures { IfOk result (λ text. IsReason error.now found.ended (string_bytes text)) }
+{
+    let mut text = String::from_str(alloc, read_reason(error, found.ended))?;
+    let hint = hint_of(alloc, bytes, error, found)?;
+    text.push_str(&hint)?;
+    Ok(text)
+}
+
+/// What could stand at the place of an X3.
+fn hint_of(
+    alloc: Global,
+    bytes: &[u8],
+    error: &ReadRefusal,
+    found: Stuck,
+) -> Result<String, NoMemory>
+    ensures { IfOk result (λ text. IsHinted error.now found.ended (string_bytes text)) }
+{
+    match error {
+        ReadRefusal::NoTree => could_stand(alloc, bytes, found),
+        ReadRefusal::NotText => Ok(String::new(alloc)),
+        ReadRefusal::Token { offset: _ } => Ok(String::new(alloc)),
+        ReadRefusal::Outside { word: _ } => Ok(String::new(alloc)),
+        ReadRefusal::Limit { which: _, found: _ } => Ok(String::new(alloc)),
+        ReadRefusal::NoMemory => Ok(String::new(alloc)),
+    }
 }
 
 /// Where a file that isn't read is refused.

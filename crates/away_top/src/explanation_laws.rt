@@ -3,6 +3,7 @@
 ghost use Rattle.away_top.specs.ExplainCourse.{EndsAsCompile};
 ghost use Rattle.away_top.specs.Explanations.{AreExplanations};
 
+use function_places::each_hint_stands_in_a_line;
 use refusal_reasons::each_reason_is_one_line;
 
 /// What is told of a refused file is a rule that refuses it in other commands too, at a place of the file, for a reason of one line.
@@ -12,4 +13,5 @@ pub fn explanations_tell_refusals()
     ensures statuses { EndsAsCompile }
 {
     each_reason_is_one_line();
+    each_hint_stands_in_a_line();
 }

@@ -7,4 +7,6 @@ pub mod TooDeep
 pub mod LimitSteps
 pub mod NamePlaces
 pub mod StuckSteps
+pub mod HintSteps
+pub mod HintLines
 pub mod PlaceTokens

@@ -1,6 +1,8 @@
 //! Places in the file of a function: where a node begins, and where a token stands.
 #![tactic(auto)]
 
+mod hint_laws;
+mod hints;
 mod laws;
 mod limit_places;
 mod node_kinds;
@@ -8,7 +10,10 @@ mod node_laws;
 mod node_places;
 mod stuck_places;
 mod token_places;
+mod trials;
 
+pub use hint_laws::each_hint_stands_in_a_line;
+pub use hints::could_stand;
 pub use laws::{kinds_are_counted, places_are_tokens};
 pub use limit_places::limit_place;
 pub use node_laws::each_node_has_a_place;

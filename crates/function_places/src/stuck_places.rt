@@ -7,13 +7,12 @@ ghost use Rattle.away_lex.specs.Lexed.{seen};
 ghost use Rattle.sql_text.specs.CodeTerminals.{HasSpelling};
 ghost use Rattle.function_places.specs.StuckPlaces.{IsStuckPlace, StandsAt};
 
+use crate::hints::MOST_BEFORE;
 use crate::token_places::tokens_of;
-use away_lex::{Token, TokenKind, TokensRefusal, tokens};
+use crate::trials::{Reader, is_one_taken, left_by, listed, stands_right};
+use away_lex::{Token, TokenKind};
 use away_values::NoMemory;
-use plsql_parse::bodies::body_of;
-use plsql_parse::headers::header_of;
-use sql_text::{Cursor, Refusal, Terminal, terminals_of};
-use sqlite_items::Items;
+use sql_text::{Terminal, terminals_of};
 use std::alloc::Global;
 
 /// A token of each kind, and each word of the language that isn't reserved.
@@ -31,111 +30,37 @@ pub struct Stuck {
     pub ended: bool,
 }
 
-/// What a file has a list of tokens for.
-#[derive(Clone, Copy)]
-enum Reader {
-    Header,
-    Body,
-}
-
-/// How many terminals a reader leaves, and whether it found a tree before them.
-#[derive(Clone, Copy)]
-struct Left {
-    number: usize,
-    refused: bool,
-}
-
-fn left_by_header(alloc: Global, terminals: &[Terminal<'_>]) -> Result<Left, NoMemory>
-    requires { All HasSpelling terminals.now }
-    ensures { IfOk result (λ left. left.number ≤ length terminals.now) }
-{
-    let mut tokens = Cursor::new(terminals, 0);
-    let refused = match header_of(alloc, &mut tokens) {
-        Ok(_) => false,
-        Err(Refusal::NoTree) => true,
-        Err(Refusal::NoMemory) => return Err(NoMemory),
-    };
-    Ok(Left {
-        number: tokens.left(),
-        refused,
-    })
-}
-
-fn left_by_body(alloc: Global, terminals: &[Terminal<'_>]) -> Result<Left, NoMemory>
-    requires { All HasSpelling terminals.now }
-    ensures { IfOk result (λ left. left.number ≤ length terminals.now) }
-{
-    let mut tokens = Cursor::new(terminals, 0);
-    let refused = match body_of(alloc, &mut tokens) {
-        Ok(_) => false,
-        Err(Refusal::NoTree) => true,
-        Err(Refusal::NoMemory) => return Err(NoMemory),
-    };
-    Ok(Left {
-        number: tokens.left(),
-        refused,
-    })
-}
-
-fn left_by(alloc: Global, reader: Reader, terminals: &[Terminal<'_>]) -> Result<Left, NoMemory>
-    requires { All HasSpelling terminals.now }
-    ensures { IfOk result (λ left. left.number ≤ length terminals.now) }
-{
-    match reader {
-        Reader::Header => left_by_header(alloc, terminals),
-        Reader::Body => left_by_body(alloc, terminals),
-    }
-}
-
-/// Whether the reader takes the terminal behind these.
-fn is_taken<'a>(
-    alloc: Global,
-    reader: Reader,
-    before: &[Terminal<'a>],
-    next: Terminal<'a>,
-) -> Result<bool, NoMemory>
-    requires before { All HasSpelling before.now }
-    requires next { HasSpelling next }
-{
-    let mut tried = Items::from_vec(before.to_vec(alloc)?);
-    tried.push(next)?;
-    let left = left_by(alloc, reader, tried.as_slice())?;
-    Ok(left.number == 0)
-}
-
-/// Whether the reader takes one of the terminals behind these.
-fn is_one_taken<'a>(
-    alloc: Global,
-    reader: Reader,
-    before: &[Terminal<'a>],
-    all: &[Terminal<'a>],
-) -> Result<bool, NoMemory>
-    requires before { All HasSpelling before.now }
-    requires all { All HasSpelling all.now }
-{
-    for next in all {
-        if is_taken(alloc, reader, before, *next)? {
-            return Ok(true);
-        }
-    }
-    Ok(false)
-}
-
-/// Whether the reader takes any token behind these terminals, or where it didn't come to their end it is as if it did.
+/// Whether the reader takes any token behind these terminals.
 fn goes_on(alloc: Global, reader: Reader, before: &[Terminal<'_>]) -> Result<bool, NoMemory>
     requires { All HasSpelling before.now }
 {
-    let all = match tokens(alloc, ALL_TOKENS) {
-        Ok(list) => list,
-        Err(TokensRefusal::Bad { .. }) => return Ok(true),
-        Err(TokensRefusal::NoMemory) => return Err(NoMemory),
-    };
-    let terminals = terminals_of(alloc, all.as_slice())?;
-    is_one_taken(alloc, reader, before, terminals.as_slice())
+    let all = listed(alloc, ALL_TOKENS)?;
+    is_one_taken(alloc, reader, before, all.as_slice())
+}
+
+/// The number of the first terminal from this one on that doesn't stand right behind those before it; where many stand before
+/// this one, it is this one.
+fn first_wrong(
+    alloc: Global,
+    reader: Reader,
+    terminals: &[Terminal<'_>],
+    from: usize,
+) -> Result<usize, NoMemory>
+    requires { All HasSpelling terminals.now }
+{
+    let mut number = from;
+    while number < MOST_BEFORE {
+        if !stands_right(alloc, reader, terminals, number)? {
+            return Ok(number);
+        }
+        number += 1;
+    }
+    Ok(number)
 }
 
 /// The number of the token at which the reader is stuck, if it is: the first that it left. Where the reader takes nothing
-/// behind the tokens before that one, it had taken the one that it refused, which is the last of these.
+/// behind the tokens before that one, it had taken the one that it refused, which is the last of these. Where it looked ahead
+/// in vain for a LOOP, it is the first from there on that doesn't stand right.
 fn number_in(
     alloc: Global,
     reader: Reader,
@@ -148,11 +73,12 @@ fn number_in(
     if !left.refused {
         return Ok(if left.number == 0 { None } else { Some(number) });
     }
-    if goes_on(alloc, reader, &terminals[..number])? {
-        Ok(Some(number))
+    let from = if goes_on(alloc, reader, &terminals[..number])? {
+        number
     } else {
-        Ok(Some(number.saturating_sub(1)))
-    }
+        number.saturating_sub(1)
+    };
+    Ok(Some(first_wrong(alloc, reader, terminals, from)?))
 }
 
 /// The token of this number, or the last one where the list has fewer.
@@ -227,7 +153,7 @@ fn stuck_in_lists(
 /// Where the bytes, which read as no function, go on with nothing that a function goes on with: the first such place of the
 /// header and of the body. None where the bytes have no tokens or read as a function. That it is a token of the file is
 /// proved; that it is the first at which no function goes on is tested alone, and it isn't so where FOR or WHILE has no LOOP
-/// behind it: then it is at most the token behind that word.
+/// behind it and stands behind very many tokens: then it is at most the token behind that word.
 pub fn stuck_place(alloc: Global, bytes: &[u8]) -> Result<Option<Stuck>, NoMemory>
     ensures { IfOk result (λ found. IfSome found (IsStuckPlace bytes.now)) }
 {
