@@ -1,5 +1,5 @@
 -- That what `explain` tells is a refusal at a place of the file, and that it ends as `compile` does.
-use Rattle.std.proofs.Common.{◌≡◌, ◌∙◌, ◌⊎◌, ◌<◌, inl, inr, refl, ap, subst, sym, ℕ, zero, suc, ◌++◌, Bool, true, false, List, [], ◌∷◌, Some, None, get_or, length, arith}
+use Rattle.std.proofs.Common.{◌≡◌, ◌∙◌, ◌⊎◌, ◌<◌, inl, inr, refl, ap, subst, sym, ℕ, zero, suc, Bool, true, false, List, [], ◌∷◌, Some, None, get_or, length, codes, arith}
 use Rattle.std.specs.Prelude.{Option}
 use Rattle.std.proofs.lemmas.Option.{get_or_from_slice_get, slice_get_within}
 use Rattle.std.proofs.lemmas.List.Elements.{All-append, All-nil}
@@ -21,20 +21,20 @@ use Rattle.function_places.specs.NodePlaces.{IsNodePlace}
 use Rattle.function_places.specs.StuckPlaces.{IsStuckPlace, StandsAt}
 use Rattle.function_places.specs.TokenPlaces.{BeginsIn, IsNamePlace, IsToken, IsWordPlace}
 use Rattle.plsql_parse.specs.Refusals as functions
-use Rattle.text_places.specs.Lines.{IsInLine}
+use Rattle.query_places.specs.QueryPlaces.{BeginsQuery}
 use Rattle.refusal_reasons.specs.Laws.{AreLines}
 use Rattle.refusal_reasons.specs.Reasons.{read_reason, rule_reason}
+use Rattle.text_places.specs.Lines.{IsInLine}
 use Rattle.away_top.specs.declared.compile.Wanted.TheVariants.{Query}
 use Rattle.away_top.specs.declared.status.Status.{Status}
-use Rattle.away_top.specs.declared.status.Status.TheVariants.{Refused}
 use Rattle.away_top.specs.CompileCourse.{Compiles, compile_course}
 use Rattle.away_top.specs.Course.{AtFile, Course, Outcome, RefusedBy, ends, judges, reads}
-use Rattle.away_top.specs.ExplainCourse.{EndsAsCompile, explain_course, explained_course}
+use Rattle.away_top.specs.ExplainCourse.{EndsOn}
 use Rattle.away_top.specs.Explanations.{Explains, IsBroken, IsExplanation, IsFindingPlace, IsHinted, IsPlace, IsReason, IsUnread, RefusedAt}
 use Rattle.away_top.specs.Files.{callable_of}
 use Rattle.away_top.specs.Lines.{numbered_rule, refusal}
+use Rattle.away_top.specs.QueryExplainCourse.{EndsAsCompile, EndsOnFile, explain_course, explained_course}
 use Rattle.away_top.specs.Refusals.{IsFunction, IsSchema, RefusesFunction, RefusesSchema}
-use Rattle.away_top.proofs.Explaining.{of_bytes}
 
 -- ---- tokens
 
@@ -167,14 +167,14 @@ refuses_so name s bytes output (inl u) = (u.told.rule, inl (u.refusal, u.refuses
 refuses_so name s bytes output (inr b) = (numbered_rule (number b.finding.rule), inr (b.function, b.reads_as, record { finding = b.finding; first = b.first; rule_is = refl }))
 
 -- a run that ends behind a file ends there with another output too, where what its bytes lead to does
-file_ends : (name : List ℕ) (limit : ℕ) (Rest Other : List ℕ → List ℕ → Type 0) (o : Option (List ℕ)) (status : Status) (output : List ℕ)
+pub file_ends : (name : List ℕ) (limit : ℕ) (Rest Other : List ℕ → List ℕ → Type 0) (o : Option (List ℕ)) (status : Status) (output : List ℕ)
     → ((bytes : List ℕ) → Rest bytes output → (other : List ℕ) × Other bytes other) → AtFile name limit (λ bytes. Rest bytes output) o status output
     → (other : List ℕ) × AtFile name limit (λ bytes. Other bytes other) o status other
 file_ends name limit Rest Other None status output so at = (output, at)
 file_ends name limit Rest Other (Some bytes) status output so (inl long) = (output, inl long)
 file_ends name limit Rest Other (Some bytes) status output so (inr (fits, rest)) = let led = so bytes rest in (led.0, inr (fits, led.1))
 
-module _ (held : List ℕ → Option (List ℕ)) (schema func made : List ℕ) where
+module _ (held : List ℕ → Option (List ℕ)) (schema func made : List ℕ) (unlike : (bytes : List ℕ) → held func ≡ Some bytes → ¬ (BeginsQuery bytes)) where
   abbrev made_of : Schema → List ℕ → Course ⊥
   made_of s bytes = judges (RefusedBy func (RefusesFunction s bytes)) (IsFunction s bytes) (λ f. ends (Compiles Query s (callable_of s f.written) made))
 
@@ -184,18 +184,27 @@ module _ (held : List ℕ → Option (List ℕ)) (schema func made : List ℕ) w
   abbrev made_over : List ℕ → Course ⊥
   made_over bytes = judges (RefusedBy schema (RefusesSchema bytes)) (IsSchema bytes) (λ s. reads func 1048576 (made_of s.schema))
 
-  judged_ends : (s : Schema) (bytes : List ℕ) (status : Status) (output : List ℕ) → Outcome held (of_bytes func made s bytes) status output → (other : List ℕ) × Outcome held (made_of s bytes) status other
+  judged_ends : (s : Schema) (bytes : List ℕ) (status : Status) (output : List ℕ) → EndsOn func s bytes made status output → (other : List ℕ) × Outcome held (made_of s bytes) status other
   judged_ends s bytes status output (inl refused) = let r = refuses_so func s bytes output refused.0 in (refusal func r.0, inl (r.0, r.1, (refused.1, refl)))
   judged_ends s bytes status output (inr (f, (forms, compiled, (faults, are, e)))) = (made, inr (f, (record { forms = forms; text = made; is = compiled; output_is = refl }, (e.0, refl))))
 
-  function_ends : (s : Schema) (status : Status) (output : List ℕ) → Outcome held (explained_course func made s) status output → (other : List ℕ) × Outcome held (reads func 1048576 (made_of s)) status other
-  function_ends s status output o =
-      file_ends func 1048576 (λ bytes out. Outcome held (of_bytes func made s bytes) status out) (λ bytes out. Outcome held (made_of s bytes) status out) (held func) status output
-      (λ bytes h. judged_ends s bytes status output h) o
+  -- at bytes that are held
+  bytes_end : (s : Schema) (bytes : List ℕ) (status : Status) (output : List ℕ) → ¬ (BeginsQuery bytes) → EndsOnFile func s bytes made status output
+      → (other : List ℕ) × AtFile func 1048576 (λ z. Outcome held (made_of s z) status other) (Some bytes) status other
+  bytes_end s bytes status output unlike (inl (begins, so)) = absurd (unlike begins)
+  bytes_end s bytes status output unlike (inr (other, inl (long, e))) = (refusal func (codes "LONG"), inl (long, (e.0, refl)))
+  bytes_end s bytes status output unlike (inr (other, inr (fits, so))) = let led = judged_ends s bytes status output so in (led.0, inr (fits, led.1))
+
+  -- at what is held
+  held_end : (s : Schema) (o : Option (List ℕ)) (status : Status) (output : List ℕ) → ((bytes : List ℕ) → o ≡ Some bytes → ¬ (BeginsQuery bytes))
+      → AtFile func 67108864 (λ z. EndsOnFile func s z made status output) o status output → (other : List ℕ) × AtFile func 1048576 (λ z. Outcome held (made_of s z) status other) o status other
+  held_end s None status output unlike at = (output, at)
+  held_end s (Some bytes) status output unlike (inl (long, e)) = (refusal func (codes "LONG"), inl (omega (arith, long), (e.0, refl)))
+  held_end s (Some bytes) status output unlike (inr (fits, so)) = bytes_end s bytes status output (unlike bytes refl) so
 
   schema_ends : (bytes : List ℕ) (status : Status) (output : List ℕ) → Outcome held (told_over bytes) status output → (other : List ℕ) × Outcome held (made_over bytes) status other
   schema_ends bytes status output (inl refused) = (output, inl refused)
-  schema_ends bytes status output (inr (s, rest)) = let led = function_ends s.schema status output rest in (led.0, inr (s, led.1))
+  schema_ends bytes status output (inr (s, rest)) = let led = held_end s.schema (held func) status output unlike rest in (led.0, inr (s, led.1))
 
   pub ends_so : (status : Status) (output : List ℕ) → Outcome held (explain_course schema func made) status output → (other : List ℕ) × Outcome held (compile_course Query schema func made) status other
   ends_so status output o =
@@ -203,4 +212,4 @@ module _ (held : List ℕ → Option (List ℕ)) (schema func made : List ℕ) w
       (λ bytes h. schema_ends bytes status output h) o
 
 pub ends_as_compile : EndsAsCompile
-ends_as_compile held schema func made status output o = ends_so held schema func made status output o
+ends_as_compile held schema func made status output unlike o = ends_so held schema func made unlike status output o

@@ -1,5 +1,5 @@
 -- How a run of `explain` goes, and what the parts of its code make of a file's bytes.
-use Rattle.std.proofs.Common.{◌≡◌, inl, inr, refl, ap, subst, sym, ℕ, List, [], length}
+use Rattle.std.proofs.Common.{◌≡◌, inl, inr, refl, ap, subst, ℕ, List, [], length}
 use Rattle.std.specs.Prelude.{Option, Some}
 use Rattle.away_lex.specs.declared.refusals.ReadRefusal.{ReadRefusal}
 use Rattle.away_names.specs.declared.rule.Rule.{Rule}
@@ -9,22 +9,22 @@ use Rattle.away_trees.specs.declared.statements.Function.{Function}
 use Rattle.away_types.specs.declared.checked_function.CheckedFunction.{CheckedFunction}
 use Rattle.away_types.specs.declared.finding.Finding.{Finding}
 use Rattle.away_types.specs.CheckedFunctions.{IsChecked}
-use Rattle.away_types.specs.FunctionChecks.{function_note, head_note}
+use Rattle.away_types.specs.FunctionChecks.{function_note}
 use Rattle.function_places.specs.declared.stuck_places.Stuck.{Stuck}
 use Rattle.plsql_parse.specs.Refusals as functions
 use Rattle.refusal_reasons.specs.Reasons.{rule_reason}
 use Rattle.away_top.specs.declared.explain.Head.{Head}
 use Rattle.away_top.specs.declared.ending.Halt.{Halt}
 use Rattle.away_top.specs.declared.host.Files.{Ghosts as Files}
-use Rattle.away_top.specs.declared.status.Status.{Status}
 use Rattle.away_top.specs.declared.status.Status.TheVariants.{Refused}
-use Rattle.away_top.specs.Course.{Course, ends, judges}
-use Rattle.away_top.specs.ExplainCourse.{EndsOn, OwnCounts, Tells, TellsCounts, explain_course, explained_course, own_counts}
+use Rattle.away_top.specs.Course.{Course, ends}
+use Rattle.away_top.specs.ExplainCourse.{EndsOn, OwnCounts, Tells}
 use Rattle.away_top.specs.Explaining.{IsHead, own}
-use Rattle.away_top.specs.Explanations.{ExplainedBy, IsFindingPlace, IsFindingTold, IsReadTold, IsReason, IsTold, RefusedAt}
-use Rattle.away_top.specs.Files.{Callable, as_callable, callable_of, schema_course}
+use Rattle.away_top.specs.Explanations.{IsFindingPlace, IsFindingTold, IsReadTold, IsReason, IsTold, RefusedAt}
+use Rattle.away_top.specs.Files.{as_callable, callable_of, schema_course}
 use Rattle.away_top.specs.Lines.{numbered_rule}
-use Rattle.away_top.specs.Refusals.{IsFunction, IsRule, ReadsAsFunction}
+use Rattle.away_top.specs.QueryExplainCourse.{EndsOnFile, explain_course, explained_course}
+use Rattle.away_top.specs.Refusals.{IsRule, ReadsAsFunction}
 use Rattle.away_top.specs.Runs.{End, wants_memory, ended, goes_on, Follows, Holds, IsEnd, IsRead, Runs, StopsAt}
 use Rattle.away_top.specs.Steps.{IsHalt, halt_end}
 use Rattle.away_top.proofs.Judging.{callable_is}
@@ -32,16 +32,9 @@ use Rattle.away_top.proofs.Stretches.{goes_further, goes_on_there, stops_early, 
 
 -- ---- the run
 
--- how the bytes of the function's file are judged
+-- how the bytes of the file are judged
 abbrev pub of_bytes : List ℕ → List ℕ → Schema → List ℕ → Course ⊥
-of_bytes func made s bytes = judges (ExplainedBy func s bytes) (IsFunction s bytes) (λ f. ends (TellsCounts s f.written made))
-
-judged_so : {D : Type 0} (F : Files D) (now : D) (func made : List ℕ) (s : Schema) (bytes : List ℕ) (end : End ⊥) → IsEnd (EndsOn func s bytes made) end
-    → Follows F now (of_bytes func made s bytes) now end
-judged_so F now func made s bytes wants_memory h = inl (record { same = refl; how = tt })
-judged_so F now func made s bytes (ended status output) (inl refused) = inl (record { same = refl; how = refused })
-judged_so F now func made s bytes (ended status output) (inr (f, so)) = inr (f, record { same = refl; how = so })
-judged_so F now func made s bytes (goes_on never) h = absurd never
+of_bytes func made s bytes = ends (EndsOnFile func s bytes made)
 
 module _ {D : Type 0} (F : Files D) (schema func : List ℕ) where
   -- the run ends with the schema's file
@@ -49,20 +42,20 @@ module _ {D : Type 0} (F : Files D) (schema func : List ℕ) where
   tables_stop old new halt first = record { text = []; follows = stops_early F old new (schema_course schema) (explained_course func []) halt first }
 
   module _ (old middle new : D) (tables : Schema) (first : Follows F old (schema_course schema) middle (goes_on tables)) (read : IsRead F middle func new) where
-    -- it ends since the function's can't be read or is too long
-    pub file_stops : (halt : Halt) → IsHalt (StopsAt F middle func 1048576 new) halt → Runs F old (explain_course schema func) new (halt_end halt)
+    -- it ends since the other can't be read or is too long
+    pub file_stops : (halt : Halt) → IsHalt (StopsAt F middle func 67108864 new) halt → Runs F old (explain_course schema func) new (halt_end halt)
     file_stops halt stops = record {
       text = [];
       follows = goes_further F old middle new (schema_course schema) (explained_course func []) tables (halt_end halt) first
-          (stops_there F middle new func 1048576 (of_bytes func [] tables) halt read stops);
+          (stops_there F middle new func 67108864 (of_bytes func [] tables) halt read stops);
     }
 
     -- it comes to what is told of the bytes
-    pub comes_to_bytes : (bytes : List ℕ) (end : End ⊥) → Holds F middle func 1048576 bytes → ((text : List ℕ) × IsEnd (EndsOn func tables bytes text) end) → Runs F old (explain_course schema func) new end
+    pub comes_to_bytes : (bytes : List ℕ) (end : End ⊥) → Holds F middle func 67108864 bytes → ((text : List ℕ) × IsEnd (EndsOnFile func tables bytes text) end) → Runs F old (explain_course schema func) new end
     comes_to_bytes bytes end holds (text, is) = record {
       text = text;
       follows = goes_further F old middle new (schema_course schema) (explained_course func text) tables end first
-          (goes_on_there F middle new new func 1048576 (of_bytes func text tables) bytes end read holds (judged_so F new func text tables bytes end is));
+          (goes_on_there F middle new new func 67108864 (of_bytes func text tables) bytes end read holds (record { same = refl; how = is }));
     }
 
 -- ---- a file that isn't read

@@ -3,10 +3,10 @@ use Rattle.std.proofs.Common.{◌≡◌, inl, inr, ap, subst, ◌∙◌, ℕ, Li
 use Rattle.away_top.specs.declared.status.Status.{Status}
 use Rattle.away_top.specs.Commands.{command_of, course, course_of}
 use Rattle.away_top.specs.Course.{Outcome}
-use Rattle.away_top.specs.ExplainCourse.{EndsOn, explain_course, explained_course}
 use Rattle.away_top.specs.InMemory.{EndsIn, Explained, MayExplain}
 use Rattle.away_top.specs.MemoryFiles.{HeldFiles, held_at}
 use Rattle.away_top.specs.MemorySink.{RoomySink}
+use Rattle.away_top.specs.QueryExplainCourse.{EndsOnFile, explain_course, explained_course}
 use Rattle.away_top.specs.Refusals.{IsSchema}
 use Rattle.away_top.proofs.EndsInMemory.{leads_on}
 use Rattle.away_top.proofs.Unrefused.{same_schema, schema_unrefused}
@@ -14,18 +14,15 @@ use Rattle.away_top.proofs.Words.{asks_explain}
 
 module _ (m : HeldFiles) (schema func tables function : List ℕ) (may : MayExplain m schema func tables function) where
   ends_over : (s : IsSchema tables) (text : List ℕ) (status : Status) (output : List ℕ) → Outcome {A = ⊥} (held_at m.held) (explained_course func text s.schema) status output
-      → EndsOn func s.schema function text status output
-  ends_over s text status output o = elim (leads_on func 1048576 _ (held_at m.held func) function status output may.holds_function may.short o) [
-    | inl refused ↦ inl refused
-    | inr (f, told) ↦ inr (f, told)
-  ]
+      → EndsOnFile func s.schema function text status output
+  ends_over s text status output o = leads_on func 67108864 _ (held_at m.held func) function status output may.holds_function may.short o
 
-  -- files that are held lead to what is told of the function's
+  -- files that are held lead to what is told of the second one
   leads : (text : List ℕ) (status : Status) (output : List ℕ) → Outcome {A = ⊥} (held_at m.held) (explain_course schema func text) status output
-      → EndsOn func may.fit_schema.is.schema function text status output
+      → EndsOnFile func may.fit_schema.is.schema function text status output
   leads text status output o = elim (leads_on schema 67108864 _ (held_at m.held schema) tables status output may.holds_schema may.fit_schema.short o) [
     | inl (rule, refuses, e) ↦ absurd (schema_unrefused may.fit_schema.is rule refuses)
-    | inr (s, rest) ↦ subst (λ t. EndsOn func t function text status output) (same_schema s may.fit_schema.is) (ends_over s text status output rest)
+    | inr (s, rest) ↦ subst (λ t. EndsOnFile func t function text status output) (same_schema s may.fit_schema.is) (ends_over s text status output rest)
   ]
 
   -- what the call leaves

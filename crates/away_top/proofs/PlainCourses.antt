@@ -41,8 +41,9 @@ use Rattle.plsql_parse.specs.Refusals as functions
 use Rattle.away_trees.specs.declared.statements.Function.{Function}
 use Rattle.away_top.specs.FormatCourse.{format_course}
 use Rattle.away_top.specs.ExpandCourse as expands
-use Rattle.away_top.specs.ExplainCourse.{TellsCounts, explain_course}
+use Rattle.away_top.specs.ExplainCourse.{TellsCounts}
 use Rattle.away_top.specs.Explanations.{ExplainedBy}
+use Rattle.away_top.specs.QueryExplainCourse.{EndsOnFile, EndsOnFunction, EndsOnQuery, explain_course}
 use Rattle.away_top.specs.InlineCourse as inlines
 use Rattle.away_top.specs.UnrollCourse as unrolls
 use Rattle.away_top.specs.UnrolledCourse as unrolleds
@@ -279,8 +280,21 @@ plain_explained func s bytes status output e = subst IsPlain (sym e.1) tt
 plain_counts : (s : Schema) (f : Function) (text : List ℕ) → ArePlain (TellsCounts s f text)
 plain_counts s f text status output (forms, compiled, (faults, are, e)) = subst IsPlain (sym e.0) tt
 
+plain_function : (func : List ℕ) (s : Schema) (bytes text : List ℕ) (status : Status) (output : List ℕ) → EndsOnFunction func s bytes text status output → IsPlain status
+plain_function func s bytes text status output (inl (long, e)) = subst IsPlain (sym e.0) tt
+plain_function func s bytes text status output (inr (fits, inl e)) = plain_explained func s bytes status output e
+plain_function func s bytes text status output (inr (fits, inr (f, told))) = plain_counts s f.written text status output told
+
+plain_query : (func : List ℕ) (s : Schema) (bytes : List ℕ) (status : Status) (output : List ℕ) → EndsOnQuery func s bytes status output → IsPlain status
+plain_query func s bytes status output (inl e) = subst IsPlain (sym e.1) tt
+plain_query func s bytes status output (inr (q, told)) = subst IsPlain (sym told.0) tt
+
+plain_file : (func : List ℕ) (s : Schema) (bytes text : List ℕ) → ArePlain (EndsOnFile func s bytes text)
+plain_file func s bytes text status output (inl (begins, so)) = plain_query func s bytes status output so
+plain_file func s bytes text status output (inr (unlike, so)) = plain_function func s bytes text status output so
+
 plain_explain : (schema func text : List ℕ) → IsPlainCourse (explain_course schema func text)
-plain_explain schema func text = λ bytes. (plain_refusal schema (RefusesSchema bytes), λ s more. (plain_explained func s.schema more, λ f. plain_counts s.schema f.written text))
+plain_explain schema func text = λ bytes. (plain_refusal schema (RefusesSchema bytes), λ s more. plain_file func s.schema more text)
 
 -- ---- a text
 

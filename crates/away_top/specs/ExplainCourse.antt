@@ -1,5 +1,5 @@
--- `explain SCHEMA FUNC`: a function's file that is refused is told with the place and the reason, an
--- accepted function with its sizes.
+-- `explain SCHEMA FUNC` where the file doesn't begin a query: a file that is refused is told with the
+-- place and the reason, an accepted function with its sizes and its faults.
 use Rattle.std.specs.Prelude.{◌≡◌, ◌⊎◌, ℕ, ◌≤◌, List, [], ◌∷◌, ◌++◌, length, codes, flat_map, Some}
 use Rattle.std.specs.declared.option.Option.{Option}
 use Rattle.std.specs.Fmt.{decimal}
@@ -11,13 +11,13 @@ use Rattle.away_trees.specs.Limits.{variables, loops}
 use Rattle.away_values.specs.declared.values.Class.{Class}
 use Rattle.cert_json.specs.Forms.{Cert}
 use Rattle.inline_calls.specs.Faults.{AreFaults}
-use Rattle.away_top.specs.declared.compile.Wanted.TheVariants.{Query}
+use Rattle.query_places.specs.QueryPlaces.{BeginsQuery}
 use Rattle.away_top.specs.declared.status.Status.{Status}
 use Rattle.away_top.specs.declared.status.Status.TheVariants.{Done}
-use Rattle.away_top.specs.CompileCourse.{IsCompiledFrom, compile_course}
-use Rattle.away_top.specs.Course.{Course, Exactly, Outcome, and_then, ends, judges, reads}
+use Rattle.away_top.specs.CompileCourse.{IsCompiledFrom}
+use Rattle.away_top.specs.Course.{Exactly}
 use Rattle.away_top.specs.Explanations.{ExplainedBy, Explains}
-use Rattle.away_top.specs.Files.{Callable, callable_of, schema_course}
+use Rattle.away_top.specs.Files.{Callable, callable_of}
 use Rattle.away_top.specs.Lines.{line}
 use Rattle.away_top.specs.Refusals.{IsFunction, IsSchema}
 
@@ -83,23 +83,13 @@ Tells s f own made status output =
 abbrev pub TellsCounts : Schema → Function → List ℕ → Status → List ℕ → Type 0
 TellsCounts s f made = Tells s (callable_of s f) (own_counts f) made
 
--- ---- the course
+-- ---- at its file
 
--- how a run ends at these bytes of the function's file
+-- how a run ends at these bytes of a function's file
 abbrev pub EndsOn : List ℕ → Schema → List ℕ → List ℕ → Status → List ℕ → Type 0
 EndsOn func s bytes made status output =
     ExplainedBy func s bytes status output
     ⊎ ((f : IsFunction s bytes) × TellsCounts s f.written made status output)
-
--- the function's file is read and judged over the tables of the schema
-abbrev pub explained_course : List ℕ → List ℕ → Schema → Course ⊥
-explained_course func made s =
-    reads func 1048576
-    (λ bytes. judges (ExplainedBy func s bytes) (IsFunction s bytes)
-    (λ f. ends (TellsCounts s f.written made)))
-
-abbrev pub explain_course : List ℕ → List ℕ → List ℕ → Course ⊥
-explain_course schema func made = and_then (schema_course schema) (explained_course func made)
 
 -- ---- the whole run
 
@@ -116,16 +106,17 @@ pub record IsCounted (schema func output : List ℕ) : Type 0 where
   pub are_faults : AreFaults forms.goto faults
   pub output_is : output ≡ explained_lines (own_counts function.written) forms (length text) faults
 
--- Where the words are those of `explain` and the files tell what they hold, such counts were written.
+-- Where the words are those of `explain` and the files tell what they hold, of which the second one
+-- doesn't begin a query, such counts were written.
 abbrev pub WritesCounts : (List ℕ → Option (List ℕ)) → Option (List ℕ) → Option (List ℕ)
     → List (List ℕ) → Type 0
 WritesCounts held before after words =
     (schema func tables function : List ℕ)
     → words ≡ codes "explain" ∷ schema ∷ func ∷ []
-    → held schema ≡ Some tables → held func ≡ Some function
+    → held schema ≡ Some tables → held func ≡ Some function → ¬ (BeginsQuery function)
     → (output : List ℕ) × IsCounted tables function output × Appends before after output
 
--- Where the function's file was refused, and that of the schema wasn't, the place and the reason were
+-- Where such a file was refused, and that of the schema wasn't, the place and the reason were
 -- written.
 abbrev pub WritesReason : (List ℕ → Option (List ℕ)) → Option (List ℕ) → Option (List ℕ)
     → List (List ℕ) → Type 0
@@ -133,13 +124,5 @@ WritesReason held before after words =
     (schema func tables function : List ℕ) (s : IsSchema tables)
     → words ≡ codes "explain" ∷ schema ∷ func ∷ []
     → held schema ≡ Some tables → length tables ≤ 67108864
-    → held func ≡ Some function → length function ≤ 1048576
+    → held func ≡ Some function → length function ≤ 1048576 → ¬ (BeginsQuery function)
     → (output : List ℕ) × Explains func s.schema function output × Appends before after output
-
--- ---- laws
-
--- A run of `compile` over the same files may end with the same status.
-abbrev pub EndsAsCompile : Type 0
-EndsAsCompile = (held : List ℕ → Option (List ℕ)) (schema func made : List ℕ) (status : Status)
-    (output : List ℕ) → Outcome held (explain_course schema func made) status output
-    → (other : List ℕ) × Outcome held (compile_course Query schema func made) status other

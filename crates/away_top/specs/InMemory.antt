@@ -40,7 +40,7 @@ use Rattle.away_top.specs.Course.{Course, gives, ends, judges, reads, Outcome}
 use Rattle.away_top.specs.DemoCourse.{IsShown}
 use Rattle.away_top.specs.Files.{asked_of, callable_of}
 use Rattle.away_top.specs.ExpandCourse.{AllHeld, AllRead, IsExpandedFor}
-use Rattle.away_top.specs.ExplainCourse.{EndsOn}
+use Rattle.away_top.specs.QueryExplainCourse.{EndsOnFile}
 use Rattle.away_top.specs.FormatCourse.{IsFormatted}
 use Rattle.away_top.specs.InlineCourse.{IsInlinedFor, IsReadableQuery, MayBeInlined}
 use Rattle.expanding.specs.Expanded.{Refuses as RefusesExpanded}
@@ -240,20 +240,20 @@ InlinedIn before after result tables calling function =
 
 -- ---- explain
 
--- The files of the schema and the function are held, the schema breaks no rule, and each file is
--- within its limit. No read is to fail.
+-- The files of the schema and the function or the query are held, the schema breaks no rule, and
+-- each file is within the limit of a query's. No read is to fail.
 pub record MayExplain (files : HeldFiles) (schema func tables function : List ℕ) : Type 0 where
   pub holds_schema : held_at files.held schema ≡ Some tables
   pub holds_function : held_at files.held func ≡ Some function
   pub fit_schema : IsFitSchema tables
-  pub short : length function ≤ 1048576
+  pub short : length function ≤ 67108864
   pub no_failure : files.fails ≡ []
 
--- Memory was wanting, or there is what is told of the function's file, where the room holds it.
+-- Memory was wanting, or there is what is told of the file, where the room holds it.
 abbrev pub Explained : RoomySink → RoomySink → Status → List ℕ → Schema → List ℕ → Type 0
 Explained before after result func s function =
     EndsIn before after result
-    (λ status output. (text : List ℕ) × EndsOn func s function text status output)
+    (λ status output. (text : List ℕ) × EndsOnFile func s function text status output)
 
 -- ---- demo
 

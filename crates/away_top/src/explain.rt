@@ -1,4 +1,4 @@
-//! `explain SCHEMA FUNC`.
+//! `explain SCHEMA FUNC`, where the file may be a query's too.
 
 ghost use Rattle.std.specs.Prelude.{◌≡◌, ◌++◌, IfOk, IfSome, List, codes, length, map, string_bytes, ℕ};
 ghost use Rattle.std.specs.Fmt.{decimal};
@@ -7,21 +7,22 @@ ghost use Rattle.away_lex.specs.declared.refusals.ReadRefusal.TheVariants as ref
 ghost use Rattle.cte_prints.specs.Texts.{IsOfTexts};
 ghost use Rattle.function_places.specs.LimitPlaces.{IsLimitPlace};
 ghost use Rattle.function_places.specs.TokenPlaces.{IsWordPlace};
-ghost use Rattle.away_top.specs.ExplainCourse.{EndsOn, Tells, count_lines, counts as counted_of, explain_course, explained_lines};
+ghost use Rattle.away_top.specs.ExplainCourse.{EndsOn, Tells, count_lines, counts as counted_of, explained_lines};
 ghost use Rattle.away_top.specs.Explaining.{IsHead, as_count, own};
 ghost use Rattle.away_top.specs.Explanations as spec;
-ghost use Rattle.away_top.specs.Explanations.{IsFindingPlace, IsFindingTold, IsHinted, IsReadTold, IsReason};
-ghost use Rattle.away_top.specs.Explanations.{IsTold, RefusedAt};
+ghost use Rattle.away_top.specs.Explanations.{IsFindingPlace, IsFindingTold, IsHinted, IsReadTold, IsReason, IsTold, RefusedAt};
 ghost use Rattle.away_top.specs.Files.{as_callable};
 ghost use Rattle.away_top.specs.Lines.{line};
+ghost use Rattle.away_top.specs.QueryExplainCourse.{EndsOnFile, explain_course};
 ghost use Rattle.away_top.specs.Refusals.{ReadsAsFunction};
 ghost use Rattle.away_top.specs.Runs.{IsEnd, Runs};
 ghost use Rattle.away_top.specs.Steps.{run_end};
 
-use crate::ending::{Ending, Halt, read_text, rule_text};
+use crate::ending::{Ending, Halt, read_text, refused, rule_text};
+use crate::explain_query::explained_query;
 use crate::explanation::explanation;
 use crate::fault_lines::put_faults;
-use crate::files::{MAX_FUNCTION, bytes_of, schema_of};
+use crate::files::{MAX_FILE, MAX_FUNCTION, bytes_of, schema_of};
 use crate::{Files, Status};
 use away_lex::{LimitKind, ReadRefusal};
 use away_names::rule::Rule;
@@ -38,6 +39,7 @@ use inline_calls::faults_of;
 use itoa::Buffer;
 use plsql_parse::counts::counts_of;
 use plsql_parse::read_function;
+use query_places::begins_query;
 use refusal_reasons::{read_reason, rule_reason};
 use std::alloc::{AllocError, Global};
 use text_places::text_end;
@@ -52,7 +54,7 @@ struct Head {
     rule: Option<Rule>,
 }
 
-/// Reads the two files, and tells where and why the function's is refused, or what the function counts.
+/// Reads the two files, and tells where and why the second one is refused, or what its function or its query counts.
 pub fn explain<F: Files>(
     alloc: Global,
     schema: &str,
@@ -63,12 +65,31 @@ pub fn explain<F: Files>(
         (run_end result) }
 {
     let tables = schema_of(alloc, schema, files)?;
-    let bytes = bytes_of(alloc, func, MAX_FUNCTION, files)?;
+    let bytes = bytes_of(alloc, func, MAX_FILE, files)?;
     explained(alloc, func, &tables, &bytes)
 }
 
-/// What is told of the bytes of the function's file.
+/// What is told of the bytes of a file, which say whether it is a query's.
 fn explained(
+    alloc: Global,
+    name: &str,
+    tables: &CheckedSchema,
+    bytes: &[u8],
+) -> Result<Ending, Halt>
+    ensures { (text : List ℕ)
+        × IsEnd (EndsOnFile name.now tables.now.schema bytes.now text) (run_end result) }
+{
+    if begins_query(alloc, bytes)? {
+        return explained_query(alloc, name, tables, bytes);
+    }
+    if bytes.len() as u64 > MAX_FUNCTION {
+        return Ok(refused(alloc, name, b"LONG")?);
+    }
+    explained_function(alloc, name, tables, bytes)
+}
+
+/// What is told of the bytes of a function's file.
+fn explained_function(
     alloc: Global,
     func: &str,
     tables: &CheckedSchema,
@@ -222,7 +243,7 @@ fn own_lines(alloc: Global, head: Head, compiled: &Compiled) -> Result<Vec<u8>, 
 }
 
 /// A line for each count.
-fn count_lines_of(alloc: Global, counts: &[(&str, u64)]) -> Result<Vec<u8>, AllocError>
+pub(crate) fn count_lines_of(alloc: Global, counts: &[(&str, u64)]) -> Result<Vec<u8>, AllocError>
     ensures { IfOk result (λ output. output.items ≡ count_lines (map as_count counts.now)) }
 {
     let mut output = Vec::new(alloc);
@@ -356,7 +377,7 @@ fn at_limit(alloc: Global, bytes: &[u8], which: LimitKind) -> Result<Option<Stuc
 }
 
 /// A refusal with its place, which is in the file.
-fn told(
+pub(crate) fn told(
     alloc: Global,
     func: &str,
     bytes: &[u8],

@@ -49,8 +49,8 @@ use std::alloc::Global;
 /// are those of `untail`, the function with its calls of itself as turns of a loop, where they are those of `expand`, the main function with
 /// its calls of the others expanded, where they are those of `inline`, the query with its calls of the function as subqueries, where they are
 /// those of `unroll`, a query in which one iteration runs several turns, where they are those of `unrolled`, the answer of that query, where
-/// they are those of `explain`, the place and the reason of a refusal, or the counts of the function, and where they are `demo` and a
-/// number, a summary of that case.
+/// they are those of `explain`, the place and the reason of a refusal, or the counts of the function or the query, and where they are `demo`
+/// and a number, a summary of that case.
 pub fn away_in_memory(
     alloc: Global,
     words: &[String],

@@ -1,10 +1,10 @@
 -- That what could stand at a place is told within a line, and that no label stands twice in the table, by computing.
 use Rattle.std.proofs.Common.{◌≡◌, ◌==◌, ◌&&◌, ℕ, Bool, true, false, not, List, [], ◌∷◌, ◌++◌, codes, refl, ap, sym, ◌∙◌, inl, inr, subst, bytes_eq}
-use Rattle.std.specs.List.{All, AllByRecursion, IsDistinct, list_all}
+use Rattle.std.specs.List.{AllByRecursion, IsDistinct, list_all}
 use Rattle.std.proofs.lemmas.Bool.{and_parts}
 use Rattle.std.proofs.lemmas.List.Elements.{All-append, All-cons, All-nil}
 use Rattle.text_places.specs.Lines.{IsInLine}
-use Rattle.function_places.specs.Hints.{Among, AreDistinct, AreInLine, IsHint, before_label, hint, joined, labels, opening}
+use Rattle.function_places.specs.Hints.{Among, AreDistinct, AreInLine, hint, joined, labels, opening}
 
 -- ---- lines
 

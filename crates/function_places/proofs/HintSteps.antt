@@ -1,11 +1,8 @@
 -- What is told of a table, one label after the other.
-use Rattle.std.proofs.Common.{◌≡◌, ◌≤◌, ◌<◌, ◌+◌, ◌-◌, ◌==◌, ◌⊎◌, inl, inr, ℕ, zero, suc, Bool, true, false, List, [], ◌∷◌, ◌++◌, length, get_or, take, map, refl, sym, ap, ◌∙◌, subst, arith, Bor, append-nil, append_assoc, length-append, codes}
+use Rattle.std.proofs.Common.{◌≡◌, ◌≤◌, ◌<◌, ◌+◌, ◌-◌, ◌==◌, ◌⊎◌, inl, inr, ℕ, zero, suc, Bool, true, false, List, [], ◌∷◌, ◌++◌, length, get_or, take, map, refl, sym, ap, ◌∙◌, subst, arith, append-nil, append_assoc, length-append, codes}
 use Rattle.std.proofs.lemmas.Bool.{eqb-false, eqb-true}
-use Rattle.function_places.specs.HintEntries.{label_of}
+use Rattle.function_places.specs.HintEntries.{Entry, label_of}
 use Rattle.function_places.specs.Hints.{Among, IsHint, IsHintOf, before_label, hint, joined, labels, opening}
-
-abbrev Entry : Type 0
-Entry = Bor (List ℕ) × Bor (List ℕ) × ℕ × ℕ
 
 -- ---- labels among those of a table
 

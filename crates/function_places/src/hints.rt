@@ -9,6 +9,7 @@ ghost use Rattle.function_places.specs.HintEntries.{label_of};
 ghost use Rattle.function_places.specs.Hints as spec;
 ghost use Rattle.function_places.specs.Hints.{IsHint, IsHintOf};
 
+use crate::hint_table::{Part, TABLE, Told};
 use crate::stuck_places::Stuck;
 use crate::token_places::tokens_of;
 use crate::trials::{Reader, completes, listed, may_follow, stands_right};
@@ -23,106 +24,12 @@ pub(crate) const MOST_BEFORE: usize = 2000;
 /// How much is told at most.
 const MOST_TOLD: usize = 5;
 
-// What a label is told for, or in whose place it isn't.
-const NAME: u8 = 1;
-
-const VALUE: u8 = 2;
-
-const STATEMENT: u8 = 4;
-
-const OPERATOR: u8 = 8;
-
-const ASSIGN: u8 = 16;
-
-const ATTRIBUTE: u8 = 32;
-
-const ANY_NAME: u8 = 7;
-
 /// What may complete a header behind an attribute.
 const ENDINGS: [&str; 4] = [
     "",
     "language plpgsql",
     "as $$a$$",
     "language plpgsql as $$a$$",
-];
-
-/// A sample, its label, what this label is told for, and what, told before, it is a part of. What is told first stands first.
-const TABLE: [(&str, &str, u8, u8); 75] = [
-    ("return", "a statement", STATEMENT, 0),
-    ("cast", "an expression", VALUE, 0),
-    ("x", "a name", NAME, ANY_NAME),
-    ("integer", "a type", 0, ANY_NAME),
-    ("'a'", "a text", 0, VALUE),
-    ("1", "an integer", 0, VALUE),
-    ("$$a$$", "a body in $$", 0, 0),
-    ("plpgsql", "PLPGSQL", 0, ANY_NAME),
-    ("then", "THEN", 0, 0),
-    ("loop", "LOOP", 0, STATEMENT),
-    (";", ";", 0, 0),
-    (":=", ":=", ASSIGN, 0),
-    (")", ")", 0, 0),
-    (",", ",", 0, 0),
-    ("..", "..", 0, 0),
-    (">>", ">>", 0, 0),
-    ("||", "an operator", OPERATOR, 0),
-    ("into", "INTO", 0, 0),
-    ("from", "FROM", 0, 0),
-    ("begin", "BEGIN", 0, STATEMENT),
-    ("declare", "DECLARE", 0, STATEMENT),
-    ("elsif", "ELSIF", 0, 0),
-    ("else", "ELSE", 0, 0),
-    ("when", "WHEN", 0, 0),
-    ("end", "END", 0, 0),
-    ("create", "CREATE", 0, 0),
-    ("function", "FUNCTION", 0, ANY_NAME),
-    ("replace", "REPLACE", 0, ANY_NAME),
-    ("returns", "RETURNS", 0, ANY_NAME),
-    ("language plpgsql", "LANGUAGE", ATTRIBUTE, ANY_NAME),
-    ("as $$a$$", "AS", ATTRIBUTE, 0),
-    ("immutable", "IMMUTABLE", ATTRIBUTE, ANY_NAME),
-    ("stable", "STABLE", ATTRIBUTE, ANY_NAME),
-    ("strict", "STRICT", ATTRIBUTE, 0),
-    ("volatile", "VOLATILE", ATTRIBUTE, ANY_NAME),
-    ("parallel safe", "PARALLEL", ATTRIBUTE, ANY_NAME),
-    ("cost 1", "COST", ATTRIBUTE, ANY_NAME),
-    ("leakproof", "LEAKPROOF", ATTRIBUTE, ANY_NAME),
-    ("called on null input", "CALLED", ATTRIBUTE, ANY_NAME),
-    ("exception", "EXCEPTION", 0, ANY_NAME),
-    ("sqlstate", "SQLSTATE", 0, ANY_NAME),
-    ("safe", "SAFE", 0, ANY_NAME),
-    ("input", "INPUT", 0, ANY_NAME),
-    ("select", "SELECT", 0, STATEMENT),
-    ("in", "IN", 0, OPERATOR),
-    ("and", "AND", 0, 0),
-    ("where", "WHERE", 0, 0),
-    ("order", "ORDER", 0, 0),
-    ("by", "BY", 0, 0),
-    ("limit", "LIMIT", 0, 0),
-    ("union", "UNION", 0, 0),
-    ("all", "ALL", 0, 0),
-    ("desc", "DESC", 0, 0),
-    ("asc", "ASC", 0, 0),
-    ("*", "*", 0, OPERATOR),
-    ("=", "=", 0, 24),
-    ("default", "DEFAULT", 0, 0),
-    ("constant", "CONSTANT", 0, 0),
-    ("null", "NULL", 0, 6),
-    ("not", "NOT", 0, 10),
-    ("true", "TRUE", 0, VALUE),
-    ("false", "FALSE", 0, VALUE),
-    ("or", "OR", 0, OPERATOR),
-    ("is", "IS", 0, OPERATOR),
-    ("on", "ON", 0, 0),
-    ("reverse", "REVERSE", 0, 0),
-    ("if", "IF", 0, STATEMENT),
-    ("case", "CASE", 0, 6),
-    ("while", "WHILE", 0, STATEMENT),
-    ("for", "FOR", 0, STATEMENT),
-    ("<<", "<<", 0, STATEMENT),
-    ("lateral", "LATERAL", 0, 0),
-    ("exists", "EXISTS", 0, VALUE),
-    ("(", "(", 0, VALUE),
-    (".", ".", 0, 0),
 ];
 
 /// What could stand at a place where the reader of functions is stuck, or behind it where the text ended: at most five labels of
@@ -226,41 +133,43 @@ fn told_over(
     reader: Reader,
     before: &[Terminal<'_>],
     ended: bool,
-    entries: &[(&str, &str, u8, u8)],
+    entries: &[(&str, &str, Part, &[Part])],
 ) -> Result<String, NoMemory>
     requires { All HasSpelling before.now }
     ensures { IfOk result (λ text. IsHintOf (map label_of entries.now) ended (string_bytes text)) }
 {
     let mut text = String::new(alloc);
     let mut left = MOST_TOLD;
-    let mut said = 0;
+    let mut told = Told::nothing();
     for entry in entries {
         if left == 0 {
             return Ok(text);
         }
-        if is_to_tell(alloc, reader, before, said, *entry)? {
-            push_label(&mut text, left == MOST_TOLD, ended, entry.1)?;
+        if is_to_tell(alloc, reader, before, told, *entry)? {
+            let (_, label, names, _) = *entry;
+            push_label(&mut text, left == MOST_TOLD, ended, label)?;
             left -= 1;
-            said |= entry.2;
+            told = told.with(names);
         }
     }
     Ok(text)
 }
 
-/// Whether the entry isn't a part of what is said, and a function goes on with its sample.
+/// Whether the entry isn't a part of what was told, and a function goes on with its sample.
 fn is_to_tell(
     alloc: Global,
     reader: Reader,
     before: &[Terminal<'_>],
-    said: u8,
-    entry: (&str, &str, u8, u8),
+    told: Told,
+    entry: (&str, &str, Part, &[Part]),
 ) -> Result<bool, NoMemory>
     requires { All HasSpelling before.now }
 {
-    if said & entry.3 == 0 {
-        goes_on_with(alloc, reader, before, entry.0, entry.2)
-    } else {
+    let (sample, _, names, whole) = entry;
+    if told.has_one(whole) {
         Ok(false)
+    } else {
+        goes_on_with(alloc, reader, before, sample, names)
     }
 }
 
@@ -292,18 +201,13 @@ fn goes_on_with(
     reader: Reader,
     before: &[Terminal<'_>],
     sample: &str,
-    gives: u8,
+    names: Part,
 ) -> Result<bool, NoMemory>
     requires { All HasSpelling before.now }
 {
     let next = listed(alloc, sample)?;
-    match reader {
-        Reader::Header => {
-            if gives == ATTRIBUTE {
-                return is_attribute(alloc, before, next.as_slice());
-            }
-        }
-        Reader::Body => {}
+    if let (Reader::Header, Part::Attribute) = (reader, names) {
+        return is_attribute(alloc, before, next.as_slice());
     }
     if next.len() == 0 {
         return Ok(false);

@@ -20,7 +20,7 @@ use sqlite_items::Boxed;
 use std::alloc::Global;
 
 /// The number of the first token by which the list nests deeper than the limit, where the whole does.
-fn too_deep(list: &[Token<'_>], limit: u64) -> Option<usize>
+pub fn too_deep(list: &[Token<'_>], limit: u64) -> Option<usize>
     ensures deep { IfSome result (IsTooDeep (map seen list.now) limit) }
     ensures within { IfSome result (λ number. number < length list.now) }
 {

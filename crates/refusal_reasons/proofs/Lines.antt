@@ -14,7 +14,7 @@ use Rattle.text_places.specs.Lines.{IsInLine}
 use Rattle.refusal_reasons.specs.declared.instead.Advice.{Advice}
 use Rattle.refusal_reasons.specs.declared.instead.Advice.TheVariants as advice
 use Rattle.refusal_reasons.specs.Instead.{advice_for, advised, instead_of, text_of}
-use Rattle.refusal_reasons.specs.Reasons.{limit_reason, read_reason, rule_reason}
+use Rattle.refusal_reasons.specs.Reasons.{limit_reason, query_reason, read_reason, rule_reason}
 
 abbrev is_line : List ℕ → Bool
 is_line z = list_all (λ b. not (b == 10)) z
@@ -95,3 +95,12 @@ refusal_line read.NoTree false = in_line (read_reason read.NoTree false) refl
 refusal_line (read.Outside word) ended = word_line word
 refusal_line (read.Limit which found) ended = limit_line which
 refusal_line read.NoMemory ended = in_line (read_reason read.NoMemory ended) refl
+
+pub query_line : (e : ReadRefusal) (ended : Bool) → IsInLine (query_reason e ended)
+query_line read.NotText ended = refusal_line read.NotText ended
+query_line (read.Token offset) ended = refusal_line (read.Token offset) ended
+query_line read.NoTree true = in_line (query_reason read.NoTree true) refl
+query_line read.NoTree false = in_line (query_reason read.NoTree false) refl
+query_line (read.Outside word) ended = word_line word
+query_line (read.Limit which found) ended = in_line (query_reason (read.Limit which found) ended) refl
+query_line read.NoMemory ended = refusal_line read.NoMemory ended

@@ -49,3 +49,13 @@ read_reason NoTree false = codes "no function goes on so"
 read_reason (Outside word) ended = instead_of word
 read_reason (Limit which _) ended = limit_reason which
 read_reason NoMemory ended = codes "no memory was left"
+
+-- of a query's file that isn't read, where its text ends at the place or doesn't
+abbrev pub query_reason : ReadRefusal → Bool → List ℕ
+query_reason NotText ended = read_reason NotText ended
+query_reason (Token offset) ended = read_reason (Token offset) ended
+query_reason NoTree true = codes "no query ends so"
+query_reason NoTree false = codes "no query goes on so"
+query_reason (Outside word) ended = instead_of word
+query_reason (Limit which found) ended = codes "with this token the query nests deeper than 256"
+query_reason NoMemory ended = read_reason NoMemory ended

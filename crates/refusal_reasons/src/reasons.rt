@@ -63,3 +63,25 @@ pub fn read_reason(error: &ReadRefusal, ended: bool) -> &'static str
         ReadRefusal::NoMemory => "no memory was left",
     }
 }
+
+/// Why a query's file isn't read, where its text ends at the place or doesn't.
+pub fn query_reason(error: &ReadRefusal, ended: bool) -> &'static str
+    ensures { result.now ≡ spec.query_reason error.now ended }
+{
+    match error {
+        ReadRefusal::NoTree => {
+            if ended {
+                "no query ends so"
+            } else {
+                "no query goes on so"
+            }
+        }
+        ReadRefusal::Limit { which: _, found: _ } => {
+            "with this token the query nests deeper than 256"
+        }
+        ReadRefusal::NotText => read_reason(error, ended),
+        ReadRefusal::Token { offset: _ } => read_reason(error, ended),
+        ReadRefusal::Outside { word: _ } => read_reason(error, ended),
+        ReadRefusal::NoMemory => read_reason(error, ended),
+    }
+}

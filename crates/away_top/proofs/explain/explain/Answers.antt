@@ -17,6 +17,6 @@ returns-in_err-bytes g c =
 
 pub returns : goal.returns
 returns g c =
-    let holds = subst (Holds g.F.Files c.schema_of.new.files c.args.func.now 1048576) (sym c.deref.ensures.value) c.in_ok-bytes.ensures.bytes in
+    let holds = subst (Holds g.F.Files c.schema_of.new.files c.args.func.now 67108864) (sym c.deref.ensures.value) c.in_ok-bytes.ensures.bytes in
     comes_to_bytes g.F.Files c.args.schema.now c.args.func.now c.args.files.now c.schema_of.new.files c.bytes_of.new.files c.in_ok-tables.tables.schema c.in_ok-tables.ensures c.bytes_of.ensures.read c.deref.result.now
     (run_end c.explained.result) holds c.explained.ensures

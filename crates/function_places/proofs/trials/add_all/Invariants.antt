@@ -1,4 +1,3 @@
-use Rattle.std.proofs.Common.{◌≡◌}
 use Rattle.std.specs.List.{All}
 use Rattle.sql_text.specs.CodeTerminals.{HasSpelling}
 use Rattle.function_places.proofs.trials.add_all.Given as goal

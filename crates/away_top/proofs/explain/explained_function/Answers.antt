@@ -1,6 +1,6 @@
 use Rattle.away_top.specs.Steps.{run_end}
 use Rattle.away_top.proofs.Explaining.{unread_so}
-use Rattle.away_top.proofs.explain.explained.Goals as goal
+use Rattle.away_top.proofs.explain.explained_function.Goals as goal
 
 pub judged-requires : goal.judged-requires
 judged-requires c =

@@ -1,0 +1,2 @@
+pub mod QueryPlaces
+pub mod QueryPlaceLaws

@@ -1,0 +1,4 @@
+CREATE FUNCTION f(n bigint) RETURNS bigint LANGUAGE plpgsql AS $$
+BEGIN
+  RETURN n;
+$$;

@@ -1,0 +1,5 @@
+CREATE FUNCTION f(n bigint) RETURNS bigint AS $$
+BEGIN
+  RETURN n;
+END;
+$$ STABLE;

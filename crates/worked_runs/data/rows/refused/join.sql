@@ -1,0 +1,2 @@
+SELECT t.k
+  FROM t JOIN t AS u ON t.k = u.k
