@@ -13,7 +13,10 @@ use Rattle.away_lex.specs.declared.refusals.ReadRefusal.TheVariants as read
 use Rattle.away_names.specs.declared.rule.Rule.{Rule}
 use Rattle.away_names.specs.Rules.{number}
 use Rattle.away_trees.specs.declared.schemas.Schema.{Schema}
+use Rattle.away_trees.specs.declared.statements.Function.{Function}
 use Rattle.away_types.specs.declared.finding.Finding.{Finding}
+use Rattle.away_types.specs.FunctionChecks.{head_note}
+use Rattle.broken_names.specs.NameTokens.{CulpritsAreTokens}
 use Rattle.function_places.specs.declared.stuck_places.Stuck.{Stuck}
 use Rattle.function_places.specs.Hints.{AreInLine}
 use Rattle.function_places.specs.LimitPlaces.{IsElementPlace, IsLimitPlace}
@@ -23,14 +26,14 @@ use Rattle.function_places.specs.TokenPlaces.{BeginsIn, IsNamePlace, IsToken, Is
 use Rattle.plsql_parse.specs.Refusals as functions
 use Rattle.query_places.specs.QueryPlaces.{BeginsQuery}
 use Rattle.refusal_reasons.specs.Laws.{AreLines}
-use Rattle.refusal_reasons.specs.Reasons.{read_reason, rule_reason}
+use Rattle.refusal_reasons.specs.Reasons.{read_reason}
 use Rattle.text_places.specs.Lines.{IsInLine}
 use Rattle.away_top.specs.declared.compile.Wanted.TheVariants.{Query}
 use Rattle.away_top.specs.declared.status.Status.{Status}
 use Rattle.away_top.specs.CompileCourse.{Compiles, compile_course}
 use Rattle.away_top.specs.Course.{AtFile, Course, Outcome, RefusedBy, ends, judges, reads}
 use Rattle.away_top.specs.ExplainCourse.{EndsOn}
-use Rattle.away_top.specs.Explanations.{Explains, IsBroken, IsExplanation, IsFindingPlace, IsHinted, IsPlace, IsReason, IsUnread, RefusedAt}
+use Rattle.away_top.specs.Explanations.{Explains, IsBroken, IsExplanation, IsFindingPlace, IsFoundAt, IsHinted, IsPlace, IsReason, IsUnread, RefusedAt}
 use Rattle.away_top.specs.Files.{callable_of}
 use Rattle.away_top.specs.Lines.{numbered_rule, refusal}
 use Rattle.away_top.specs.QueryExplainCourse.{EndsAsCompile, EndsOnFile, explain_course, explained_course}
@@ -120,6 +123,16 @@ finding_token : (bytes : List ℕ) (params : ℕ) (head : Option Rule) (finding 
 finding_token bytes params head finding offset (inl (is, n)) = name_token bytes offset n
 finding_token bytes params head finding offset (inr (other, n)) = element_token bytes params finding.node offset n
 
+found_token : (names : CulpritsAreTokens) (s : Schema) (f : Function) (bytes : List ℕ) (finding : Finding) (offset : ℕ) (reason : List ℕ)
+    → IsFoundAt s f bytes finding offset reason → IsToken bytes offset
+found_token names s f bytes finding offset reason (inl (is, n)) = names bytes n.written.start n.culprit offset n.written.token
+found_token names s f bytes finding offset reason (inr (other, p)) = finding_token bytes (length f.params) (head_note f).least finding offset p.place
+
+found_line : (lines : AreLines) (s : Schema) (f : Function) (bytes : List ℕ) (finding : Finding) (offset : ℕ) (reason : List ℕ)
+    → IsFoundAt s f bytes finding offset reason → IsInLine reason
+found_line lines s f bytes finding offset reason (inl (is, n)) = n.one_line
+found_line lines s f bytes finding offset reason (inr (other, p)) = subst IsInLine (sym p.reason_is) (lines.of_rules finding.rule)
+
 hint_line : (hints : AreInLine) (refusal : ReadRefusal) (ended : Bool) (hint : List ℕ) → IsHinted refusal ended hint → IsInLine hint
 hint_line hints read.NotText ended hint is = subst IsInLine (sym is) (All-nil (λ b. ¬ (b ≡ 10)))
 hint_line hints (read.Token offset) ended hint is = subst IsInLine (sym is) (All-nil (λ b. ¬ (b ≡ 10)))
@@ -133,7 +146,7 @@ reason_line lines hints refusal ended reason r =
     subst IsInLine (sym r.reason_is)
     (All-append (λ b. ¬ (b ≡ 10)) (read_reason refusal ended) r.hint (lines.of_refusals refusal ended) (hint_line hints refusal ended r.hint r.hinted))
 
-module _ (lines : AreLines) (hints : AreInLine) (name : List ℕ) (s : Schema) (bytes output : List ℕ) where
+module _ (lines : AreLines) (hints : AreInLine) (names : CulpritsAreTokens) (name : List ℕ) (s : Schema) (bytes output : List ℕ) where
   of_unread : IsUnread name bytes output → IsExplanation name s bytes output
   of_unread u = record {
     rule = u.told.rule;
@@ -150,9 +163,9 @@ module _ (lines : AreLines) (hints : AreInLine) (name : List ℕ) (s : Schema) (
     rule = numbered_rule (number b.finding.rule);
     refuses = inr (b.function, b.reads_as, record { finding = b.finding; first = b.first; rule_is = refl });
     offset = b.told.offset;
-    place = inl (finding_token bytes _ _ b.finding b.told.offset b.told.place);
-    reason = rule_reason b.finding.rule;
-    one_line = lines.of_rules b.finding.rule;
+    place = inl (found_token names s b.function bytes b.finding b.told.offset b.told.reason b.told.found);
+    reason = b.told.reason;
+    one_line = found_line lines s b.function bytes b.finding b.told.offset b.told.reason b.told.found;
     told = b.told.told;
   }
 

@@ -1,8 +1,7 @@
 -- How a run of `explain` goes, and what the parts of its code make of a file's bytes.
-use Rattle.std.proofs.Common.{◌≡◌, inl, inr, refl, ap, subst, ℕ, List, [], length}
-use Rattle.std.specs.Prelude.{Option, Some}
+use Rattle.std.proofs.Common.{◌≡◌, inl, inr, refl, subst, ℕ, List, []}
+use Rattle.std.specs.Prelude.{Some}
 use Rattle.away_lex.specs.declared.refusals.ReadRefusal.{ReadRefusal}
-use Rattle.away_names.specs.declared.rule.Rule.{Rule}
 use Rattle.away_names.specs.Rules.{number}
 use Rattle.away_trees.specs.declared.schemas.Schema.{Schema}
 use Rattle.away_trees.specs.declared.statements.Function.{Function}
@@ -12,15 +11,14 @@ use Rattle.away_types.specs.CheckedFunctions.{IsChecked}
 use Rattle.away_types.specs.FunctionChecks.{function_note}
 use Rattle.function_places.specs.declared.stuck_places.Stuck.{Stuck}
 use Rattle.plsql_parse.specs.Refusals as functions
-use Rattle.refusal_reasons.specs.Reasons.{rule_reason}
 use Rattle.away_top.specs.declared.explain.Head.{Head}
 use Rattle.away_top.specs.declared.ending.Halt.{Halt}
 use Rattle.away_top.specs.declared.host.Files.{Ghosts as Files}
 use Rattle.away_top.specs.declared.status.Status.TheVariants.{Refused}
 use Rattle.away_top.specs.Course.{Course, ends}
-use Rattle.away_top.specs.ExplainCourse.{EndsOn, OwnCounts, Tells}
+use Rattle.away_top.specs.ExplainCourse.{EndsOn, Tells}
 use Rattle.away_top.specs.Explaining.{IsHead, own}
-use Rattle.away_top.specs.Explanations.{IsFindingPlace, IsFindingTold, IsReadTold, IsReason, IsTold, RefusedAt}
+use Rattle.away_top.specs.Explanations.{IsFindingTold, IsFoundAt, IsReadTold, IsReason, IsTold, RefusedAt}
 use Rattle.away_top.specs.Files.{as_callable, callable_of, schema_course}
 use Rattle.away_top.specs.Lines.{numbered_rule}
 use Rattle.away_top.specs.QueryExplainCourse.{EndsOnFile, explain_course, explained_course}
@@ -79,39 +77,27 @@ module _ (func bytes : List ℕ) (refusal : ReadRefusal) where
 -- ---- a function that is read
 
 -- the three lines tell the finding
-pub finding_told : (func bytes : List ℕ) (params : ℕ) (head : Option Rule) (finding : Finding) (offset : ℕ) (rule reason : List ℕ) (end : End ⊥) → IsFindingPlace bytes params head finding offset
-    → rule ≡ numbered_rule (number finding.rule) → reason ≡ rule_reason finding.rule → IsEnd (λ status output. IsTold func bytes offset rule reason output × (status ≡ Refused)) end
-    → IsEnd (λ status output. IsFindingTold func bytes params head finding output × (status ≡ Refused)) end
-finding_told func bytes params head finding offset rule reason wants_memory place is why h = tt
-finding_told func bytes params head finding offset rule reason (ended status output) place is why h =
-    (record { offset = offset; place = place; told = subst (λ u. IsTold func bytes offset u (rule_reason finding.rule) output) is (subst (λ r. IsTold func bytes offset rule r output) why h.0) }, h.1)
-finding_told func bytes params head finding offset rule reason (goes_on never) place is why h = absurd never
+pub finding_told : (func : List ℕ) (s : Schema) (f : Function) (bytes : List ℕ) (finding : Finding) (offset : ℕ) (rule reason : List ℕ) (end : End ⊥)
+    → IsFoundAt s f bytes finding offset reason → rule ≡ numbered_rule (number finding.rule)
+    → IsEnd (λ status output. IsTold func bytes offset rule reason output × (status ≡ Refused)) end
+    → IsEnd (λ status output. IsFindingTold func s f bytes finding output × (status ≡ Refused)) end
+finding_told func s f bytes finding offset rule reason wants_memory found is h = tt
+finding_told func s f bytes finding offset rule reason (ended status output) found is h =
+    (record { offset = offset; reason = reason; found = found; told = subst (λ u. IsTold func bytes offset u reason output) is h.0 }, h.1)
+finding_told func s f bytes finding offset rule reason (goes_on never) found is h = absurd never
 
-module _ (func : List ℕ) (s : Schema) (bytes : List ℕ) (f : Function) (head : Head) (reads : ReadsAsFunction bytes f) (kept : IsHead f head) where
-  pub broken_so : (finding : Finding) (end : End ⊥) → (function_note s f).first ≡ Some finding → IsEnd (λ status output. IsFindingTold func bytes head.params head.rule finding output × (status ≡ Refused)) end
+module _ (func : List ℕ) (s : Schema) (bytes : List ℕ) (f : Function) (reads : ReadsAsFunction bytes f) where
+  pub broken_so : (finding : Finding) (end : End ⊥) → (function_note s f).first ≡ Some finding → IsEnd (λ status output. IsFindingTold func s f bytes finding output × (status ≡ Refused)) end
       → (text : List ℕ) × IsEnd (EndsOn func s bytes text) end
   broken_so finding wants_memory first h = ([], tt)
   broken_so finding (ended status output) first h =
-      let params : head.params ≡ length f.params = ap (λ (c : OwnCounts). c.params) kept.counts_are in
-      let told : IsFindingTold func bytes (length f.params) head.rule finding output = subst (λ n. IsFindingTold func bytes n head.rule finding output) params h.0 in (
-        [],
-        inl (
-          inr (record {
-            function = f;
-            reads_as = reads;
-            finding = finding;
-            first = first;
-            told = subst (λ r. IsFindingTold func bytes (length f.params) r finding output) kept.rule_is told;
-          }),
-          h.1,
-        ),
-      )
+      ([], inl (inr (record { function = f; reads_as = reads; finding = finding; first = first; told = h.0 }), h.1))
   broken_so finding (goes_on never) first h = absurd never
 
-  pub counted_so : (checked : CheckedFunction) (end : End ⊥) → IsChecked s f checked.function checked.slots → ((text : List ℕ) × IsEnd (Tells s (as_callable checked) (own head) text) end)
+  pub counted_so : (head : Head) → IsHead f head → (checked : CheckedFunction) (end : End ⊥) → IsChecked s f checked.function checked.slots → ((text : List ℕ) × IsEnd (Tells s (as_callable checked) (own head) text) end)
       → (text : List ℕ) × IsEnd (EndsOn func s bytes text) end
-  counted_so checked wants_memory is (text, h) = ([], tt)
-  counted_so checked (ended status output) is (text, h) =
+  counted_so head kept checked wants_memory is (text, h) = ([], tt)
+  counted_so head kept checked (ended status output) is (text, h) =
       let tells : Tells s (callable_of s f) (own head) text status output = subst (λ c. Tells s c (own head) text status output) (callable_is s f checked is) h in
-      (text, inr (record { written = f; reads_as = reads; unbroken = is.unbroken }, subst (λ c. Tells s (callable_of s f) c text status output) kept.counts_are tells))
-  counted_so checked (goes_on never) is (text, h) = absurd h
+      (text, inr (record { written = f; reads_as = reads; unbroken = is.unbroken }, subst (λ c. Tells s (callable_of s f) c text status output) kept tells))
+  counted_so head kept checked (goes_on never) is (text, h) = absurd h

@@ -2,7 +2,6 @@
 use Rattle.std.specs.Prelude.{◌≡◌, ℕ, List}
 use Rattle.std.specs.Borrow.{Bor}
 use Rattle.away_trees.specs.declared.statements.Function.{Function}
-use Rattle.away_types.specs.FunctionChecks.{head_note}
 use Rattle.away_top.specs.declared.explain.Head.{Head}
 use Rattle.away_top.specs.ExplainCourse.{Count, OwnCounts, count, own_counts}
 
@@ -13,7 +12,6 @@ as_count c = count c.0.now c.1
 abbrev pub own : Head → OwnCounts
 own h = record { nodes = h.nodes; variables = h.variables; loops = h.loops; params = h.params }
 
--- what is kept of a function
-pub record IsHead (f : Function) (h : Head) : Type 0 where
-  pub counts_are : own h ≡ own_counts f
-  pub rule_is : h.rule ≡ (head_note f).least
+-- it has the counts of the function
+abbrev pub IsHead : Function → Head → Type 0
+IsHead f h = own h ≡ own_counts f

@@ -1,5 +1,5 @@
 -- What `explain` tells of a function's file that is refused: where, by which rule, and why.
-use Rattle.std.specs.Prelude.{◌≡◌, ◌⊎◌, ◌==◌, ℕ, Bool, true, false, List, [], ◌++◌, length, codes, Some, None}
+use Rattle.std.specs.Prelude.{◌≡◌, ◌⊎◌, ◌==◌, ℕ, ◌+◌, Bool, true, false, List, [], ◌++◌, length, codes, Some, None}
 use Rattle.std.specs.declared.option.Option.{Option}
 use Rattle.std.specs.Fmt.{decimal}
 use Rattle.away_grammar.specs.FunctionFile.{LexesFile}
@@ -14,11 +14,16 @@ use Rattle.away_lex.specs.declared.refusals.ReadRefusal.TheVariants.{
   NoMemory,
 }
 use Rattle.away_names.specs.declared.rule.Rule.{Rule}
+use Rattle.away_names.specs.declared.rule.Rule.TheVariants as broken
 use Rattle.away_names.specs.Rules.{number}
 use Rattle.away_trees.specs.declared.schemas.Schema.{Schema}
 use Rattle.away_trees.specs.declared.statements.Function.{Function}
 use Rattle.away_types.specs.declared.finding.Finding.{Finding}
 use Rattle.away_types.specs.FunctionChecks.{function_note, head_note}
+use Rattle.broken_names.specs.declared.culprit.Culprit.{Culprit}
+use Rattle.broken_names.specs.NameTokens.{IsNameToken}
+use Rattle.broken_names.specs.Reasons.{culprit_reason}
+use Rattle.broken_names.specs.StatementCulprits.{IsCulpritOf}
 use Rattle.function_places.specs.declared.stuck_places.Stuck.{Stuck}
 use Rattle.function_places.specs.Hints.{IsHint}
 use Rattle.function_places.specs.LimitPlaces.{IsElementPlace, IsLimitPlace}
@@ -102,12 +107,48 @@ IsFindingPlace bytes params head finding offset =
     ((is_of_head head finding.rule ≡ true) × IsNamePlace bytes offset)
     ⊎ ((is_of_head head finding.rule ≡ false) × IsElementPlace bytes params finding.node offset)
 
--- the finding is told at such a place
-pub record IsFindingTold (name bytes : List ℕ) (params : ℕ) (head : Option Rule) (finding : Finding)
-    (output : List ℕ) : Type 0 where
+-- the rules that a name breaks: it stands for nothing or for two things, is no table, or is a
+-- CONSTANT that is set
+abbrev pub is_of_name : Rule → Bool
+is_of_name broken.Names = true
+is_of_name broken.Ambiguity = true
+is_of_name broken.Tables = true
+is_of_name broken.Constants = true
+is_of_name _ = false
+
+-- The culprit is written at the byte, which isn't before the place of the finding's node.
+pub record IsWrittenAt (f : Function) (bytes : List ℕ) (finding : Finding) (it : Culprit) (offset : ℕ) : Type 0 where
+  pub start : ℕ
+  pub begins : IsElementPlace bytes (length f.params) finding.node start
+  pub token : IsNameToken bytes start it offset
+
+-- The finding is told of what breaks the rule, by its name, where this is written.
+pub record IsOfName (s : Schema) (f : Function) (bytes : List ℕ) (finding : Finding) (offset : ℕ) (reason : List ℕ) : Type 0 where
+  pub culprit : Culprit
+  pub node : ℕ
+  pub counted : finding.node ≡ length f.params + node
+  pub breaks : IsCulpritOf s f finding.rule node culprit
+  pub written : IsWrittenAt f bytes finding culprit offset
+  pub reason_is : reason ≡ culprit_reason finding.rule culprit
+  pub one_line : IsInLine reason
+
+-- It is told of the place alone.
+pub record IsOfPlace (f : Function) (bytes : List ℕ) (finding : Finding) (offset : ℕ) (reason : List ℕ) : Type 0 where
+  pub place : IsFindingPlace bytes (length f.params) (head_note f).least finding offset
+  pub reason_is : reason ≡ rule_reason finding.rule
+
+-- of a name where the rule is one of names
+abbrev pub IsFoundAt : Schema → Function → List ℕ → Finding → ℕ → List ℕ → Type 0
+IsFoundAt s f bytes finding offset reason =
+    ((is_of_name finding.rule ≡ true) × IsOfName s f bytes finding offset reason)
+    ⊎ ((is_of_name finding.rule ≡ false) × IsOfPlace f bytes finding offset reason)
+
+-- the finding is told so
+pub record IsFindingTold (name : List ℕ) (s : Schema) (f : Function) (bytes : List ℕ) (finding : Finding) (output : List ℕ) : Type 0 where
   pub offset : ℕ
-  pub place : IsFindingPlace bytes params head finding offset
-  pub told : IsTold name bytes offset (numbered_rule (number finding.rule)) (rule_reason finding.rule) output
+  pub reason : List ℕ
+  pub found : IsFoundAt s f bytes finding offset reason
+  pub told : IsTold name bytes offset (numbered_rule (number finding.rule)) reason output
 
 -- ---- a refused file
 
@@ -123,7 +164,7 @@ pub record IsBroken (name : List ℕ) (s : Schema) (bytes output : List ℕ) : T
   pub reads_as : ReadsAsFunction bytes function
   pub finding : Finding
   pub first : (function_note s function).first ≡ Some finding
-  pub told : IsFindingTold name bytes (length function.params) (head_note function).least finding output
+  pub told : IsFindingTold name s function bytes finding output
 
 abbrev pub Explains : List ℕ → Schema → List ℕ → List ℕ → Type 0
 Explains name s bytes output = IsUnread name bytes output ⊎ IsBroken name s bytes output

@@ -3,14 +3,15 @@
 ghost use Rattle.std.specs.Prelude.{◌≡◌, ◌++◌, IfOk, IfSome, List, codes, length, map, string_bytes, ℕ};
 ghost use Rattle.std.specs.Fmt.{decimal};
 ghost use Rattle.away_trees.specs.Limits.{KeepsLimits};
+ghost use Rattle.away_types.specs.FunctionChecks.{function_note};
+ghost use Rattle.away_types.specs.Refusals.{RefusesFunction};
 ghost use Rattle.away_lex.specs.declared.refusals.ReadRefusal.TheVariants as refusal;
 ghost use Rattle.cte_prints.specs.Texts.{IsOfTexts};
 ghost use Rattle.function_places.specs.LimitPlaces.{IsLimitPlace};
 ghost use Rattle.function_places.specs.TokenPlaces.{IsWordPlace};
 ghost use Rattle.away_top.specs.ExplainCourse.{EndsOn, Tells, count_lines, counts as counted_of, explained_lines};
 ghost use Rattle.away_top.specs.Explaining.{IsHead, as_count, own};
-ghost use Rattle.away_top.specs.Explanations as spec;
-ghost use Rattle.away_top.specs.Explanations.{IsFindingPlace, IsFindingTold, IsHinted, IsReadTold, IsReason, IsTold, RefusedAt};
+ghost use Rattle.away_top.specs.Explanations.{IsHinted, IsReadTold, IsReason, IsTold, RefusedAt};
 ghost use Rattle.away_top.specs.Files.{as_callable};
 ghost use Rattle.away_top.specs.Lines.{line};
 ghost use Rattle.away_top.specs.QueryExplainCourse.{EndsOnFile, explain_course};
@@ -18,40 +19,36 @@ ghost use Rattle.away_top.specs.Refusals.{ReadsAsFunction};
 ghost use Rattle.away_top.specs.Runs.{IsEnd, Runs};
 ghost use Rattle.away_top.specs.Steps.{run_end};
 
-use crate::ending::{Ending, Halt, read_text, refused, rule_text};
+use crate::ending::{Ending, Halt, read_text, refused};
 use crate::explain_query::explained_query;
 use crate::explanation::explanation;
 use crate::fault_lines::put_faults;
 use crate::files::{MAX_FILE, MAX_FUNCTION, bytes_of, schema_of};
+use crate::findings::broken;
 use crate::{Files, Status};
+use away_core::Copied;
 use away_lex::{LimitKind, ReadRefusal};
-use away_names::rule::Rule;
 use away_trees::{Function, nodes};
-use away_types::{
-    CheckedFunction, CheckedSchema, Finding, FunctionRefusal, check_function, head_rule,
-};
+use away_types::{CheckedFunction, CheckedSchema, FunctionRefusal, check_function};
 use away_values::{Class, NoMemory};
 use compiling::Compiled;
-use function_places::{
-    Stuck, could_stand, element_place, limit_place, name_place, stuck_place, word_place,
-};
+use function_places::{Stuck, could_stand, limit_place, stuck_place, word_place};
 use inline_calls::faults_of;
 use itoa::Buffer;
 use plsql_parse::counts::counts_of;
 use plsql_parse::read_function;
 use query_places::begins_query;
-use refusal_reasons::{read_reason, rule_reason};
+use refusal_reasons::read_reason;
 use std::alloc::{AllocError, Global};
 use text_places::text_end;
 
-/// What is kept of a function that is judged: its counts, and the rule that its head breaks.
+/// What is counted of a function that is judged.
 #[derive(Clone, Copy)]
 struct Head {
     nodes: u64,
     variables: u64,
     loops: u64,
     params: u64,
-    rule: Option<Rule>,
 }
 
 /// Reads the two files, and tells where and why the second one is refused, or what its function or its query counts.
@@ -120,10 +117,30 @@ fn judged(
         × IsEnd (EndsOn func.now tables.now.schema bytes.now text) (run_end result) }
 {
     let head = head_of(&function)?;
+    let written = function.copy(alloc)?;
     match check_function(alloc, tables, function) {
         Ok(checked) => counted(alloc, head, tables, &checked),
-        Err(FunctionRefusal::Broken(finding)) => broken(alloc, func, bytes, head, finding),
-        Err(FunctionRefusal::NoMemory) => Err(Halt::NoMemory),
+        Err(refusal) => refused_by(alloc, func, tables, bytes, &written, refusal),
+    }
+}
+
+/// What is told of a function that is refused.
+fn refused_by(
+    alloc: Global,
+    func: &str,
+    tables: &CheckedSchema,
+    bytes: &[u8],
+    function: &Function,
+    refusal: FunctionRefusal,
+) -> Result<Ending, Halt>
+    requires reads { ReadsAsFunction bytes.now function.now }
+    requires refuses { RefusesFunction (function_note tables.now.schema function.now) refusal }
+    ensures { (text : List ℕ)
+        × IsEnd (EndsOn func.now tables.now.schema bytes.now text) (run_end result) }
+{
+    match refusal {
+        FunctionRefusal::Broken(finding) => broken(alloc, func, tables, bytes, function, finding),
+        FunctionRefusal::NoMemory => Err(Halt::NoMemory),
     }
 }
 
@@ -140,53 +157,7 @@ fn head_of(function: &Function) -> Result<Head, NoMemory>
         variables: counts.variables,
         loops: counts.loops,
         params: function.params.len() as u64,
-        rule: head_rule(function),
     })
-}
-
-/// What is told of a function that breaks a rule.
-fn broken(
-    alloc: Global,
-    func: &str,
-    bytes: &[u8],
-    head: Head,
-    finding: Finding,
-) -> Result<Ending, Halt>
-    ensures { IsEnd (λ status output. IsFindingTold func.now bytes.now head.params head.rule
-        finding output × (status ≡ Status.Refused)) (run_end result) }
-{
-    let Some(offset) = finding_place(alloc, bytes, head, finding)? else {
-        return Err(Halt::NoMemory);
-    };
-    let rule = rule_text(alloc, finding.rule)?;
-    told(alloc, func, bytes, offset, &rule, rule_reason(finding.rule))
-}
-
-/// Whether the head breaks the rule.
-fn is_of_head(head: Option<Rule>, rule: Rule) -> bool
-    ensures { result ≡ spec.is_of_head head rule }
-{
-    match head {
-        Some(broken) => broken.number() == rule.number(),
-        None => false,
-    }
-}
-
-/// Where a finding stands.
-fn finding_place(
-    alloc: Global,
-    bytes: &[u8],
-    head: Head,
-    finding: Finding,
-) -> Result<Option<u64>, NoMemory>
-    ensures { IfOk result (λ found. IfSome found
-        (IsFindingPlace bytes.now head.params head.rule finding)) }
-{
-    if is_of_head(head.rule, finding.rule) {
-        name_place(alloc, bytes)
-    } else {
-        element_place(alloc, bytes, head.params, finding.node as u64)
-    }
 }
 
 /// What is told of a function that breaks no rule.

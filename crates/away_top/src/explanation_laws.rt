@@ -3,6 +3,7 @@
 ghost use Rattle.away_top.specs.Explanations.{AreExplanations};
 ghost use Rattle.away_top.specs.QueryExplainCourse.{EndsAsCompile};
 
+use broken_names::each_culprit_stands_at_a_token;
 use function_places::each_hint_stands_in_a_line;
 use refusal_reasons::each_reason_is_one_line;
 
@@ -14,4 +15,5 @@ pub fn explanations_tell_refusals()
 {
     each_reason_is_one_line();
     each_hint_stands_in_a_line();
+    each_culprit_stands_at_a_token();
 }

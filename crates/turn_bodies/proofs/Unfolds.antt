@@ -46,7 +46,8 @@ closed_among first rest (picks t x y) e =
     let b = both (closed (length first) x) (closed (length first) y) e in (closed_among first rest x b.0, closed_among first rest y b.1)
 closed_among first rest (returns t) e = tt
 closed_among first rest (fails c) e = tt
-closed_among first rest (calls label places args) e = in_front first rest label (ltb-true label (length first) e)
+closed_among first rest (calls label places args) e =
+    let less = ltb-true label (length first) e in (less, in_front first rest label less)
 closed_among first rest endless e = tt
 
 one_more : (xs : List ℕ) (y n : ℕ) → n ≡ length (xs ++ y ∷ []) - 1 → length xs ≡ n

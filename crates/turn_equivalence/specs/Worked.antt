@@ -15,7 +15,7 @@ use Rattle.call_forms.specs.declared.forms.Tail.{Tail}
 use Rattle.call_forms.specs.Bodies.{Ends, body_of}
 use Rattle.call_forms.specs.Worked.{collatz_anf}
 use Rattle.turn_template.specs.Totals.{total_term}
-use Rattle.turn_template.specs.TurnTemplate.{Plan, plans, query_with}
+use Rattle.turn_template.specs.TurnTemplate.{Plan, plans, query_with, told_by}
 
 -- the head, then the entry; block 7, which two calls reach, is unfolded twice
 abbrev pub collatz_heads : Tail
@@ -26,7 +26,8 @@ none_same x y = false
 
 abbrev pub collatz_plan : Plan
 collatz_plan =
-    plans (expressions collatz) (λ n. ty.Bigint) ty.Bigint (total_term (expressions collatz)) none_same collatz_anf collatz_heads 0 6 0 (3 ∷ [])
+    plans (expressions collatz) (λ n. ty.Bigint) ty.Bigint (total_term (expressions collatz))
+    (told_by none_same (3 ∷ [])) collatz_anf collatz_heads 0 6 0 (3 ∷ [])
 
 -- with k turns in an iteration, over no table
 abbrev pub collatz_query : ℕ → Query

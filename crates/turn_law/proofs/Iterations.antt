@@ -1,5 +1,5 @@
 -- The second term over a working table of one row: a call, or a finished row.
-use Rattle.std.proofs.Common.{◌≡◌, refl, ap, ◌∙◌, subst, ℕ, zero, suc, ◌<◌, ◌^◌, Bool, true, false, nat_lt, pos, List, [], ◌∷◌, map, length, slice_index_or, decimal, Some, None, Ok, Err, ◌++◌, arith}
+use Rattle.std.proofs.Common.{◌≡◌, refl, ap, sym, ◌∙◌, subst, ℕ, zero, suc, ◌<◌, ◌^◌, Bool, true, false, nat_lt, pos, List, [], ◌∷◌, map, length, slice_index_or, decimal, Some, None, Ok, Err, ◌++◌, arith}
 use Rattle.away_trees.specs.declared.queries.Expr.{Expr}
 use Rattle.away_trees.specs.declared.queries.FromItem.{FromItem}
 use Rattle.away_values.specs.declared.values.Class.{Class}
@@ -28,28 +28,23 @@ use Rattle.call_forms.specs.Template.{start, argument_cells}
 use Rattle.cte_law.proofs.Branches.{scope_at, visit_at}
 use Rattle.cte_law.proofs.ScopesAlike.{paired_relates}
 use Rattle.cte_law.proofs.Visits.{Visited, gives, raises, faults, goes_on, stays}
-use Rattle.cte_law.proofs.WorkingRows.{call_row, end_row}
+use Rattle.cte_law.proofs.WorkingRows.{call_row}
 use Rattle.cte_law.proofs.Worlds.{World, frame_in, OverTables}
 use Rattle.turn_template.specs.TurnTemplate as turn
-use Rattle.turn_template.specs.TurnTemplate.{all_cells, stacked}
+use Rattle.turn_template.specs.TurnTemplate.{all_cells, stacked, is_single, numbered}
 use Rattle.turn_law.proofs.Levels as level
 use Rattle.turn_law.proofs.Levels.{Gives, sub_is, stack_one, stack_none, copies}
 use Rattle.turn_law.proofs.Terms.{IsTotal}
-use Rattle.turn_law.proofs.RowCells.{row_of}
-use Rattle.turn_law.proofs.States.{row_width, walked_wide, Inner, IsWide, turned, turned_once, once_wide}
-use Rattle.turn_law.proofs.Turns.{work_long, turns_rows, turns_single, all_turns, nulls_width, one_turn, turn_single, found_turn}
-
-same_row : {r z : List Value} → level.good r ≡ level.good z → r ≡ z
-same_row {r} {z} h = ap get h
-  where
-    get : Or (List Value) → List Value
-    get (Ok x) = x
-    get (Err c) = r
+use Rattle.turn_law.proofs.RowCells.{row_of, work, work_long}
+use Rattle.turn_law.proofs.SeveralTurns.{same_row, turns_rows, turns_single, all_turns}
+use Rattle.turn_law.proofs.States.{row_width, walked_wide, Inner, IsWide, turned, turned_once, once_wide, Finished, Stands, entry_stands}
+use Rattle.turn_law.proofs.Turns.{one_turn, turn_single, found_turn}
 
 never_row : {c : Class} {z : List Value} → level.bad c ≡ level.good z → ⊥
 never_row h = cc
 
-module _ (w : World) (ok : OverTables w) (total : Term → Bool) (totals : (u : Term) → total u ≡ true → IsTotal w u) (same : Expr → Expr → Bool) (alike : (x y : Expr) → same x y ≡ true → x ≡ y)
+module _ (w : World) (ok : OverTables w) (total : Term → Bool) (totals : (u : Term) → total u ≡ true → IsTotal w u)
+    (same : Expr → Expr → Bool) (alike : (x y : Expr) → same x y ≡ true → x ≡ y)
     (heads : List ℕ) (inner : Inner w heads) (args : List Value)
     (small : length w.tables < 2 ^ 64) (k : ℕ) where
   abbrev digits : List ℕ
@@ -59,7 +54,7 @@ module _ (w : World) (ok : OverTables w) (total : Term → Bool) (totals : (u : 
   step_rows rows = rows_of_select (turn.step w.table w.types w.result total same w.anf w.tail w.goto.entry digits heads k) (returns.turned w.tables args rows)
 
   abbrev width : ℕ
-  width = turn.width w.table w.types w.tail.columns w.result total same
+  width = turn.width w.table w.types w.tail.columns w.result total (numbered same)
 
   abbrev list : List Expr
   list = all_cells width
@@ -93,9 +88,9 @@ module _ (w : World) (ok : OverTables w) (total : Term → Bool) (totals : (u : 
       (are_copies (inside [] cx) r long))
 
   -- a finished row doesn't
-  end_stops : (v c : Value) → length (end_row [] w.tail.columns v c) ≡ width → Gives (T (end_row [] w.tail.columns v c ∷ [])) args going (Ok [])
-  end_stops v c long cx t q frame =
-      let r = end_row [] w.tail.columns v c in
+  end_stops : (n : ℕ) (row : List Value) (v c : Value) → length (work false n row v c) ≡ width → Gives (T (work false n row v c ∷ [])) args going (Ok [])
+  end_stops n row v c long cx t q frame =
+      let r = work false n row v c in
       sub_is (select list (table (length w.tables) ∷ []) (Some (col 0 0 0))) cx frame (Ok [])
       (no_row (inside [] cx) list (table (length w.tables) ∷ []) (Some (col 0 0 0)) ((r ∷ []) ∷ []) (one_there r (inside [] cx) t) refl
       (are_copies (inside [] cx) r long).single)
@@ -117,49 +112,63 @@ module _ (w : World) (ok : OverTables w) (total : Term → Bool) (totals : (u : 
 
   -- ---- states
 
-  abbrev blanks : List Value
-  blanks = map (λ t. val.Null) w.tail.columns
+  abbrev stand : Visited → Or (List Value) → Type 0
+  stand x o = Stands w (is_single heads) x o
 
-  end_long : (v c : Value) → length (end_row [] w.tail.columns v c) ≡ width
-  end_long v c =
-      work_long false 0 blanks v c (length w.tail.columns) (nulls_width w ok (T []) (sees []) total totals same alike w.tail.columns)
+  end_long : (v c : Value) (z : List Value) → Finished (is_single heads) w.tail.columns (level.good z) v c → length z ≡ width
+  end_long v c z h = subst (λ r. length r ≡ width) (sym (same_row h.is)) (work_long false h.number h.row v c (length w.tail.columns) h.long)
 
-  row_long : (x : Visited) → IsWide w heads x → (z : List Value) → row_of w x ≡ Ok z → length z ≡ width
-  row_long (goes_on i row) long z h = subst (λ r. length r ≡ width) (same_row h) (work_long true (suc i) row val.Null val.Null (length w.tail.columns) long.0)
-  row_long (gives v) long z h = subst (λ r. length r ≡ width) (same_row h) (end_long v val.Null)
-  row_long (raises c) long z h = subst (λ r. length r ≡ width) (same_row h) (end_long val.Null (val.Text c.code))
-  row_long (faults c) long z h = absurd (never_row h)
-  row_long stays long z h = subst (λ r. length r ≡ width) (same_row h) (end_long val.Null val.Null)
+  row_long : (x : Visited) → IsWide w heads x → (z : List Value) → stand x (level.good z) → length z ≡ width
+  row_long (goes_on i row) wide z h =
+      subst (λ r. length r ≡ width) (sym (same_row h)) (work_long true (suc i) row val.Null val.Null (length w.tail.columns) wide.0)
+  row_long (gives v) wide z h = end_long v val.Null z h
+  row_long (raises c) wide z h = end_long val.Null (val.Text c.code) z h
+  row_long (faults c) wide z h = absurd (never_row (sym h))
+  row_long stays wide z h = end_long val.Null val.Null z h
+
+  stand_long : (x : Visited) → IsWide w heads x → (o : Or (List Value)) → stand x o → (z : List Value) → o ≡ level.good z → length z ≡ width
+  stand_long x wide o h z e = row_long x wide z (subst (λ y. stand x y) e h)
 
   pub turned_wide : (n : ℕ) (x : Visited) → IsWide w heads x → IsWide w heads (turned w n x)
   turned_wide zero x h = h
   turned_wide (suc n) x h = turned_wide n (turned_once w x) (once_wide w heads inner x h)
 
+  -- a row or a fault, which stands for a state
+  pub record Leaves (o : Or Rows) (x : Visited) : Type 0 where
+    pub outcome : Or (List Value)
+    pub is : o ≡ level.one_row outcome
+    pub stands : stand x outcome
+
   -- what a call leaves after k turns
-  pub iteration_call : (i : ℕ) (row : List Value) → IsWide w heads (goes_on i row)
-      → step_rows (call_row [] i row ∷ []) ≡ level.one_row (row_of w (turned w k (goes_on i row)))
+  pub iteration_call : (i : ℕ) (row : List Value) → IsWide w heads (goes_on i row) → Leaves (step_rows (call_row [] i row ∷ [])) (turned w k (goes_on i row))
   iteration_call i row long =
       let r = call_row [] i row in
       let tables = T (r ∷ []) in
       let seen = sees (r ∷ []) in
       let cx = returns.turned w.tables args (r ∷ []) in
       let levels = all_turns w ok tables seen total totals same alike heads inner k in
-      let o = row_of w (turned w k (goes_on i row)) in
-      over_one (stacked going levels) cx o (row_long (turned w k (goes_on i row)) (turned_wide k (goes_on i row) long))
-      (stack_one tables args levels (turns_single w ok tables seen total totals same alike heads inner k) going r o
-      (call_goes i row (work_long true (suc i) row val.Null val.Null (length w.tail.columns) long.0))
-      (turns_rows w ok tables seen total totals same alike heads inner k (goes_on i row) long r refl) cx refl refl [])
+      let after = turns_rows w ok tables seen total totals same alike heads inner k (goes_on i row) long r refl in
+      record {
+        outcome = after.outcome;
+        is =
+            over_one (stacked going levels) cx after.outcome
+            (stand_long (turned w k (goes_on i row)) (turned_wide k (goes_on i row) long) after.outcome after.stands)
+            (stack_one tables args levels (turns_single w ok tables seen total totals same alike heads inner k) going r after.outcome
+            (call_goes i row (work_long true (suc i) row val.Null val.Null (length w.tail.columns) long.0)) after.comes cx refl refl []);
+        stands = after.stands;
+      }
 
   -- and a finished row
-  pub iteration_over : (v c : Value) → step_rows (end_row [] w.tail.columns v c ∷ []) ≡ Ok []
-  iteration_over v c =
-      let r = end_row [] w.tail.columns v c in
+  pub iteration_over : (n : ℕ) (row : List Value) (v c : Value) → length row ≡ length w.tail.columns → step_rows (work false n row v c ∷ []) ≡ Ok []
+  iteration_over n row v c long =
+      let r = work false n row v c in
       let tables = T (r ∷ []) in
       let seen = sees (r ∷ []) in
       let cx = returns.turned w.tables args (r ∷ []) in
       let levels = all_turns w ok tables seen total totals same alike heads inner k in
       over_none (stacked going levels) cx
-      (stack_none tables args levels (turns_single w ok tables seen total totals same alike heads inner k) going (end_stops v c (end_long v c)) cx refl refl [])
+      (stack_none tables args levels (turns_single w ok tables seen total totals same alike heads inner k) going
+      (end_stops n row v c (work_long false n row v c (length w.tail.columns) long)) cx refl refl [])
 
   -- ---- the first term: the row of the arguments, and the entry's turn
 
@@ -206,15 +215,21 @@ module _ (w : World) (ok : OverTables w) (total : Term → Bool) (totals : (u : 
     pub after_wide : IsWide w heads after_entry
     after_wide = walked_wide w heads (body_of w.anf w.tail w.goto.entry) (inner entry_at w.goto.entry there) (scope_at w entry_at w.goto.entry first_at)
 
-    pub first_rows : rows_of_select (turn.first w.table w.types w.result total same w.anf w.tail w.goto.entry) (outermost w.tables args)
-        ≡ level.one_row (row_of w after_entry)
+    pub first_rows : Leaves (rows_of_select (turn.first w.table w.types w.result total same w.anf w.tail w.goto.entry) (outermost w.tables args)) after_entry
     first_rows =
         let seen : (j : ℕ) → nat_lt j (length w.tables) ≡ true → slice_index_or w.tables j [] ≡ slice_index_or w.tables j [] = λ j h. refl in
-        let levels = one_turn w ok w.tables seen total totals same alike entry_at (w.goto.entry ∷ []) in
-        over_one (stacked (subquery false (one (start w.table w.types w.result w.anf w.tail w.goto.entry))) levels) (outermost w.tables args)
-        (row_of w after_entry)
-        (row_long after_entry (walked_wide w heads (body_of w.anf w.tail w.goto.entry) (inner entry_at w.goto.entry there) (scope_at w entry_at w.goto.entry first_at)))
-        (stack_one w.tables args levels (turn_single w ok w.tables seen total totals same alike entry_at (w.goto.entry ∷ []))
-        (subquery false (one (start w.table w.types w.result w.anf w.tail w.goto.entry))) (call_row [] entry_at first_at) (row_of w after_entry) start_rows
-        (found_turn w ok w.tables seen total totals same alike entry_at (w.goto.entry ∷ []) entry_at first_at first_long 0 w.goto.entry (omega arith) refl)
-        (outermost w.tables args) refl refl [])
+        let levels = one_turn w ok w.tables seen total totals (numbered same) alike entry_at (w.goto.entry ∷ []) in
+        let o = row_of (numbered same) (suc entry_at) first_at after_entry in
+        let stands = entry_stands w same heads (suc entry_at) first_at first_long after_entry after_wide in
+        record {
+          outcome = o;
+          is =
+              over_one (stacked (subquery false (one (start w.table w.types w.result w.anf w.tail w.goto.entry))) levels) (outermost w.tables args) o
+              (stand_long after_entry after_wide o stands)
+              (stack_one w.tables args levels (turn_single w ok w.tables seen total totals (numbered same) alike entry_at (w.goto.entry ∷ []))
+              (subquery false (one (start w.table w.types w.result w.anf w.tail w.goto.entry))) (call_row [] entry_at first_at) o start_rows
+              (found_turn w ok w.tables seen total totals (numbered same) alike entry_at (w.goto.entry ∷ []) (λ e. absurd (cc)) entry_at first_at first_long 0
+              w.goto.entry (omega arith) refl)
+              (outermost w.tables args) refl refl []);
+          stands = stands;
+        }

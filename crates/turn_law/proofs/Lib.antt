@@ -4,11 +4,16 @@ pub mod Settled
 pub mod Choices
 pub mod ReadSteps
 pub mod RowCells
+pub mod EndCells
+pub mod NamedTerms
+pub mod Waits
 pub mod Waiting
 pub mod PlannedRows
 pub mod Plans
 pub mod States
 pub mod Turns
+pub mod SeveralTurns
 pub mod Iterations
+pub mod LastRow
 pub mod Theorem
 pub mod Soon

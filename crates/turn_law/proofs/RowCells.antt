@@ -1,32 +1,20 @@
--- The row of a visit, its cells, and the names that wait for their cells.
-use Rattle.std.proofs.Common.{◌≡◌, refl, ap, sym, ◌∙◌, ℕ, suc, Bool, true, false, not, ◌||◌, if◌then◌else◌, nat_eq, nat_lt, pos, List, [], ◌∷◌, ◌++◌, map, length, slice_index_or, Option, Some, None, Ok, Err}
+-- The row of a visit, and the names that wait for their cells.
+use Rattle.std.proofs.Common.{◌≡◌, refl, ap, sym, ◌∙◌, ℕ, suc, Bool, true, false, not, ◌||◌, if◌then◌else◌, nat_eq, pos, List, [], ◌∷◌, ◌++◌, length, Option, Some, None, Ok, Err}
 use Rattle.std.proofs.lemmas.Bool.{eqb-true, eqb-false, ne_eqb}
 use Rattle.std.proofs.lemmas.Option.{same_Some}
 use Rattle.away_trees.specs.declared.queries.Expr.{Expr}
-use Rattle.away_trees.specs.declared.queries.Expr.TheVariants as expr
 use Rattle.away_values.specs.declared.types.Ty.{Ty}
-use Rattle.away_values.specs.declared.types.Ty.TheVariants as ty
-use Rattle.away_values.specs.declared.values.Class.{Class}
 use Rattle.away_values.specs.declared.values.Value.{Value}
 use Rattle.away_values.specs.declared.values.Value.TheVariants as val
 use Rattle.away_values.specs.Results.{Or, and_then, mapped}
 use Rattle.sql_meaning.specs.Context.{Rows, Context}
-use Rattle.sql_meaning.specs.Expressions.{values, any_aggregates}
-use Rattle.sql_meaning.specs.Meaning.{value, has_aggregate}
-use Rattle.sql_meaning.specs.Trees.{number, truth, null_of}
-use Rattle.sql_meaning.proofs.SelectRows.{Is, Are, is_cast, is_number, is_truth, is_null_of, none, more, for_each}
+use Rattle.sql_meaning.specs.Expressions.{any_aggregates}
 use Rattle.sql_meaning.proofs.Uses.{and_first, and_second}
-use Rattle.block_forms.specs.declared.forms.Term.{Term}
-use Rattle.call_forms.specs.Bodies.{Body, sets, enters, picks, returns, fails, calls, endless}
 use Rattle.call_forms.specs.Scopes.{Scope, paired}
 use Rattle.cte_law.proofs.Visits.{Visited, gives, raises, faults, goes_on, stays, with_term}
-use Rattle.cte_law.proofs.WorkingRows.{call_row, end_row}
-use Rattle.cte_law.proofs.Worlds.{World, OverTables}
-use Rattle.turn_template.specs.TurnTemplate.{Ref, no_ref, names, end_cells, row_cells, text_of, width, is_in, reads_none, passed, is_name, is_passed, covers, renames, may_wait, waiting}
+use Rattle.turn_template.specs.TurnTemplate.{Style, is_in, reads_none, passed, is_name, is_passed, covers, renames}
 use Rattle.turn_law.proofs.Levels.{all, AtAll, or_first, or_second}
-use Rattle.turn_law.proofs.Terms.{IsTotal}
-use Rattle.turn_law.proofs.Settled.{ref_of}
-use Rattle.turn_law.proofs.Choices.{choices_long}
+use Rattle.turn_law.proofs.Terms.{Longer}
 
 pub not_true : (b : Bool) → not b ≡ true → b ≡ false
 not_true false h = refl
@@ -82,13 +70,6 @@ after_mapped f (n ∷ ns) ans z = by (ans n) (after_mapped f ns ans z)
 after_fault : (ns : List ℕ) (ans : Scope (Or Value)) (o : Or Value) (z : Value → Or (List Value)) (x : Or (List Value)) (v : Value) → o ≡ Ok v → z v ≡ x
     → and_then o (λ u. x) ≡ and_then o z
 after_fault ns ans o z x v h k = (λ i. and_then (h i) (λ u. x)) ∙ (sym k ∙ (λ i. and_then (sym h i) z))
-
-pub record Comes (T : List Rows) (es : List Expr) (y : List Value) (o : Or (List Value)) : Type 0 where
-  pub gives : AtAll T es y o
-  pub single : any_aggregates (all es) ≡ false
-
-pub comes_as : (T : List Rows) (y : List Value) (es : List Expr) (o o' : Or (List Value)) → Comes T es y o → o ≡ o' → Comes T es y o'
-comes_as T y es o o' c e = record { gives = λ cx t. c.gives cx t ∙ e; single = c.single }
 
 -- ---- names
 
@@ -158,12 +139,47 @@ module _ (waits after_ : List ℕ) (A B : Type 0) (R : A → B → Type 0) (f : 
 
 -- ---- the row of a visit
 
-abbrev pub row_of : World → Visited → Or (List Value)
-row_of w (gives v) = Ok (end_row [] w.tail.columns v val.Null)
-row_of w (raises c) = Ok (end_row [] w.tail.columns val.Null (val.Text c.code))
-row_of w (faults c) = Err c
-row_of w (goes_on i row) = Ok (call_row [] i row)
-row_of w stays = Ok (end_row [] w.tail.columns val.Null val.Null)
+-- of a working table: a flag, a number, the columns, and the result and the class
+abbrev pub work : Bool → ℕ → List Value → Value → Value → List Value
+work go a row v c = val.Bool go ∷ val.Int (pos a) ∷ (row ++ (v ∷ c ∷ []))
+
+pub work_long : (go : Bool) (a : ℕ) (row : List Value) (v c : Value) (n : ℕ) → length row ≡ n → length (work go a row v c) ≡ suc (suc (suc (suc n)))
+work_long go a row v c n h = ap (λ k. suc (suc k)) (long row) ∙ ap (λ k. suc (suc (suc (suc k)))) h
+  where
+    long : (row : List Value) → length (row ++ (v ∷ c ∷ [])) ≡ suc (suc (length row))
+    long [] = refl
+    long (x ∷ row) = ap suc (long row)
+
+-- the number of a call's label, and that of a finished row
+abbrev pub number_of : Style → ℕ → ℕ → ℕ
+number_of style a i = if style.alone then a else suc i
+
+abbrev pub none_of : Style → ℕ → ℕ
+none_of style a = if style.alone then a else 0
+
+-- what a visit makes of a row with the number a and these columns
+abbrev pub row_of : Style → ℕ → List Value → Visited → Or (List Value)
+row_of style a row (gives v) = Ok (work false (none_of style a) row v val.Null)
+row_of style a row (raises c) = Ok (work false (none_of style a) row val.Null (val.Text c.code))
+row_of style a row (faults c) = Err c
+row_of style a row (goes_on i next) = Ok (work true (number_of style a i) next val.Null val.Null)
+row_of style a row stays = Ok (work false (none_of style a) row val.Null val.Null)
+
+-- ---- rows that begin with that of the turn
+
+-- The row of the turn, which goes on, is the first part of this one.
+pub record Begun (columns : List Ty) (a : ℕ) (row y : List Value) : Type 0 where
+  pub long : length row ≡ length columns
+  pub over : Longer (work true a row val.Null val.Null) y
+
+-- What cells come to over a row that is begun so. No cell is an aggregate, over whatever row.
+pub record Comes (T : List Rows) (columns : List Ty) (a : ℕ) (row : List Value) (es : List Expr) (y : List Value) (o : Or (List Value)) : Type 0 where
+  pub gives : Begun columns a row y → AtAll T es y o
+  pub single : any_aggregates (all es) ≡ false
+
+pub comes_as : (T : List Rows) (columns : List Ty) (a : ℕ) (row y : List Value) (es : List Expr) (o o' : Or (List Value)) → Comes T columns a row es y o
+    → o ≡ o' → Comes T columns a row es y o'
+comes_as T columns a row y es o o' c e = record { gives = λ b cx t. c.gives b cx t ∙ e; single = c.single }
 
 abbrev pub value_or : Or Value → Value
 value_or (Ok v) = v
@@ -174,9 +190,10 @@ value_fits (Ok v) = refl
 value_fits (Err c) = tt
 
 -- a term that waits, where it faults and where it doesn't
-pub then_term : (w : World) (next : Value → Visited) (o : Or Value) → and_then o (λ u. row_of w (next (value_or o))) ≡ row_of w (with_term o next)
-then_term w next (Ok v) = refl
-then_term w next (Err c) = refl
+pub then_term : (style : Style) (a : ℕ) (row : List Value) (next : Value → Visited) (o : Or Value)
+    → and_then o (λ u. row_of style a row (next (value_or o))) ≡ row_of style a row (with_term o next)
+then_term style a row next (Ok v) = refl
+then_term style a row next (Err c) = refl
 
 pub out_first : (ws : List ℕ) (n m : ℕ) → is_in (ws ++ n ∷ []) m ≡ false → is_in ws m ≡ false
 out_first [] n m h = refl
@@ -196,16 +213,7 @@ reads_nothing (n ∷ ns) = reads_nothing ns
 pub any_context : List Rows → Context
 any_context T = record { env = []; args = []; frames = []; tables = T; group = [] }
 
--- ---- cells
-
-nulls_fault : (cx : Context) (e : Expr) (fs : List Expr) (c : Class) → value e cx ≡ Err c → (ts : List Ty)
-    → values cx (all (map null_of ts ++ (e ∷ fs))) ≡ Err c
-nulls_fault cx e fs c h [] = ap (λ o. and_then o (λ v. mapped (λ ys. v ∷ ys) (values cx (all fs)))) h
-nulls_fault cx e fs c h (t ∷ ts) = λ i. and_then ((is_null_of cx t).gives i) (λ v. mapped (λ ys. v ∷ ys) (nulls_fault cx e fs c h ts i))
-
-nulls_single : (es : List Expr) → any_aggregates (all es) ≡ false → (ts : List Ty) → any_aggregates (all (map null_of ts ++ es)) ≡ false
-nulls_single es h [] = h
-nulls_single es h (t ∷ ts) = λ i. (is_null_of (any_context []) t).single i || nulls_single es h ts i
+-- ---- appended values
 
 pub mapped_none : (z : Or (List Value)) → mapped (λ ws. ws) z ≡ z
 mapped_none (Ok x) = refl
@@ -214,63 +222,3 @@ mapped_none (Err c) = refl
 pub mapped_twice : (v : Value) (vs : List Value) (z : Or (List Value)) → mapped (λ ws. v ∷ ws) (mapped (λ ws. vs ++ ws) z) ≡ mapped (λ ws. (v ∷ vs) ++ ws) z
 mapped_twice v vs (Ok x) = refl
 mapped_twice v vs (Err c) = refl
-
-module _ (w : World) (ok : OverTables w) (T : List Rows)
-    (sees : (k : ℕ) → nat_lt k (length w.tables) ≡ true → slice_index_or T k [] ≡ slice_index_or w.tables k [])
-    (total : Term → Bool) (totals : (u : Term) → total u ≡ true → IsTotal w u) (same : Expr → Expr → Bool) (alike : (x y : Expr) → same x y ≡ true → x ≡ y) where
-  abbrev cells : Scope Ref → Body → List Expr
-  cells refs x = waiting w.table w.types w.tail.columns w.result total same refs x
-
-  abbrev may : List ℕ → Body → Bool
-  may waits x = may_wait w.table w.types w.tail.columns w.result total same waits x
-
-  abbrev at_width : ℕ
-  at_width = width w.table w.types w.tail.columns w.result total same
-
-  abbrev ends_with : Expr → Expr → List Expr
-  ends_with x y = end_cells w.table w.types w.tail.columns w.result total same x y
-
-  abbrev row_at : ℕ → Scope Ref → List ℕ → List ℕ → List Ty → List Expr
-  row_at i refs places args ts = row_cells w.table w.types w.tail.columns w.result total same i refs places args ts
-
-  -- ---- as many as columns
-
-  nulls_long : (a b : Expr) (ts : List Ty) → length (map null_of ts ++ (a ∷ b ∷ [])) ≡ suc (suc (length ts))
-  nulls_long a b [] = refl
-  nulls_long a b (t ∷ ts) = ap suc (nulls_long a b ts)
-
-  row_long : (a b : Expr) (refs : Scope Ref) (places args : List ℕ) (i : ℕ) (ts : List Ty)
-      → length (row_at i refs places args ts ++ (a ∷ b ∷ [])) ≡ suc (suc (length ts))
-  row_long a b refs places args i [] = refl
-  row_long a b refs places args i (t ∷ ts) = ap suc (row_long a b refs places args (suc i) ts)
-
-  pub waiting_long : (x : Body) (refs : Scope Ref) → length (cells refs x) ≡ at_width
-  waiting_long (sets n t x) refs = waiting_long x (names n (ref_of w ok T sees total totals same alike refs (w.types n) t) refs)
-  waiting_long (enters params args x) refs = waiting_long x (paired refs no_ref params args)
-  waiting_long (picks t x y) refs =
-      choices_long same alike (ref_of w ok T sees total totals same alike refs ty.Boolean t 0) at_width (cells refs x) (cells refs y) (waiting_long x refs) (waiting_long y refs)
-  waiting_long (returns t) refs = ap (λ k. suc (suc k)) (nulls_long (ref_of w ok T sees total totals same alike refs w.result t 0) (null_of ty.Text) w.tail.columns)
-  waiting_long (fails c) refs =
-      ap (λ k. suc (suc k)) (nulls_long (null_of w.result) (text_of w.table w.types w.tail.columns w.result total same c) w.tail.columns)
-  waiting_long (calls label places args) refs =
-      ap (λ k. suc (suc k)) (row_long (null_of w.result) (null_of ty.Text) refs places args 0 w.tail.columns)
-  waiting_long endless refs = ap (λ k. suc (suc k)) (nulls_long (null_of w.result) (null_of ty.Text) w.tail.columns)
-
-  pub ended_single : (x y : Expr) → has_aggregate x ≡ false → has_aggregate y ≡ false → any_aggregates (all (ends_with x y)) ≡ false
-  ended_single x y h k =
-      λ i. (is_truth (any_context []) false).single i
-      || ((is_number (any_context []) (pos 0)).single i || nulls_single (x ∷ y ∷ []) (λ j. h j || (k j || false)) w.tail.columns i)
-
-  pub are_ended : (cx : Context) (x y : Expr) (v c : Value) → Is cx x v → Is cx y c → Are cx (ends_with x y) (end_row [] w.tail.columns v c)
-  are_ended cx x y v c h k =
-      more cx (truth false) _ _ _ (is_truth cx false)
-      (more cx (number (pos 0)) _ _ _ (is_number cx (pos 0))
-      (for_each cx null_of (λ t. val.Null) w.tail.columns _ _ (λ t. is_null_of cx t) (more cx x _ v _ h (more cx y _ c _ k (none cx)))))
-
-  pub ended_fault : (cx : Context) (x y : Expr) (c : Class) → value x cx ≡ Err c → values cx (all (ends_with x y)) ≡ Err c
-  ended_fault cx x y c h =
-      λ i. and_then ((is_truth cx false).gives i) (λ v. mapped (λ ys. v ∷ ys)
-      (and_then ((is_number cx (pos 0)).gives i) (λ v. mapped (λ ys. v ∷ ys) (nulls_fault cx x (y ∷ []) c h w.tail.columns i))))
-
-  pub is_text : (cx : Context) (c : Class) → Is cx (text_of w.table w.types w.tail.columns w.result total same c) (val.Text c.code)
-  is_text cx c = is_cast cx (expr.Str c.code) (val.Text c.code) (val.Text c.code) ty.Text (record { gives = refl; single = refl }) refl

@@ -18,7 +18,7 @@ use Rattle.block_forms.specs.declared.forms.Term.{Term}
 use Rattle.call_forms.specs.Scopes.{Scope}
 use Rattle.call_forms.specs.Template.{is_not_true}
 use Rattle.cte_law.proofs.Worlds.{World, expr_in, value_in, value_is, OverTables}
-use Rattle.turn_template.specs.TurnTemplate.{Ref, term_ref, gated, either, both, Settled, settle, settled}
+use Rattle.turn_template.specs.TurnTemplate.{Ref, term_ref, gated, either, both, Settled, settle, settled, Style}
 use Rattle.turn_law.proofs.Levels.{all, At, Steps}
 use Rattle.turn_law.proofs.Terms.{Longer, as_long, longer_still, one_longer, Holds, HoldOn, on_still, holds_still, new_holds, here_is, IsTotal, placed_same}
 
@@ -174,12 +174,12 @@ module _ (T : List Rows) where
 
 module _ (w : World) (ok : OverTables w) (T : List Rows)
     (sees : (k : ℕ) → nat_lt k (length w.tables) ≡ true → slice_index_or T k [] ≡ slice_index_or w.tables k [])
-    (total : Term → Bool) (totals : (u : Term) → total u ≡ true → IsTotal w u) (same : Expr → Expr → Bool) (alike : (x y : Expr) → same x y ≡ true → x ≡ y) where
+    (total : Term → Bool) (totals : (u : Term) → total u ≡ true → IsTotal w u) (style : Style) (alike : (x y : Expr) → style.same x y ≡ true → x ≡ y) where
   abbrev pub ref_of : Scope Ref → Ty → Term → Ref
-  ref_of refs ty u = term_ref w.table w.types w.tail.columns w.result total same refs ty u
+  ref_of refs ty u = term_ref w.table w.types w.tail.columns w.result total style refs ty u
 
   abbrev pub settled_of : ℕ → Expr → Scope Ref → Ty → Term → Settled
-  settled_of m g refs ty u = settled w.table w.types w.tail.columns w.result total same m g refs ty u
+  settled_of m g refs ty u = settled w.table w.types w.tail.columns w.result total style m g refs ty u
 
   module _ (r : List Value) (refs : Scope Ref) (s : Scope Value) (ty : Ty) (u : Term) (hold : HoldOn T refs r s u.names) where
     pub term_is : At T (ref_of refs ty u 0) r (value_in w u s)

@@ -60,7 +60,8 @@ module _ (w : World) (raise : (b : ℕ) → BodyRaisesClasses (body_of w.anf w.t
     after_visit : (m : ℕ) → ((i : ℕ) (row : List Value) (h : ℕ) → head_at i ≡ true → IsOver (go (machine w raise) m (i, row) h).answer
         → Soon (λ v. go (machine w raise) v (i, row) h) m (suc h)) → (c : ℕ) (x : Visited) → AtHead x
         → IsOver (then_goes (move_of x) (go (machine w raise) m) c).answer
-        → (v : ℕ) × (v ≤ m) × IsOver (then_goes (move_of x) (go (machine w raise) v) c).answer × (c + v ≤ (then_goes (move_of x) (go (machine w raise) m) c).heads)
+        → (v : ℕ) × (v ≤ m) × IsOver (then_goes (move_of x) (go (machine w raise) v) c).answer
+        × (c + v ≤ (then_goes (move_of x) (go (machine w raise) m) c).heads)
     after_visit m from c (gives u) at over = (0, omega arith, over, omega arith)
     after_visit m from c (raises u) at over = (0, omega arith, over, omega arith)
     after_visit m from c (faults u) at over = (0, omega arith, over, omega arith)

@@ -12,10 +12,11 @@ use Rattle.away_values.specs.declared.values.Value.{Value}
 use Rattle.away_values.specs.declared.values.Value.TheVariants as val
 use Rattle.away_values.specs.Classes.{is_class}
 use Rattle.away_values.specs.Results.{Or, and_then, class}
-use Rattle.sql_meaning.specs.Context.{Rows}
+use Rattle.sql_meaning.specs.Context.{Rows, outermost}
 use Rattle.sql_meaning.specs.Meaning.{meaning, rows_of_select}
 use Rattle.sql_meaning.specs.Selects.{union}
 use Rattle.sql_meaning.specs.Template.{last}
+use Rattle.sql_meaning.proofs.Returns.{turned as turned_with}
 use Rattle.sql_meaning.specs.Working.{Bounded, worked, recursive_table, over_table, rows_with, answered, sql}
 use Rattle.block_forms.specs.declared.forms.Term.{Term}
 use Rattle.block_forms.specs.Machines.{Machine, Ran, counted, then_goes, go, IsOver}
@@ -23,16 +24,18 @@ use Rattle.block_forms.specs.MachineLaws.{stays_from, few_from, heads_from}
 use Rattle.call_forms.specs.Bodies.{body_of}
 use Rattle.call_forms.specs.TailRuns.{AtLabel, label_visit, heads_label, tail_machine, tail_runs}
 use Rattle.cte_law.proofs.Branches.{scope_at, visit_at}
-use Rattle.cte_law.proofs.Finish.{AreCalls, one_call_more, last_rows}
+use Rattle.cte_law.proofs.Finish.{AreCalls, one_call_more}
 use Rattle.cte_law.proofs.Visits.{Visited, gives, raises, faults, goes_on, stays, move_of, walk_is, BodyRaisesClasses, IsFair, fair}
-use Rattle.cte_law.proofs.WorkingRows.{call_row, end_row}
+use Rattle.cte_law.proofs.WorkingRows.{call_row}
 use Rattle.cte_law.proofs.Worlds.{World, frame_in, OverTables}
 use Rattle.turn_template.specs.TurnTemplate as turn
+use Rattle.turn_template.specs.TurnTemplate.{is_single}
 use Rattle.turn_law.specs.TurnAnswers.{AnswersInTurns}
-use Rattle.turn_law.proofs.Iterations.{step_rows, iteration_call, iteration_over, turned_wide, entry_at, first_at, after_entry, after_wide, first_rows}
+use Rattle.turn_law.proofs.Iterations.{Leaves, step_rows, iteration_call, iteration_over, turned_wide, entry_at, first_at, after_entry, after_wide, first_rows}
+use Rattle.turn_law.proofs.LastRow.{last_row}
 use Rattle.turn_law.proofs.Levels.{one_row, alone}
-use Rattle.turn_law.proofs.RowCells.{row_of}
-use Rattle.turn_law.proofs.States.{turn_at, turned_once, turned, Inner, IsWide}
+use Rattle.turn_law.proofs.RowCells.{work}
+use Rattle.turn_law.proofs.States.{turn_at, turned_once, turned, Inner, IsWide, Finished, Stands}
 use Rattle.turn_law.proofs.Terms.{IsTotal}
 
 -- ---- runs from a state on
@@ -140,7 +143,8 @@ module _ (w : World) (raise : (b : ℕ) → BodyRaisesClasses (body_of w.anf w.t
 
   -- ---- the working tables
 
-  module _ (ok : OverTables w) (total : Term → Bool) (totals : (u : Term) → total u ≡ true → IsTotal w u) (same : Expr → Expr → Bool) (alike : (x y : Expr) → same x y ≡ true → x ≡ y)
+  module _ (ok : OverTables w) (total : Term → Bool) (totals : (u : Term) → total u ≡ true → IsTotal w u)
+      (same : Expr → Expr → Bool) (alike : (x y : Expr) → same x y ≡ true → x ≡ y)
       (heads : List ℕ) (inner : Inner w heads) (args : List Value)
       (small : length w.tables < 2 ^ 64) (k : ℕ) where
     abbrev steps : Rows → Or Rows
@@ -152,12 +156,21 @@ module _ (w : World) (raise : (b : ℕ) → BodyRaisesClasses (body_of w.anf w.t
     abbrev going : ℕ → Rows → ℕ → List Value → Bounded Rows
     going n done i row = worked steps n done (Ok (call_row [] i row ∷ []))
 
+    abbrev stand : Visited → Or (List Value) → Type 0
+    stand x o = Stands w (is_single heads) x o
+
     -- a finished row ends the recursion
-    finished : (n : ℕ) (done : Rows) (v c : Value) → AreCalls done
-        → by_table (worked steps (suc n) done (Ok (end_row [] w.tail.columns v c ∷ []))) ≡ answered (Some (Ok ((v ∷ c ∷ []) ∷ [])))
-    finished n done v c h =
-        ap (λ x. by_table (worked steps n (done ++ end_row [] w.tail.columns v c ∷ []) x)) (iteration_over w ok total totals same alike heads inner args small k v c)
-        ∙ ap (λ x. answered (Some (and_then x (λ ys. Ok (ys ++ []))))) (last_rows w.tail.columns w.tables args small done v c h)
+    finished : (n : ℕ) (done : Rows) (o : Or (List Value)) (v c : Value) → Finished (is_single heads) w.tail.columns o v c → AreCalls done
+        → by_table (worked steps (suc n) done (one_row o)) ≡ answered (Some (Ok ((v ∷ c ∷ []) ∷ [])))
+    finished n done o v c f h =
+        let r = work false f.number f.row v c in
+        let the_last =
+        subst (λ m. rows_of_select (last (decimal (length w.tables)) m) (turned_with w.tables args (done ++ r ∷ [])) ≡ Ok ((v ∷ c ∷ []) ∷ [])) f.long
+        (last_row w.tables args small f.number f.row v c done h) in
+        ap (λ z. by_table (worked steps (suc n) done (one_row z))) f.is
+        ∙ (ap (λ x. by_table (worked steps n (done ++ r ∷ []) x))
+        (iteration_over w ok total totals same alike heads inner args small k f.number f.row v c f.long)
+        ∙ ap (λ x. answered (Some (and_then x (λ ys. Ok (ys ++ []))))) the_last)
 
     raised : (c : Class) → is_class c.code ≡ true → answered (Some (Ok ((val.Null ∷ val.Text c.code ∷ []) ∷ []))) ≡ answer.Fault c
     raised c h = ap (λ b. if b then answer.Fault (class c.code) else answer.Shape 1) h
@@ -167,29 +180,35 @@ module _ (w : World) (raise : (b : ℕ) → BodyRaisesClasses (body_of w.anf w.t
       so_far = done ++ call_row [] i row ∷ []
 
       -- the next working table
-      next_is : (n : ℕ) → going (suc n) done i row ≡ worked steps n so_far (one_row (row_of w (turned w k (goes_on i row))))
-      next_is n = ap (λ x. worked steps n so_far x) (iteration_call w ok total totals same alike heads inner args small k i row long)
+      after : Leaves w ok total totals same alike heads inner args small k (steps (call_row [] i row ∷ [])) (turned w k (goes_on i row))
+      after = iteration_call w ok total totals same alike heads inner args small k i row long
+
+      next_is : (n : ℕ) → going (suc n) done i row ≡ worked steps n so_far (one_row after.outcome)
+      next_is n = ap (λ x. worked steps n so_far x) after.is
 
     abbrev IsKept : ℕ → Type 0
     IsKept n =
         (i : ℕ) (row : List Value) → IsWide w heads (goes_on i row) → (h : ℕ) (done : Rows) → AreCalls done
         → IsOver (go machine (times k n) (i, row) h).answer → by_table (going (suc n) done i row) ≡ (go machine (times k n) (i, row) h).answer
 
-    state_kept : (n : ℕ) → IsKept n → (x : Visited) → IsWide w heads x → IsFair x → (h : ℕ) (done : Rows) → AreCalls done → IsOver (rest x (times k n) h).answer
-        → by_table (worked steps (suc n) done (one_row (row_of w x))) ≡ (rest x (times k n) h).answer
-    state_kept n kept (gives v) wide fair_ h done calls over = finished n done v val.Null calls
-    state_kept n kept (raises c) wide fair_ h done calls over = finished n done val.Null (val.Text c.code) calls ∙ raised c fair_
-    state_kept n kept (faults c) wide fair_ h done calls over = refl
-    state_kept n kept (goes_on j next) wide fair_ h done calls over = kept j next wide h done calls over
-    state_kept n kept stays wide fair_ h done calls over = absurd over
+    state_kept : (n : ℕ) → IsKept n → (x : Visited) → IsWide w heads x → IsFair x → (o : Or (List Value)) → stand x o → (h : ℕ) (done : Rows) → AreCalls done
+        → IsOver (rest x (times k n) h).answer → by_table (worked steps (suc n) done (one_row o)) ≡ (rest x (times k n) h).answer
+    state_kept n kept (gives v) wide fair_ o s h done calls over = finished n done o v val.Null s calls
+    state_kept n kept (raises c) wide fair_ o s h done calls over = finished n done o val.Null (val.Text c.code) s calls ∙ raised c fair_
+    state_kept n kept (faults c) wide fair_ o s h done calls over = ap (λ z. by_table (worked steps (suc n) done (one_row z))) s
+    state_kept n kept (goes_on j next) wide fair_ o s h done calls over =
+        ap (λ z. by_table (worked steps (suc n) done (one_row z))) s ∙ kept j next wide h done calls over
+    state_kept n kept stays wide fair_ o s h done calls over = absurd over
 
     ended : (n : ℕ) → IsKept n
     ended zero i row long h done calls over = absurd over
     ended (suc n) i row long h done calls over =
         let shifted = shifts k (goes_on i row) (times k n) (k + times k n) h refl over in
+        let next = after i row long done in
         ap by_table (next_is i row long done (suc n))
-        ∙ (state_kept n (ended n) (turned w k (goes_on i row)) (turned_wide w ok total totals same alike heads inner args small k k (goes_on i row) long) (fair_after k (goes_on i row) tt)
-        shifted.heads (done ++ call_row [] i row ∷ []) (one_call_more done (call_row [] i row) calls refl) (subst IsOver shifted.same over)
+        ∙ (state_kept n (ended n) (turned w k (goes_on i row)) (turned_wide w ok total totals same alike heads inner args small k k (goes_on i row) long)
+        (fair_after k (goes_on i row) tt) next.outcome next.stands shifted.heads (done ++ call_row [] i row ∷ [])
+        (one_call_more done (call_row [] i row) calls refl) (subst IsOver shifted.same over)
         ∙ sym shifted.same)
 
     -- ---- no answer before
@@ -199,22 +218,24 @@ module _ (w : World) (raise : (b : ℕ) → BodyRaisesClasses (body_of w.anf w.t
         (i : ℕ) (row : List Value) → IsWide w heads (goes_on i row) → (m h : ℕ) (done : Rows) → h + times k n < (go machine m (i, row) h).heads
         → going n done i row ≡ None
 
-    state_waits : (n : ℕ) → Waits n → (x : Visited) → IsWide w heads x → (m h : ℕ) (done : Rows) → h + times k n < (rest x m h).heads
-        → worked steps n done (one_row (row_of w x)) ≡ None
-    state_waits n waits_ (gives v) wide m h done p = absurd (omega (arith, p))
-    state_waits n waits_ (raises c) wide m h done p = absurd (omega (arith, p))
-    state_waits n waits_ (faults c) wide m h done p = absurd (omega (arith, p))
-    state_waits n waits_ (goes_on j next) wide m h done p = waits_ j next wide m h done p
-    state_waits n waits_ stays wide m h done p = absurd (omega (arith, p))
+    state_waits : (n : ℕ) → Waits n → (x : Visited) → IsWide w heads x → (o : Or (List Value)) → stand x o → (m h : ℕ) (done : Rows)
+        → h + times k n < (rest x m h).heads → worked steps n done (one_row o) ≡ None
+    state_waits n waits_ (gives v) wide o s m h done p = absurd (omega (arith, p))
+    state_waits n waits_ (raises c) wide o s m h done p = absurd (omega (arith, p))
+    state_waits n waits_ (faults c) wide o s m h done p = absurd (omega (arith, p))
+    state_waits n waits_ (goes_on j next) wide o s m h done p = ap (λ z. worked steps n done (one_row z)) s ∙ waits_ j next wide m h done p
+    state_waits n waits_ stays wide o s m h done p = absurd (omega (arith, p))
 
     waits : (n : ℕ) → Waits n
     waits zero i row long m h done p = refl
     waits (suc n) i row long m h done p =
         let most = few_from machine m (i, row) h in
-        let after = few_after k (goes_on i row) (m - k) m h (omega (arith, p, most)) in
+        let few = few_after k (goes_on i row) (m - k) m h (omega (arith, p, most)) in
+        let next = after i row long done in
         next_is i row long done n
-        ∙ state_waits n (waits n) (turned w k (goes_on i row)) (turned_wide w ok total totals same alike heads inner args small k k (goes_on i row) long) (m - k) after.heads
-        (done ++ call_row [] i row ∷ []) (omega (arith, p, after.few, after.most))
+        ∙ state_waits n (waits n) (turned w k (goes_on i row)) (turned_wide w ok total totals same alike heads inner args small k k (goes_on i row) long)
+        next.outcome next.stands (m - k) few.heads
+        (done ++ call_row [] i row ∷ []) (omega (arith, p, few.few, few.most))
 
     -- ---- the query
 
@@ -234,7 +255,11 @@ module _ (w : World) (raise : (b : ℕ) → BodyRaisesClasses (body_of w.anf w.t
       start_wide : IsWide w heads start_state
       start_wide = after_wide w ok total totals same alike heads inner args small k there
 
-      sql_is : (n : ℕ) → sql query w.tables args n ≡ by_table (worked steps n [] (one_row (row_of w start_state)))
+      start_is : Leaves w ok total totals same alike heads inner args small k
+          (rows_of_select (turn.first w.table w.types w.result total same w.anf w.tail w.goto.entry) (outermost w.tables args)) start_state
+      start_is = first_rows w ok total totals same alike heads inner args small k there
+
+      sql_is : (n : ℕ) → sql query w.tables args n ≡ by_table (worked steps n [] (one_row start_is.outcome))
       sql_is n =
           let first = turn.first w.table w.types w.result total same w.anf w.tail w.goto.entry in
           let second = turn.step w.table w.types w.result total same w.anf w.tail w.goto.entry (decimal (length w.tables)) heads k in
@@ -242,8 +267,8 @@ module _ (w : World) (raise : (b : ℕ) → BodyRaisesClasses (body_of w.anf w.t
           (eq.of_with meaning (roll-Recursive (record { name = []; columns = []; first = first ∷ []; second = second }))
           (last (decimal (length w.tables)) (length w.tail.columns) ∷ []))
           ∙ (ap (λ r. by_table (recursive_table r w.tables args n)) (eq.of_recursive meaning [] [] (first ∷ []) second)
-          ∙ (ap (λ x. by_table (worked steps n [] (and_then x (λ ys. Ok (ys ++ []))))) (first_rows w ok total totals same alike heads inner args small k there)
-          ∙ ap (λ x. by_table (worked steps n [] x)) (alone (one_row (row_of w start_state)))))
+          ∙ (ap (λ x. by_table (worked steps n [] (and_then x (λ ys. Ok (ys ++ []))))) start_is.is
+          ∙ ap (λ x. by_table (worked steps n [] x)) (alone (one_row start_is.outcome))))
 
       times_is : (n : ℕ) → times k n ≡ n * k
       times_is zero = omega arith
@@ -264,7 +289,8 @@ module _ (w : World) (raise : (b : ℕ) → BodyRaisesClasses (body_of w.anf w.t
           let shifted = shift at_entry (times k n) 0 over_there in
           let as_start = shifted.same ∙ ap (λ x. (rest x (times k n) shifted.heads).answer) once_is in
           sql_is (suc n)
-          ∙ (state_kept n (ended n) start_state start_wide (fair_at entry_place first_there (Some w.goto.entry)) shifted.heads [] tt
+          ∙ (state_kept n (ended n) start_state start_wide (fair_at entry_place first_there (Some w.goto.entry)) start_is.outcome start_is.stands
+          shifted.heads [] tt
           (subst IsOver as_start over_there)
           ∙ (sym as_start ∙ ap (λ (z : Ran). z.answer) as_there))
 
@@ -274,9 +300,12 @@ module _ (w : World) (raise : (b : ℕ) → BodyRaisesClasses (body_of w.anf w.t
         goes_on_at (suc m) n less =
             let most = fewer_label entry_place first_there m (counted (heads_label (frame_in w) w.anf w.tail (slice_get w.tail.labels entry_place)) 0)
             (slice_get w.tail.labels entry_place) in
-            let most_there = subst (λ b. (go machine (suc m) (entry_place, first_there) 0).heads ≤ (rest (turned_once w at_entry) m (counted b 0)).heads) no_head most in
+            let most_there =
+            subst (λ b. (go machine (suc m) (entry_place, first_there) 0).heads ≤ (rest (turned_once w at_entry) m (counted b 0)).heads) no_head most in
             let most_start = subst (λ x. (go machine (suc m) (entry_place, first_there) 0).heads ≤ (rest x m 0).heads) once_is most_there in
-            sql_is n ∙ ap by_table (state_waits n (waits n) start_state start_wide m 0 [] (omega (arith, less, most_start, times_is n)))
+            sql_is n
+            ∙ ap by_table (state_waits n (waits n) start_state start_wide start_is.outcome start_is.stands m 0 []
+            (omega (arith, less, most_start, times_is n)))
 
         pub answers : AnswersInTurns k query w.tables args (tail_runs (frame_in w) w.anf w.tail args)
         answers = record { ends = ends_at; goes_on = goes_on_at }

@@ -1,20 +1,38 @@
 -- The cells of a row, along the loops that write them.
-use Rattle.std.proofs.Common.{◌≡◌, refl, ap, sym, ◌∙◌, ℕ, suc, ◌+◌, ◌<◌, ◌≤◌, Bool, true, false, if◌then◌else◌, List, [], ◌∷◌, ◌++◌, map, length, drop, get_or, Some, arith, append_assoc, append-nil}
+use Rattle.std.proofs.Common.{◌≡◌, refl, ap, sym, ◌∙◌, ℕ, zero, suc, ◌+◌, ◌<◌, ◌≤◌, Bool, true, false, if◌then◌else◌, List, [], ◌∷◌, ◌++◌, map, length, drop, get_or, Some, arith, append_assoc, append-nil}
 use Rattle.std.specs.Prelude.{nat_eq}
 use Rattle.std.proofs.lemmas.List.{map-append, at_drop_more}
 use Rattle.away_trees.specs.declared.queries.Expr.{Expr}
 use Rattle.away_values.specs.declared.types.Ty.{Ty}
 use Rattle.call_forms.specs.Scopes.{Scope, paired}
 use Rattle.cte_parts.proofs.Lists.{one_more_below}
-use Rattle.sql_meaning.specs.Template.{below}
+use Rattle.sql_meaning.specs.Template.{below, count_from}
 use Rattle.sql_meaning.specs.Trees.{col, null_of}
 use Rattle.turn_template.specs.TurnTemplate.{Ref, passed, choices}
 use Rattle.turn_terms.specs.declared.writer.Writer.{Writer}
-use Rattle.turn_query.specs.Filled.{cell_of, row_cells}
+use Rattle.turn_query.specs.Filled.{cell_of, kept, row_cells}
 use Rattle.turn_query.proofs.TwoLists.{at_second_end}
 
 pub one_more_column : (i : ℕ) → map (col 0 0) (below (i + 1)) ≡ map (col 0 0) (below i) ++ (col 0 0 i ∷ [])
 one_more_column i = ap (map (col 0 0)) (one_more_below i) ∙ map-append (col 0 0) (below i) (i ∷ [])
+
+-- ---- the columns of the row that are kept
+
+counted : (first n : ℕ) → count_from first (suc n) ≡ count_from first n ++ ((first + n) ∷ [])
+counted first zero =
+    let p : first ≡ first + 0 = omega arith in
+    ap (λ k. k ∷ []) p
+counted first (suc n) =
+    let p : suc first + n ≡ first + suc n = omega arith in
+    ap (λ xs. first ∷ xs) (counted (suc first) n ∙ ap (λ k. count_from (suc first) n ++ (k ∷ [])) p)
+
+pub one_more_kept : (i : ℕ) → kept (i + 1) ≡ kept i ++ (col 0 0 (i + 2) ∷ [])
+one_more_kept i =
+    let next : i + 1 ≡ suc i = omega arith in
+    let at : 2 + i ≡ i + 2 = omega arith in
+    ap kept next
+    ∙ (ap (map (col 0 0)) (counted 2 i)
+    ∙ (map-append (col 0 0) (count_from 2 i) ((2 + i) ∷ []) ∙ ap (λ k. kept i ++ (col 0 0 k ∷ [])) at))
 
 -- ---- the row of a call
 

@@ -11,10 +11,11 @@ use Rattle.block_forms.specs.Expressions.{expressions}
 use Rattle.call_forms.specs.declared.forms.Anf.{Anf}
 use Rattle.call_forms.specs.Columned.{type_of_name}
 use Rattle.call_forms.specs.Templated.{type_or_bigint, types_of}
-use Rattle.turn_template.specs.TurnTemplate.{Plan}
+use Rattle.turn_template.specs.TurnTemplate.{Plan, told_by}
 use Rattle.turn_bodies.specs.declared.unfolding.Unfolded.{Unfolded}
+use Rattle.turn_terms.specs.Sameness.{same}
 use Rattle.turn_terms.specs.declared.writer.Writer.{Writer}
-use Rattle.turn_query.specs.FilledTurns.{IsFitting, turn_plan, whole}
+use Rattle.turn_query.specs.FilledTurns.{IsFitting, heads_turn, whole}
 use Rattle.turn_query.specs.Fitting.{FittingTurns}
 use Rattle.turn_query.specs.TurnTree as tree
 use Rattle.turn_query.specs.TurnsQuery.{IsTurnsQuery, called_labels, turn_steps, template_of}
@@ -26,10 +27,10 @@ module _ (f : Function) (slots : List Slot) (g : Goto) (z : Ssa) (a : Anf) (x : 
   abbrev heads : List ℕ
   heads = called_labels x
 
-  steps_are : (turn_plan w a x.tail 0 heads).steps ≡ turn_steps f slots z a x.tail g.entry heads
+  steps_are : (heads_turn w a x.tail heads).steps ≡ turn_steps f slots z a x.tail g.entry heads
   steps_are =
-      (λ i. let p : Plan = tree.turn_plan (table i) (λ n. type_or_bigint (type_of_name (slots_are i) (names i) n)) (columns i) (result i) a x.tail 0 heads in p.steps)
-      ∙ ap (λ (p : Plan). p.steps) (plans_same (expressions f) (types_of slots z) f.result a x.tail g.entry (tree.width_of (length x.tail.columns)) 0 heads)
+      (λ i. let p : Plan = tree.heads_turn (table i) (λ n. type_or_bigint (type_of_name (slots_are i) (names i) n)) (columns i) (result i) a x.tail heads in p.steps)
+      ∙ ap (λ (p : Plan). p.steps) (plans_same (expressions f) (types_of slots z) f.result a x.tail g.entry (told_by same heads) (tree.width_of (length x.tail.columns)) 0 heads)
 
   query_is : (turns : ℕ) → bare (whole w a x.tail g.entry tables heads turns) ≡ bare (template_of f slots z a x.tail g.entry tables heads turns)
   query_is turns =

@@ -1,5 +1,6 @@
 -- What the terms of the recursive table are made of.
-use Rattle.std.proofs.Common.{◌≡◌, ap, ◌∙◌, ℕ, suc, ◌+◌, List, [], ◌∷◌, map, arith, Some, None}
+use Rattle.std.proofs.Common.{◌≡◌, refl, ap, ◌∙◌, ℕ, suc, ◌+◌, List, [], ◌∷◌, map, length, nat_eq, arith, Some, None}
+use Rattle.std.proofs.lemmas.Bool.{ne_eqb}
 use Rattle.away_trees.specs.declared.queries.Expr.{Expr}
 use Rattle.away_trees.specs.declared.queries.Expr.TheViews.{roll-Select}
 use Rattle.away_trees.specs.declared.queries.FromItem.{FromItem}
@@ -7,7 +8,7 @@ use Rattle.away_trees.specs.declared.queries.Item.{Item}
 use Rattle.away_trees.specs.declared.queries.Select.{Select}
 use Rattle.sql_meaning.specs.Trees.{col, item}
 use Rattle.cte_parts.specs.Trees.{working}
-use Rattle.turn_template.specs.TurnTemplate.{Plan, all_cells}
+use Rattle.turn_template.specs.TurnTemplate.{Plan, all_cells, is_single}
 use Rattle.turn_query.specs.TurnTree.{level_as, over_turn, over_turns, width_of, all_of, going}
 
 as_wide : (n width : ℕ) → width ≡ n + 4 → width ≡ width_of n
@@ -39,3 +40,9 @@ pub turns_over : (n width turns : ℕ) (plan : Plan) (below from over : FromItem
     → over ≡ over_turns n width plan turns below → all_of n over ≡ all_of n (over_turns n (width_of n) plan turns from)
 turns_over n width turns plan below from over wide froms is =
     ap (all_of n) (is ∙ (λ k. over_turns n (as_wide n width wide k) plan turns (froms k)))
+
+-- one label is one that is called alone
+pub single : (bs : List ℕ) → nat_eq (length bs) 1 ≡ is_single bs
+single [] = refl
+single (b ∷ []) = refl
+single (b ∷ c ∷ bs) = ne_eqb (length (b ∷ c ∷ bs)) 1 (λ p. omega (arith, p))

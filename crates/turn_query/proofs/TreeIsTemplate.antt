@@ -13,7 +13,7 @@ use Rattle.call_forms.specs.Template.{entry_place, start}
 use Rattle.cte_parts.specs.Names.{table_name, row_names}
 use Rattle.cte_parts.specs.Trees.{working}
 use Rattle.turn_template.specs.TurnTemplate as turn
-use Rattle.turn_template.specs.TurnTemplate.{Plan, fenced, stacked, levels_of, last_level, all_cells}
+use Rattle.turn_template.specs.TurnTemplate.{Plan, Style, fenced, stacked, levels_of, last_level, all_cells}
 use Rattle.turn_terms.specs.Choosing.{chosen_total}
 use Rattle.turn_terms.specs.Sameness.{same}
 use Rattle.turn_query.specs.TurnTree as t
@@ -63,36 +63,43 @@ module _ (table : List Expr) (types : ℕ → Ty) (result : Ty) (a : Anf) (r : T
   abbrev width : ℕ
   width = t.width_of columns
 
-  abbrev mine : ℕ → ℕ → List ℕ → Plan
-  mine = t.label_plans table types r.columns result a r
+  -- one turn in whichever style
+  module _ (style : Style) where
+    abbrev mine : ℕ → ℕ → List ℕ → Plan
+    mine = t.label_plans table types r.columns result style a r
 
-  abbrev theirs : ℕ → ℕ → List ℕ → Plan
-  theirs = turn.plans table types result (chosen_total table) same a r entry
+    abbrev theirs : ℕ → ℕ → List ℕ → Plan
+    theirs = turn.plans table types result (chosen_total table) style a r entry
 
-  pub plans_same : (m n : ℕ) (bs : List ℕ) → mine m n bs ≡ theirs m n bs
-  plans_same m n [] = refl
-  plans_same m n (b ∷ bs) =
-      let p : Plan = t.label_plan table types r.columns result a r m n b in
-      ap (λ q. turn.chosen same (turn.at_label table types r.columns result (chosen_total table) same (suc n)) p q) (plans_same (length p.steps + m) (suc n) bs)
+    abbrev levels_at : ℕ → List ℕ → List (List Expr)
+    levels_at = turn.turn_levels table types result (chosen_total table) style a r entry
 
-  turn_as : (n : ℕ) (bs : List ℕ) (f g : FromItem) → from_bare f ≡ from_bare g
-      → from_bare (t.over_turn columns width (mine width n bs) f)
-      ≡ from_bare (stacked g (turn.turn_levels table types result (chosen_total table) same a r entry n bs))
-  turn_as n bs f g h =
-      ap (λ p. from_bare (t.over_turn columns width p f)) (plans_same width n bs) ∙ turn_same columns width (theirs width n bs) f g h
+    pub plans_same : (m n : ℕ) (bs : List ℕ) → mine m n bs ≡ theirs m n bs
+    plans_same m n [] = refl
+    plans_same m n (b ∷ bs) =
+        let p : Plan = t.label_plan table types r.columns result style a r m n b in
+        ap (λ q. turn.chosen style.same (turn.at_label table types r.columns result (chosen_total table) style (suc n)) p q)
+        (plans_same (length p.steps + m) (suc n) bs)
+
+    turn_as : (n : ℕ) (bs : List ℕ) (f g : FromItem) → from_bare f ≡ from_bare g
+        → from_bare (t.over_turn columns width (mine width n bs) f) ≡ from_bare (stacked g (levels_at n bs))
+    turn_as n bs f g h = ap (λ p. from_bare (t.over_turn columns width p f)) (plans_same width n bs) ∙ turn_same columns width (theirs width n bs) f g h
 
   abbrev turns_of : List ℕ → ℕ → List (List Expr)
   turns_of = turn.turns table types result (chosen_total table) same a r entry
 
-  abbrev levels_at : ℕ → List ℕ → List (List Expr)
-  levels_at = turn.turn_levels table types result (chosen_total table) same a r entry
+  abbrev heads_plan : List ℕ → Plan
+  heads_plan = t.heads_turn table types r.columns result a r
+
+  abbrev heads_levels : List ℕ → List (List Expr)
+  heads_levels heads = levels_at (turn.told_by same heads) 0 heads
 
   turns_as : (heads : List ℕ) (k : ℕ) (f g : FromItem) → from_bare f ≡ from_bare g
-      → from_bare (t.over_turns columns width (mine width 0 heads) k f) ≡ from_bare (stacked g (turns_of heads k))
+      → from_bare (t.over_turns columns width (heads_plan heads) k f) ≡ from_bare (stacked g (turns_of heads k))
   turns_as heads zero f g h = h
   turns_as heads (suc k) f g h =
-      turns_as heads k (t.over_turn columns width (mine width 0 heads) f) (stacked g (levels_at 0 heads)) (turn_as 0 heads f g h)
-      ∙ ap (λ x. from_bare x) (sym (stacked_append g (levels_at 0 heads) (turns_of heads k)))
+      turns_as heads k (t.over_turn columns width (heads_plan heads) f) (stacked g (heads_levels heads)) (turn_as (turn.told_by same heads) 0 heads f g h)
+      ∙ ap (λ x. from_bare x) (sym (stacked_append g (heads_levels heads) (turns_of heads k)))
 
   first_same : select_bare (t.first table types r.columns result a r entry)
       ≡ select_bare (turn.first table types result (chosen_total table) same a r entry)
@@ -101,8 +108,8 @@ module _ (table : List Expr) (types : ℕ → Ty) (result : Ty) (a : Anf) (r : T
       let row = start table types result a r entry in
       let f : FromItem = t.level_as columns 0 row in
       let g : FromItem = subquery false (one row) in
-      all_same columns (t.over_turn columns width (mine width place (entry ∷ [])) f) (stacked g (levels_at place (entry ∷ [])))
-      (turn_as place (entry ∷ []) f g (same_level columns 0 row row refl))
+      all_same columns (t.over_turn columns width (mine (turn.numbered same) width place (entry ∷ [])) f)
+      (stacked g (levels_at (turn.numbered same) place (entry ∷ []))) (turn_as (turn.numbered same) place (entry ∷ []) f g (same_level columns 0 row row refl))
 
   going_same : (tables : ℕ)
       → from_bare (t.going tables columns) ≡ from_bare (turn.going table types result (chosen_total table) same a r entry (decimal tables))
@@ -118,7 +125,7 @@ module _ (table : List Expr) (types : ℕ → Ty) (result : Ty) (a : Anf) (r : T
   step_same tables heads k =
       let f : FromItem = t.going tables columns in
       let g : FromItem = turn.going table types result (chosen_total table) same a r entry (decimal tables) in
-      all_same columns (t.over_turns columns width (mine width 0 heads) k f) (stacked g (turns_of heads k)) (turns_as heads k f g (going_same tables))
+      all_same columns (t.over_turns columns width (heads_plan heads) k f) (stacked g (turns_of heads k)) (turns_as heads k f g (going_same tables))
 
   pub tree_is_template : (tables : ℕ) (heads : List ℕ) (k : ℕ)
       → bare (t.tree table types r.columns result a r entry tables heads k)

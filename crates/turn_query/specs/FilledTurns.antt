@@ -27,6 +27,7 @@ use Rattle.call_forms.specs.Template.{argument_cells}
 use Rattle.turn_template.specs.TurnTemplate.{Plan}
 use Rattle.turn_bodies.specs.declared.unfolding.Unfolded.{Unfolded}
 use Rattle.turn_terms.specs.Writing.{types_in}
+use Rattle.turn_query.specs.Filled.{style}
 use Rattle.turn_query.specs.Fitting.{FittingTurns}
 use Rattle.turn_query.specs.TurnsQuery.{called_labels}
 use Rattle.turn_query.specs.TurnTree as tree
@@ -34,20 +35,24 @@ use Rattle.turn_terms.specs.declared.writer.Writer.{Writer}
 
 module _ (w : Writer) (a : Anf) (r : Tail) where
   abbrev pub label_plan : ℕ → ℕ → ℕ → Plan
-  label_plan = tree.label_plan w.table.now (types_in w) w.columns.now w.result a r
+  label_plan = tree.label_plan w.table.now (types_in w) w.columns.now w.result (style w) a r
 
   abbrev pub label_plans : ℕ → ℕ → List ℕ → Plan
-  label_plans = tree.label_plans w.table.now (types_in w) w.columns.now w.result a r
+  label_plans = tree.label_plans w.table.now (types_in w) w.columns.now w.result (style w) a r
 
   abbrev pub turn_plan : ℕ → List ℕ → Plan
-  turn_plan = tree.turn_plan w.table.now (types_in w) w.columns.now w.result a r
+  turn_plan = tree.turn_plan w.table.now (types_in w) w.columns.now w.result (style w) a r
 
   abbrev pub entry_place : ℕ → ℕ
   entry_place = one_turn.entry_place w.table.now (types_in w) w.result a r
 
   -- the turn of the entry
   abbrev pub entry_turn : ℕ → Plan
-  entry_turn entry = turn_plan (entry_place entry) (entry ∷ [])
+  entry_turn = tree.entry_turn w.table.now (types_in w) w.columns.now w.result a r
+
+  -- a turn of the labels that are called
+  abbrev pub heads_turn : List ℕ → Plan
+  heads_turn = tree.heads_turn w.table.now (types_in w) w.columns.now w.result a r
 
   -- the cells of the first row
   abbrev pub start_cells : ℕ → List Expr
@@ -76,5 +81,5 @@ module _ (w : Writer) (a : Anf) (r : Tail) where
 -- the query of unfolded labels, with as many turns as fit
 pub record IsFitting (w : Writer) (a : Anf) (x : Unfolded) (entry tables asked : ℕ) (q : Query) : Type 0 where
   pub turns : ℕ
-  pub fitting : FittingTurns (length (turn_plan w a x.tail 0 (called_labels x)).steps) asked turns
+  pub fitting : FittingTurns (length (heads_turn w a x.tail (called_labels x)).steps) asked turns
   pub query : q ≡ whole w a x.tail entry tables (called_labels x) turns

@@ -45,7 +45,7 @@ use Rattle.block_forms.specs.declared.forms.Term.{Term}
 use Rattle.cte_parts.specs.Names.{table_name, row_names}
 use Rattle.cte_parts.specs.Trees.{working}
 use Rattle.turn_template.specs.TurnTemplate as turn
-use Rattle.turn_template.specs.TurnTemplate.{Plan, Ref, fenced, last_level, all_cells}
+use Rattle.turn_template.specs.TurnTemplate.{Plan, Ref, Style, fenced, last_level, all_cells}
 use Rattle.turn_terms.specs.Choosing.{chosen_total}
 use Rattle.turn_terms.specs.Sameness.{same}
 
@@ -122,6 +122,49 @@ last tables columns =
     select (col 0 0 (suc (suc columns)) ∷ col 0 0 (suc (suc (suc columns))) ∷ [])
     (working tables columns ∷ []) (Some (expr.Not (col 0 0 0)))
 
+-- ---- the plans of labels
+
+module _
+    (table : List Expr)
+    (types : ℕ → Ty)
+    (columns : List Ty)
+    (result : Ty)
+    (style : Style)
+    (a : Anf)
+    (r : Tail) where
+  abbrev total : Term → Bool
+  total = chosen_total table
+
+  -- the row has the label with this number
+  abbrev at_label : ℕ → Expr
+  at_label = turn.at_label table types columns result total style
+
+  -- where the parameters of a label's block stand
+  abbrev pub label_scope : ℕ → ℕ → Scope Ref
+  label_scope n b =
+      paired (turn.of_place table types columns result total style) turn.no_ref
+      (params_of (slice_get a.blocks b)) (get_or r.places n [])
+
+  -- the plan of label n, counted from 0, whose block is b, where m columns stand in the row
+  abbrev pub label_plan : ℕ → ℕ → ℕ → Plan
+  label_plan m n b =
+      turn.plan table types columns result total style m (at_label (suc n)) (label_scope n b)
+      (body_of a r b)
+
+  -- The plans of labels from the n-th on. A row with no label stays as it is.
+  abbrev pub label_plans : ℕ → ℕ → List ℕ → Plan
+  label_plans m n [] = record {
+    steps = [];
+    cells = all_cells (turn.width table types columns result total style);
+  }
+  label_plans m n (b ∷ bs) =
+      let p : Plan = label_plan m n b in
+      turn.chosen style.same (at_label (suc n)) p (label_plans (length p.steps + m) (suc n) bs)
+
+  -- one turn by the labels from the n-th on
+  abbrev pub turn_plan : ℕ → List ℕ → Plan
+  turn_plan n bs = label_plans (width_of (length columns)) n bs
+
 -- ---- the query
 
 module _
@@ -131,52 +174,28 @@ module _
     (result : Ty)
     (a : Anf)
     (r : Tail) where
-  abbrev total : Term → Bool
-  total = chosen_total table
+  -- the turn of the entry, of which each label is told by its number
+  abbrev pub entry_turn : ℕ → Plan
+  entry_turn entry =
+      let place : ℕ = entry_place table types result a r entry in
+      turn_plan table types columns result (turn.numbered same) a r place (entry ∷ [])
 
-  -- the row has the label with this number
-  abbrev at_label : ℕ → Expr
-  at_label = turn.at_label table types columns result total same
-
-  -- where the parameters of a label's block stand
-  abbrev pub label_scope : ℕ → ℕ → Scope Ref
-  label_scope n b =
-      paired (turn.of_place table types columns result total same) turn.no_ref
-      (params_of (slice_get a.blocks b)) (get_or r.places n [])
-
-  -- the plan of label n, counted from 0, whose block is b, where m columns stand in the row
-  abbrev pub label_plan : ℕ → ℕ → ℕ → Plan
-  label_plan m n b =
-      turn.plan table types columns result total same m (at_label (suc n)) (label_scope n b)
-      (body_of a r b)
-
-  -- The plans of labels from the n-th on. A row with no label stays as it is.
-  abbrev pub label_plans : ℕ → ℕ → List ℕ → Plan
-  label_plans m n [] = record {
-    steps = [];
-    cells = all_cells (turn.width table types columns result total same);
-  }
-  label_plans m n (b ∷ bs) =
-      let p : Plan = label_plan m n b in
-      turn.chosen same (at_label (suc n)) p (label_plans (length p.steps + m) (suc n) bs)
-
-  -- one turn by the labels from the n-th on
-  abbrev pub turn_plan : ℕ → List ℕ → Plan
-  turn_plan n bs = label_plans (width_of (length columns)) n bs
+  -- a turn of the labels that are called
+  abbrev pub heads_turn : List ℕ → Plan
+  heads_turn heads = turn_plan table types columns result (turn.told_by same heads) a r 0 heads
 
   -- the first term: the arguments, and the turn of the entry
   abbrev pub first : ℕ → Select
   first entry =
-      let place : ℕ = entry_place table types result a r entry in
       all_of (length columns)
-      (over_turn (length columns) (width_of (length columns)) (turn_plan place (entry ∷ []))
+      (over_turn (length columns) (width_of (length columns)) (entry_turn entry)
       (level_as (length columns) 0 (start table types result a r entry)))
 
   -- the second term, with k turns by these labels
   abbrev pub step : ℕ → List ℕ → ℕ → Select
   step tables heads k =
       all_of (length columns)
-      (over_turns (length columns) (width_of (length columns)) (turn_plan 0 heads) k
+      (over_turns (length columns) (width_of (length columns)) (heads_turn heads) k
       (going tables (length columns)))
 
   abbrev pub turns_table : ℕ → ℕ → List ℕ → ℕ → Recursive

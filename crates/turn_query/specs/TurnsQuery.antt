@@ -16,7 +16,7 @@ use Rattle.call_forms.specs.declared.forms.Anf.{Anf}
 use Rattle.call_forms.specs.declared.forms.Tail.{Tail}
 use Rattle.call_forms.specs.Called.{Called}
 use Rattle.call_forms.specs.Templated.{types_of}
-use Rattle.turn_template.specs.TurnTemplate.{Plan, plans, query_of}
+use Rattle.turn_template.specs.TurnTemplate.{Plan, plans, query_of, told_by}
 use Rattle.turn_bodies.specs.declared.unfolding.Unfolded.{Unfolded}
 use Rattle.turn_bodies.specs.Unfolding.{IsUnfolded}
 use Rattle.turn_equivalence.specs.InTurns.{Choices, FormsInTurns}
@@ -40,7 +40,7 @@ called_labels x = take x.heads x.tail.labels
 abbrev pub turn_steps : Function → List Slot → Ssa → Anf → Tail → ℕ → List ℕ → List Expr
 turn_steps f slots z a r entry heads =
     let p : Plan = plans (expressions f) (types_of slots z) f.result (chosen_total (expressions f))
-    same a r entry (width_of (length r.columns)) 0 heads in
+    (told_by same heads) a r entry (width_of (length r.columns)) 0 heads in
     p.steps
 
 -- The query is that of unfolded labels, over so many tables, with as many turns in an iteration as

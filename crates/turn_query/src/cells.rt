@@ -1,8 +1,7 @@
 //! The cells of rows.
 
-ghost use Rattle.std.specs.Prelude.{◌≡◌, ◌∷◌, ◌++◌, [], ◌+◌, map, pos, false, IfOk, OnOk};
-ghost use Rattle.away_values.specs.declared.types.Ty.TheVariants as ty;
-ghost use Rattle.sql_meaning.specs.Trees.{null_of, truth as truth_of, number as number_of};
+ghost use Rattle.std.specs.Prelude.{◌≡◌, ◌∷◌, ◌++◌, [], false, IfOk};
+ghost use Rattle.sql_meaning.specs.Trees.{truth as truth_of};
 ghost use Rattle.turn_template.specs.TurnTemplate as turn;
 ghost use Rattle.turn_query.specs.Filled as spec;
 ghost use Rattle.turn_terms.specs.References.{scope_of};
@@ -38,58 +37,88 @@ pub(crate) fn all_cells(alloc: Global, many: usize) -> Result<Items<Expr>, NoMem
     Ok(list)
 }
 
-/// NULL of each type.
-fn nulls(alloc: Global, types: &[Ty]) -> Result<Items<Expr>, NoMemory>
-    ensures { IfOk result (λ list. list ≡ map null_of types.now) }
+/// So many columns of the row as they are, from its third on.
+#[tactic(auto, using(crate::proofs::CellRules::one_more_kept))]
+fn kept_columns(alloc: Global, many: usize) -> Result<Items<Expr>, NoMemory>
+    ensures { IfOk result (λ list. list ≡ spec.kept many) }
 {
     let mut list = Items::new(alloc);
-    for ty in types {
-        list.push(null(alloc, *ty)?)?;
+    for i in 0..many {
+        list.push(col(0, 0, sum(i, 2)?)?)?;
     }
     Ok(list)
 }
 
+/// The result that the row has: NULL, while it goes on.
+fn kept_result(w: &Writer<'_>) -> Result<Expr, NoMemory>
+    ensures { IfOk result (λ e. e ≡ spec.kept_result w.now) }
+{
+    col(0, 0, sum(w.columns.len(), 2)?)
+}
+
+/// The class that the row has: NULL, while it goes on.
+fn kept_class(w: &Writer<'_>) -> Result<Expr, NoMemory>
+    ensures { IfOk result (λ e. e ≡ spec.kept_class w.now) }
+{
+    col(0, 0, sum(w.columns.len(), 3)?)
+}
+
+/// The number of a label. One that is called alone isn't told: the row keeps the number that it has.
+fn label_cell(alloc: Global, w: &Writer<'_>, label: usize) -> Result<Expr, NoMemory>
+    ensures { IfOk result (λ e. e ≡ spec.numbered_cell w.now label) }
+{
+    if w.alone {
+        return col(0, 0, 1);
+    }
+    number(alloc, label)
+}
+
 /// Whether the row goes on, and its label.
-fn first_cells(alloc: Global, going: bool, label: usize) -> Result<Items<Expr>, NoMemory>
-    ensures { IfOk result (λ list. list ≡ truth_of going ∷ number_of (pos label) ∷ []) }
+fn first_cells(
+    alloc: Global,
+    w: &Writer<'_>,
+    going: bool,
+    label: usize,
+) -> Result<Items<Expr>, NoMemory>
+    ensures { IfOk result (λ list. list ≡ truth_of going ∷ spec.numbered_cell w.now label ∷ []) }
 {
     let mut list = Items::new(alloc);
     list.push(truth(alloc, going)?)?;
-    list.push(number(alloc, label)?)?;
+    list.push(label_cell(alloc, w, label)?)?;
     Ok(list)
 }
 
 /// The first cells of a finished row.
 fn finished(alloc: Global, w: &Writer<'_>) -> Result<Items<Expr>, NoMemory>
     ensures { IfOk result (λ list. list
-        ≡ truth_of false ∷ number_of (pos 0) ∷ map null_of w.now.columns.now) }
+        ≡ truth_of false ∷ spec.numbered_cell w.now 0 ∷ spec.kept_columns w.now) }
 {
-    let mut list = first_cells(alloc, false, 0)?;
-    list.append(nulls(alloc, w.columns)?)?;
+    let mut list = first_cells(alloc, w, false, 0)?;
+    list.append(kept_columns(alloc, w.columns.len())?)?;
     Ok(list)
 }
 
 /// The cells of a finished row, behind which its outcome stands.
 fn ended(alloc: Global, w: &Writer<'_>, outcome: Items<Expr>) -> Result<Items<Expr>, NoMemory>
     ensures { IfOk result (λ list. list
-        ≡ truth_of false ∷ number_of (pos 0) ∷ (map null_of w.now.columns.now ++ outcome)) }
+        ≡ truth_of false ∷ spec.numbered_cell w.now 0 ∷ (spec.kept_columns w.now ++ outcome)) }
 {
     let mut list = finished(alloc, w)?;
     list.append(outcome)?;
     Ok(list)
 }
 
-/// The cells of a value that is returned: FALSE, 0, NULLs, the value, and no class.
+/// The cells of a value that is returned: FALSE, no label, the columns as they are, the value, and no class.
 pub(crate) fn value_cells(
     alloc: Global,
     w: &Writer<'_>,
     value: Expr,
 ) -> Result<Items<Expr>, NoMemory>
-    ensures { IfOk result (λ list. list ≡ spec.end_cells w.now value (null_of ty.Text)) }
+    ensures { IfOk result (λ list. list ≡ spec.end_cells w.now value (spec.kept_class w.now)) }
 {
     let mut outcome = Items::new(alloc);
     outcome.push(value)?;
-    outcome.push(null(alloc, Ty::Text)?)?;
+    outcome.push(kept_class(w)?)?;
     let list = ended(alloc, w, outcome)?;
     Ok(list)
 }
@@ -105,17 +134,17 @@ fn class_cell(alloc: Global, w: &Writer<'_>, class: Class) -> Result<Expr, NoMem
     }
 }
 
-/// The cells of a fault: FALSE, 0, NULLs, and the class. There is no memory for one that is no class.
+/// The cells of a fault: FALSE, no label, the columns as they are, no result, and the class. There is no memory for one that is no class.
 pub(crate) fn fault_cells(
     alloc: Global,
     w: &Writer<'_>,
     class: Class,
 ) -> Result<Items<Expr>, NoMemory>
     ensures { IfOk result (λ list. list
-        ≡ spec.end_cells w.now (null_of w.now.result) (spec.text_of w.now class)) }
+        ≡ spec.end_cells w.now (spec.kept_result w.now) (spec.text_of w.now class)) }
 {
     let mut outcome = Items::new(alloc);
-    outcome.push(null(alloc, w.result)?)?;
+    outcome.push(kept_result(w)?)?;
     outcome.push(class_cell(alloc, w, class)?)?;
     let list = ended(alloc, w, outcome)?;
     Ok(list)
@@ -124,9 +153,9 @@ pub(crate) fn fault_cells(
 /// The cells where a body has no end.
 pub(crate) fn endless_cells(alloc: Global, w: &Writer<'_>) -> Result<Items<Expr>, NoMemory>
     ensures { IfOk result (λ list. list
-        ≡ spec.end_cells w.now (null_of w.now.result) (null_of ty.Text)) }
+        ≡ spec.end_cells w.now (spec.kept_result w.now) (spec.kept_class w.now)) }
 {
-    let value = null(alloc, w.result)?;
+    let value = kept_result(w)?;
     value_cells(alloc, w, value)
 }
 
@@ -187,10 +216,10 @@ pub(crate) fn call_cells(
     ensures { IfOk result (λ list. list ≡ spec.call_cells w.now label
         (spec.row_cells w.now 0 (scope_of refs.now) places.now args.now w.now.columns.now)) }
 {
-    let mut list = first_cells(alloc, true, after(label)?)?;
+    let mut list = first_cells(alloc, w, true, after(label)?)?;
     list.append(row_cells(alloc, w, refs, places, args)?)?;
-    list.push(null(alloc, w.result)?)?;
-    list.push(null(alloc, Ty::Text)?)?;
+    list.push(kept_result(w)?)?;
+    list.push(kept_class(w)?)?;
     Ok(list)
 }
 

@@ -76,7 +76,31 @@ fn entry_turn(
 ) -> Result<Plan, NoMemory>
     ensures { IfOk result (λ p. as_plan p ≡ spec.entry_turn w.now anf.now tail.now entry) }
 {
-    turn_plan(alloc, w, anf, tail, entry_place(tail, entry), &[entry])
+    let mut numbered = *w;
+    numbered.alone = false;
+    turn_plan(
+        alloc,
+        &numbered,
+        anf,
+        tail,
+        entry_place(tail, entry),
+        &[entry],
+    )
+}
+
+/// A turn of the labels that are called. One that is called alone is told by nothing.
+fn heads_turn(
+    alloc: Global,
+    w: &Writer<'_>,
+    anf: &Anf,
+    tail: &Tail,
+    heads: &[u32],
+) -> Result<Plan, NoMemory>
+    ensures { IfOk result (λ p. as_plan p ≡ spec.heads_turn w.now anf.now tail.now heads.now) }
+{
+    let mut told = *w;
+    told.alone = heads.len() == 1;
+    turn_plan(alloc, &told, anf, tail, 0, heads)
 }
 
 /// The first term: the arguments, and the turn of the entry.
@@ -199,7 +223,7 @@ fn query_of(
     tables: usize,
 ) -> Result<Boxed<Query>, NoMemory>
     requires { as_plan turn.now ≡ spec.entry_turn w.now anf.now tail.now entry }
-    ensures { (heads : List ℕ) → as_plan plan.now ≡ spec.turn_plan w.now anf.now tail.now 0 heads
+    ensures { (heads : List ℕ) → as_plan plan.now ≡ spec.heads_turn w.now anf.now tail.now heads
         → IfOk result (λ q. q ≡ spec.whole w.now anf.now tail.now entry tables heads turns) }
 {
     let columns = w.columns.len();
@@ -237,7 +261,7 @@ fn behind_entry(
         (IsFitting w.now anf.now x.now entry tables asked)) }
 {
     let heads = called_labels(x);
-    let plan = turn_plan(alloc, w, anf, &x.tail, 0, heads)?;
+    let plan = heads_turn(alloc, w, anf, &x.tail, heads)?;
     match fitting_turns(plan.steps.len(), asked) {
         None => Ok(None),
         Some(turns) => Ok(Some(query_of(
@@ -295,6 +319,7 @@ pub fn turns_query(
         names: ssa.names.as_slice(),
         result: f.function.result,
         columns: x.tail.columns.as_slice(),
+        alone: false,
     };
     fitting_query(alloc, &w, anf, x, goto.entry, tables, turns)
 }

@@ -1,9 +1,6 @@
 //! The plans of labels: one turn.
 
-ghost use Rattle.std.specs.Prelude.{◌≡◌, [], suc, pos, get_or, slice_get, IfOk};
-ghost use Rattle.away_trees.specs.declared.queries.Expr.TheVariants as expr;
-ghost use Rattle.away_values.specs.declared.operators.CmpOp.TheVariants as cmp;
-ghost use Rattle.sql_meaning.specs.Trees as tree;
+ghost use Rattle.std.specs.Prelude.{◌≡◌, [], suc, get_or, slice_get, IfOk};
 ghost use Rattle.call_forms.specs.Forms as forms;
 ghost use Rattle.call_forms.specs.Scopes.{paired};
 ghost use Rattle.turn_template.specs.TurnTemplate as turn;
@@ -25,21 +22,22 @@ use std::alloc::Global;
 use turn_bodies::{body_of, params_of, places_at};
 use turn_terms::{Reference, Writer, on_columns};
 
-/// The row has the label with this number.
-fn at_label(alloc: Global, label: usize) -> Result<Expr, NoMemory>
-    ensures { IfOk result (λ e. e
-        ≡ expr.Compare cmp.Eq (tree.col 0 0 1) (tree.number (pos label))) }
+/// The row has the label with this number. Where one alone is called, it goes on.
+fn at_label(alloc: Global, w: &Writer<'_>, label: usize) -> Result<Expr, NoMemory>
+    ensures { IfOk result (λ e. e ≡ filled.at_label w.now label) }
 {
+    if w.alone {
+        return col(0, 0, 0);
+    }
     let number = Boxed::new(alloc, number(alloc, label)?)?;
     equal(alloc, col(0, 0, 1)?, number.into_inner())
 }
 
 /// The row is at the label, counted from 0.
-fn is_at(alloc: Global, label: usize) -> Result<Boxed<Expr>, NoMemory>
-    ensures { IfOk result (λ e. e
-        ≡ expr.Compare cmp.Eq (tree.col 0 0 1) (tree.number (pos (suc label)))) }
+fn is_at(alloc: Global, w: &Writer<'_>, label: usize) -> Result<Boxed<Expr>, NoMemory>
+    ensures { IfOk result (λ e. e ≡ filled.at_label w.now (suc label)) }
 {
-    Ok(Boxed::new(alloc, at_label(alloc, after(label)?)?)?)
+    Ok(Boxed::new(alloc, at_label(alloc, w, after(label)?)?)?)
 }
 
 /// Where the parameters of a label's block stand.
@@ -74,7 +72,7 @@ fn label_plan(
 {
     let body = Boxed::new(alloc, body_of(alloc, anf, tail, block)?)?;
     let refs = parameters_at(alloc, w, anf, tail, label, block)?;
-    let guard = is_at(alloc, label)?;
+    let guard = is_at(alloc, w, label)?;
     plan_of(body.get(), alloc, w, m, guard.get(), refs.as_slice())
 }
 
@@ -91,12 +89,17 @@ fn as_it_is(alloc: Global, w: &Writer<'_>) -> Result<Plan, NoMemory>
 }
 
 /// The plan of a label where the row is at it, else another.
-fn label_or(alloc: Global, label: usize, plan: Plan, other: Plan) -> Result<Plan, NoMemory>
-    ensures { IfOk result (λ p. as_plan p ≡ turn.chosen same
-        (expr.Compare cmp.Eq (tree.col 0 0 1) (tree.number (pos (suc label))))
+fn label_or(
+    alloc: Global,
+    w: &Writer<'_>,
+    label: usize,
+    plan: Plan,
+    other: Plan,
+) -> Result<Plan, NoMemory>
+    ensures { IfOk result (λ p. as_plan p ≡ turn.chosen same (filled.at_label w.now (suc label))
         (as_plan plan) (as_plan other)) }
 {
-    let condition = is_at(alloc, label)?;
+    let condition = is_at(alloc, w, label)?;
     chosen(alloc, condition.get(), plan, other)
 }
 
@@ -120,7 +123,7 @@ pub(crate) fn label_plans(
             let first = label_plan(alloc, w, anf, tail, m, label, *block)?;
             let behind = sum(first.steps.len(), m)?;
             let others = label_plans(alloc, w, anf, tail, behind, next, more)?;
-            label_or(alloc, label, first, others)
+            label_or(alloc, w, label, first, others)
         }
     }
 }

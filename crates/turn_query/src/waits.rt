@@ -1,6 +1,7 @@
 //! Bodies that may be their cells alone: what may fault waits for its one cell, so that cells fault in the order of the blocks.
 
 ghost use Rattle.std.specs.Prelude.{◌≡◌, ◌++◌, ◌∷◌, [], ◌&&◌, ◌||◌, not, cond, drop, IfOk, OnOk};
+ghost use Rattle.sql_meaning.specs.Reads.{slots_of};
 ghost use Rattle.call_forms.specs.Bodies.{sets, enters};
 ghost use Rattle.turn_bodies.specs.Trees.{as_body};
 ghost use Rattle.turn_query.specs.Filled as spec;
@@ -8,6 +9,7 @@ ghost use Rattle.turn_query.specs.Waits.{goes_on};
 ghost use Rattle.turn_template.specs.TurnTemplate as turn;
 
 use crate::cells::passed;
+use away_trees::Expr;
 use away_values::NoMemory;
 use block_forms::Term;
 use cte_parts::small;
@@ -193,6 +195,39 @@ fn is_free(waits: &[u32], name: u32, term: &Term) -> bool
     !is_in(waits, name) && reads_none(waits, term.names.as_slice())
 }
 
+/// The name beside the slot that is the whole expression.
+fn name_in(e: &Expr, names: &[u32]) -> Option<u32>
+    ensures { result ≡ turn.name_at (slots_of e.now) names.now (turn.slot_in e.now) }
+{
+    match e {
+        Expr::Slot(slot) => passed(&[*slot], names, *slot),
+        _ => None,
+    }
+}
+
+/// The name that is the whole term.
+fn name_of(w: &Writer<'_>, term: &Term) -> Option<u32>
+    ensures { result ≡ spec.name_of w.now term.now }
+{
+    match w.table.get(term.expr as usize) {
+        None => None,
+        Some(e) => name_in(e, term.names.as_slice()),
+    }
+}
+
+/// Whether nothing waits, or the name alone that is the whole term that is returned.
+fn returned_may_wait(w: &Writer<'_>, waits: &[u32], term: &Term) -> bool
+    ensures { result ≡ turn.waits_at_most waits.now (spec.name_of w.now term.now) }
+{
+    if waits.len() > 1 {
+        return false;
+    }
+    if waits.len() == 0 {
+        return true;
+    }
+    is_name(name_of(w, term), waits[0])
+}
+
 #[cycle(waits)]
 fn sets_may_wait(
     rest: &Boxed<Body>,
@@ -266,7 +301,7 @@ pub(crate) fn may_wait(
             }
             may_wait(no.get(), alloc, w, waits)
         }
-        Body::Returns(_) => Ok(none_wait(waits)),
+        Body::Returns(term) => Ok(returned_may_wait(w, waits, term)),
         Body::Fails(_) => Ok(none_wait(waits)),
         Body::Calls(_, places, args) => in_order(w, waits, places.as_slice(), args.as_slice()),
         Body::Endless => Ok(none_wait(waits)),

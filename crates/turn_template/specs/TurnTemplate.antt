@@ -228,9 +228,33 @@ next_cell waits left c more = if is_passed waits c then next_name left c more el
 abbrev pub all_cells : ℕ → List Expr
 all_cells n = map (col 0 0) (below n)
 
--- The expressions by number, the type of each name, the types of the columns, the type of the
--- result, which terms can't fault, and which cells are the same.
-module _ (table : List Expr) (types : ℕ → Ty) (columns : List Ty) (result : Ty) (total : Term → Bool) (same : Expr → Expr → Bool) where
+-- ---- names that a term stands for
+
+abbrev pub slot_in : Expr → Option ℕ
+slot_in (expr.Slot i) = Some i
+slot_in _ = None
+
+abbrev pub name_at : List ℕ → List ℕ → Option ℕ → Option ℕ
+name_at slots args None = None
+name_at slots args (Some i) = passed slots args i
+
+-- nothing waits, or this name alone
+abbrev pub waits_at_most : List ℕ → Option ℕ → Bool
+waits_at_most [] name = true
+waits_at_most (w ∷ []) name = is_name name w
+waits_at_most (w ∷ v ∷ ws) name = false
+
+-- ---- how cells are written
+
+-- Which cells are the same; and whether one label alone is called, so that a row that goes on has
+-- it, and no number has to tell it.
+pub record Style : Type 0 where
+  pub same : Expr → Expr → Bool
+  pub alone : Bool
+
+-- the expressions by number, the type of each name, the types of the columns, the type of the
+-- result, which terms can't fault, and how cells are written
+module _ (table : List Expr) (types : ℕ → Ty) (columns : List Ty) (result : Ty) (total : Term → Bool) (style : Style) where
   abbrev pub width : ℕ
   width = suc (suc (suc (suc (length columns))))
 
@@ -243,15 +267,33 @@ module _ (table : List Expr) (types : ℕ → Ty) (columns : List Ty) (result : 
   abbrev pub settled : ℕ → Expr → Scope Ref → Ty → Term → Settled
   settled m g refs t u = settle (total u) m g (term_ref refs t u)
 
+  -- what the row has already: its columns, and its result and its class, which are NULL while it
+  -- goes on
+  abbrev pub kept_columns : List Expr
+  kept_columns = map (col 0 0) (count_from 2 (length columns))
+
+  abbrev pub kept_result : Expr
+  kept_result = col 0 0 (suc (suc (length columns)))
+
+  abbrev pub kept_class : Expr
+  kept_class = col 0 0 (suc (suc (suc (length columns))))
+
+  -- the number of a label, and none
+  abbrev pub label_cell : ℕ → Expr
+  label_cell label = if style.alone then col 0 0 1 else number (pos (suc label))
+
+  abbrev pub no_label : Expr
+  no_label = if style.alone then col 0 0 1 else number (pos 0)
+
   abbrev pub end_cells : Expr → Expr → List Expr
-  end_cells value class = truth false ∷ number (pos 0) ∷ (map null_of columns ++ (value ∷ class ∷ []))
+  end_cells value class = truth false ∷ no_label ∷ (kept_columns ++ (value ∷ class ∷ []))
 
   abbrev pub row_cells : ℕ → Scope Ref → List ℕ → List ℕ → List Ty → List Expr
   row_cells i refs places args [] = []
   row_cells i refs places args (t ∷ ts) = paired (λ n. refs n 0) (null_of t) places args i ∷ row_cells (suc i) refs places args ts
 
   abbrev pub call_cells : ℕ → List Expr → List Expr
-  call_cells label row = truth true ∷ number (pos (suc label)) ∷ (row ++ (null_of result ∷ null_of ty.Text ∷ []))
+  call_cells label row = truth true ∷ label_cell label ∷ (row ++ (kept_result ∷ kept_class ∷ []))
 
   abbrev pub text_of : Class → Expr
   text_of c = cast_to ty.Text (expr.Str c.code)
@@ -263,7 +305,13 @@ module _ (table : List Expr) (types : ℕ → Ty) (columns : List Ty) (result : 
   in_order waits rest i places args [] = is_empty rest
   in_order waits rest i places args (t ∷ ts) = next_cell waits rest (passed places args i) (λ left. in_order waits left (suc i) places args ts)
 
-  -- Whether a body may be its cells alone, where these names wait: no term reads them, and each is passed on once and in order. A test is total.
+  -- the name that is the whole term
+  abbrev pub name_of : Term → Option ℕ
+  name_of t =
+      let e : Expr = get_or table t.expr expr.Null in
+      name_at (slots_of e) t.names (slot_in e)
+
+  -- Whether a body may be its cells alone, where these names wait: no term reads them, and each is passed on once and in order, or is what is returned. A test is total.
   abbrev pub may_wait : List ℕ → Body → Bool
   may_wait waits (sets n t x) =
       not (is_in waits n) && (reads_none waits t.names && cond (total t) (may_wait waits x) (may_wait (waits ++ n ∷ []) x))
@@ -271,7 +319,7 @@ module _ (table : List Expr) (types : ℕ → Ty) (columns : List Ty) (result : 
       let after : List ℕ = renamed waits params args in
       covers waits after params args && (renames after waits params args && may_wait after x)
   may_wait waits (picks t x y) = total t && (reads_none waits t.names && (may_wait waits x && may_wait waits y))
-  may_wait waits (returns t) = is_empty waits
+  may_wait waits (returns t) = waits_at_most waits (name_of t)
   may_wait waits (fails c) = is_empty waits
   may_wait waits (calls label places args) = in_order waits waits 0 places args columns
   may_wait waits endless = is_empty waits
@@ -279,11 +327,11 @@ module _ (table : List Expr) (types : ℕ → Ty) (columns : List Ty) (result : 
   abbrev pub waiting : Scope Ref → Body → List Expr
   waiting refs (sets n t x) = waiting (names n (term_ref refs (types n) t) refs) x
   waiting refs (enters params args x) = waiting (paired refs no_ref params args) x
-  waiting refs (picks t x y) = choices same (term_ref refs ty.Boolean t 0) (waiting refs x) (waiting refs y)
-  waiting refs (returns t) = end_cells (term_ref refs result t 0) (null_of ty.Text)
-  waiting refs (fails c) = end_cells (null_of result) (text_of c)
+  waiting refs (picks t x y) = choices style.same (term_ref refs ty.Boolean t 0) (waiting refs x) (waiting refs y)
+  waiting refs (returns t) = end_cells (term_ref refs result t 0) kept_class
+  waiting refs (fails c) = end_cells kept_result (text_of c)
   waiting refs (calls label places args) = call_cells label (row_cells 0 refs places args columns)
-  waiting refs endless = end_cells (null_of result) (null_of ty.Text)
+  waiting refs endless = end_cells kept_result kept_class
 
   -- ---- bodies: cells alone where they may be, and else a step for the first term that may fault
 
@@ -296,7 +344,7 @@ module _ (table : List Expr) (types : ℕ → Ty) (columns : List Ty) (result : 
       let s : Settled = settled m g refs ty.Boolean t in
       let p : Plan = plan (length s.steps + m) (both g (s.ref 0)) refs x in
       unless (may_wait [] (picks t x y)) (waiting refs (picks t x y))
-      (behind s (chosen same (s.ref 0) p (plan (length p.steps + (length s.steps + m)) (both g (is_not_true (s.ref 0))) refs y)))
+      (behind s (chosen style.same (s.ref 0) p (plan (length p.steps + (length s.steps + m)) (both g (is_not_true (s.ref 0))) refs y)))
   plan m g refs (returns t) = cells_alone (waiting refs (returns t))
   plan m g refs (fails c) = cells_alone (waiting refs (fails c))
   plan m g refs (calls label places args) = cells_alone (waiting refs (calls label places args))
@@ -304,7 +352,7 @@ module _ (table : List Expr) (types : ℕ → Ty) (columns : List Ty) (result : 
 
   -- the row has the label with this number
   abbrev pub at_label : ℕ → Expr
-  at_label n = expr.Compare cmp.Eq (col 0 0 1) (number (pos n))
+  at_label n = if style.alone then col 0 0 0 else expr.Compare cmp.Eq (col 0 0 1) (number (pos n))
 
   -- a column of r at a place, behind `go` and `fn`; what is no place is NULL
   abbrev pub of_place : ℕ → Ref
@@ -347,43 +395,60 @@ last_level m p = reads_first (count_from m (length p.steps)) p.cells
 
 -- ---- the query
 
-module _ (table : List Expr) (types : ℕ → Ty) (result : Ty) (total : Term → Bool) (same : Expr → Expr → Bool) (a : Anf) (r : Tail) (entry : ℕ) where
+module _ (table : List Expr) (types : ℕ → Ty) (result : Ty) (total : Term → Bool) (style : Style) (a : Anf) (r : Tail) (entry : ℕ) where
   abbrev pub plan_of : ℕ → ℕ → ℕ → Plan
   plan_of m n b =
-      plan table types r.columns result total same m (at_label table types r.columns result total same (suc n))
-      (paired (of_place table types r.columns result total same) no_ref (params_of (slice_get a.blocks b)) (get_or r.places n [])) (body_of a r b)
+      plan table types r.columns result total style m (at_label table types r.columns result total style (suc n))
+      (paired (of_place table types r.columns result total style) no_ref (params_of (slice_get a.blocks b)) (get_or r.places n [])) (body_of a r b)
 
   -- The plans of labels, numbered from n + 1. A row with no label stays as it is.
   abbrev pub plans : ℕ → ℕ → List ℕ → Plan
-  plans m n [] = record { steps = []; cells = all_cells (width table types r.columns result total same) }
+  plans m n [] = record { steps = []; cells = all_cells (width table types r.columns result total style) }
   plans m n (b ∷ bs) =
       let p : Plan = plan_of m n b in
-      chosen same (at_label table types r.columns result total same (suc n)) p (plans (length p.steps + m) (suc n) bs)
+      chosen style.same (at_label table types r.columns result total style (suc n)) p (plans (length p.steps + m) (suc n) bs)
 
   -- one turn by the labels numbered from n + 1, and no turn where the row is finished
   abbrev pub turn_levels : ℕ → List ℕ → List (List Expr)
   turn_levels n bs =
-      let p : Plan = plans (width table types r.columns result total same) n bs in
-      levels_of (width table types r.columns result total same) p.steps ++ last_level (width table types r.columns result total same) p ∷ []
+      let p : Plan = plans (width table types r.columns result total style) n bs in
+      levels_of (width table types r.columns result total style) p.steps ++ last_level (width table types r.columns result total style) p ∷ []
+
+-- each label is told by its number
+abbrev pub numbered : (Expr → Expr → Bool) → Style
+numbered same = record { same = same; alone = false }
+
+abbrev pub is_single : List ℕ → Bool
+is_single [] = false
+is_single (b ∷ []) = true
+is_single (b ∷ c ∷ bs) = false
+
+-- a label that is called alone is told by nothing
+abbrev pub told_by : (Expr → Expr → Bool) → List ℕ → Style
+told_by same heads = record { same = same; alone = is_single heads }
+
+module _ (table : List Expr) (types : ℕ → Ty) (result : Ty) (total : Term → Bool) (same : Expr → Expr → Bool) (a : Anf) (r : Tail) (entry : ℕ) where
+  abbrev row_width : ℕ
+  row_width = width table types r.columns result total (numbered same)
 
   -- k turns by the first labels
   abbrev pub turns : List ℕ → ℕ → List (List Expr)
   turns heads zero = []
-  turns heads (suc k) = turn_levels 0 heads ++ turns heads k
+  turns heads (suc k) = turn_levels table types result total (told_by same heads) a r entry 0 heads ++ turns heads k
 
   -- the rows of r that go on
   abbrev pub going : List ℕ → FromItem
-  going digits = subquery false (one (select (all_cells (width table types r.columns result total same)) (table_by digits ∷ []) (Some (col 0 0 0))))
+  going digits = subquery false (one (select (all_cells row_width) (table_by digits ∷ []) (Some (col 0 0 0))))
 
   -- the first term: the arguments in the entry's places, and its turn
   abbrev pub first : Select
   first =
-      select (all_cells (width table types r.columns result total same))
-      (stacked (subquery false (one (start table types result a r entry))) (turn_levels (entry_place table types result a r entry) (entry ∷ [])) ∷ []) None
+      select (all_cells row_width)
+      (stacked (subquery false (one (start table types result a r entry))) (turn_levels table types result total (numbered same) a r entry (entry_place table types result a r entry) (entry ∷ [])) ∷ []) None
 
   -- the second term, where the recursive table has the place with these digits
   abbrev pub step : List ℕ → List ℕ → ℕ → Select
-  step digits heads k = select (all_cells (width table types r.columns result total same)) (stacked (going digits) (turns heads k) ∷ []) None
+  step digits heads k = select (all_cells row_width) (stacked (going digits) (turns heads k) ∷ []) None
 
   abbrev pub query_with : List ℕ → List ℕ → ℕ → Query
   query_with digits heads k =

@@ -49,5 +49,6 @@ CallsAmong heads labels (enters params args x) = CallsAmong heads labels x
 CallsAmong heads labels (picks t x y) = CallsAmong heads labels x × CallsAmong heads labels y
 CallsAmong heads labels (returns t) = Unit {0}
 CallsAmong heads labels (fails c) = Unit {0}
-CallsAmong heads labels (calls label places args) = slice_get heads label ≡ slice_get labels label
+CallsAmong heads labels (calls label places args) =
+    (label < length heads) × (slice_get heads label ≡ slice_get labels label)
 CallsAmong heads labels endless = Unit {0}

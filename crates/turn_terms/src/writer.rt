@@ -7,7 +7,8 @@ use away_trees::Expr;
 use away_types::Slot;
 use away_values::Ty;
 
-/// The expressions by number, the slots, the slot of each name, the type of the result, and the types of the columns behind `go` and `fn`.
+/// The expressions by number, the slots, the slot of each name, the type of the result, and the types of the columns behind `go` and `fn`; and whether
+/// one label alone is called, so that a row that goes on is at it.
 #[derive(Clone, Copy)]
 pub struct Writer<'a> {
     pub table: &'a [Expr],
@@ -15,6 +16,7 @@ pub struct Writer<'a> {
     pub names: &'a [u32],
     pub result: Ty,
     pub columns: &'a [Ty],
+    pub alone: bool,
 }
 
 /// The type of a name's slot; what has none is a bigint.

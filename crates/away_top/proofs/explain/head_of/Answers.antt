@@ -6,7 +6,4 @@ pub nodes-requires : goal.nodes-requires
 nodes-requires c = let few = c.requires.few_nodes in omega arith
 
 pub returns : goal.returns
-returns c = record {
-  counts_are = same_own _ _ _ _ _ _ _ _ c.nodes.ensures c.in-Some.ensures.variables c.in-Some.ensures.loops c.len.ensures;
-  rule_is = c.head_rule.ensures;
-}
+returns c = same_own _ _ _ _ _ _ _ _ c.nodes.ensures c.in-Some.ensures.variables c.in-Some.ensures.loops c.len.ensures

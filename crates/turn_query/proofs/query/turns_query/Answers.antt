@@ -1,4 +1,4 @@
-use Rattle.std.proofs.Common.{refl, ◌∙◌, IfSome}
+use Rattle.std.proofs.Common.{false, refl, ◌∙◌, IfSome}
 use Rattle.cte_parts.proofs.Results.{ok_by}
 use Rattle.turn_terms.specs.declared.writer.Writer.{Writer}
 use Rattle.turn_query.specs.FilledTurns.{IsFitting}
@@ -19,6 +19,7 @@ returns c =
       names = c.as_slice-3.result;
       result = f.function.result;
       columns = c.as_slice-4.result;
+      alone = false;
     } in
     ok_by c.fitting_query.result (λ found. IfSome found (IsFitting w a x g.entry c.args.tables c.args.turns))
     (λ found. IfSome found (IsTurnsQuery f.function f.slots g z a x c.args.tables c.args.turns))

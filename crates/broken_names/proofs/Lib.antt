@@ -1,0 +1,9 @@
+pub mod Finding
+pub mod SeenItems
+pub mod SingleNames
+pub mod Ways
+pub mod ReasonLines
+pub mod NamesTaken
+pub mod OwnSteps
+pub mod NodeSearch
+pub mod Entries
