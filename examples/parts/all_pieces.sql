@@ -1,6 +1,6 @@
 -- The pieces within one $1, with their numbers.
 WITH RECURSIVE within(piece, number) AS (
-  SELECT CAST($1 AS text), 1
+  SELECT CAST($1 AS text), CAST(1 AS bigint)
   UNION ALL
   SELECT part.piece, within.number * part.number
   FROM within, part
