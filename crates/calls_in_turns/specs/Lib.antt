@@ -1,0 +1,3 @@
+pub mod Passing
+pub mod CallsTemplate
+pub mod CallsInTurns
