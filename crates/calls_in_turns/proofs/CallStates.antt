@@ -1,5 +1,5 @@
 -- The states of calls whose rows have one column more, which tells them apart, and what stands for them.
-use Rattle.std.proofs.Common.{◌≡◌, ◌⊎◌, ℕ, suc, Bool, false, List, [], ◌∷◌, ◌++◌, length, Ok, Err}
+use Rattle.std.proofs.Common.{◌≡◌, ◌⊎◌, ℕ, Bool, false, List, [], ◌∷◌, length, Ok, Err}
 use Rattle.std.specs.List.{AllZip}
 use Rattle.away_trees.specs.declared.queries.Query.{Query}
 use Rattle.away_values.specs.declared.types.Ty.TheVariants as ty
@@ -8,7 +8,7 @@ use Rattle.away_values.specs.declared.values.Class.{Class}
 use Rattle.away_values.specs.declared.values.Value.{Value}
 use Rattle.away_values.specs.declared.values.Value.TheVariants as val
 use Rattle.away_values.specs.Results.{Or}
-use Rattle.sql_meaning.specs.Context.{Rows, at}
+use Rattle.sql_meaning.specs.Context.{Rows}
 use Rattle.sql_meaning.specs.Working.{rows, sql}
 use Rattle.std.specs.Prelude.{Some, None}
 use Rattle.batch_law.specs.FunctionAnswers.{Tells}
@@ -24,9 +24,9 @@ abbrev pub SomeOf : {X : Type 0} → (X → Type 0) → List X → Type 0
 SomeOf P [] = ⊥
 SomeOf P (x ∷ xs) = P x ⊎ SomeOf P xs
 
--- a value behind the other columns of a call
+-- a value before the other columns of a call
 abbrev pub carrying : Value → Visited → Visited
-carrying x (goes_on i row) = goes_on i (row ++ x ∷ [])
+carrying x (goes_on i row) = goes_on i (x ∷ row)
 carrying x (gives v) = gives v
 carrying x (raises c) = raises c
 carrying x (faults c) = faults c
@@ -40,18 +40,17 @@ passed_world n w = record w { anf = passing n w.anf; tail = with_column ty.Bigin
 abbrev pub CallState : Type 0
 CallState = Value × Visited
 
--- A finished row with this result and class, where so many columns hold values before the one that tells calls apart.
+-- A finished row with this result and class, where so many columns hold values behind the one that tells calls apart.
 pub record EndedWith (alone : Bool) (many : ℕ) (x : Value) (r : List Value) (v c : Value) : Type 0 where
   pub number : ℕ
   pub row : List Value
-  pub long : length row ≡ suc many
-  pub last : at row many ≡ x
+  pub long : length row ≡ many
   pub none : alone ≡ false → number ≡ 0
-  pub is : r ≡ work false number row v c
+  pub is : r ≡ work false number (x ∷ row) v c
 
 -- the row stands for the state of a call
 abbrev pub StandsFor : Bool → ℕ → Value → Visited → List Value → Type 0
-StandsFor alone many x (goes_on i row) r = (length row ≡ many) × (r ≡ call_row [] i (row ++ x ∷ []))
+StandsFor alone many x (goes_on i row) r = (length row ≡ many) × (r ≡ call_row [] i (x ∷ row))
 StandsFor alone many x (gives v) r = EndedWith alone many x r v val.Null
 StandsFor alone many x (raises c) r = EndedWith alone many x r val.Null (val.Text c.code)
 StandsFor alone many x (faults c) r = ⊥

@@ -1,93 +1,27 @@
 -- The query over the rows of a table, each of which is a call, with several turns in an iteration.
 -- The first column of a row tells its call apart: it stands in a column of the recursive table
--- behind the others, which each turn passes on.
+-- before the others, which each turn passes on.
 --
--- WITH RECURSIVE r(go, fn, c0, .., id, res, err) AS (
---   SELECT k.go, .. FROM (.. the entry's turn over (SELECT TRUE, entry, arguments, first, NULL, NULL FROM t) AS k ..) AS k
+-- WITH RECURSIVE r(go, fn, id, c0, .., res, err) AS (
+--   SELECT k.go, .. FROM (.. the entry's turn over (SELECT TRUE, entry, first, arguments, NULL, NULL FROM t) AS k ..) AS k
 --   UNION ALL
 --   SELECT k.go, .. FROM (.. turns over (SELECT .. FROM r WHERE r.go) AS k ..) AS k)
 -- SELECT r.id, r.res, r.err FROM r WHERE NOT r.go ORDER BY r.id
-use Rattle.std.specs.Prelude.{
-  ℕ,
-  suc,
-  false,
-  true,
-  Bool,
-  pos,
-  List,
-  [],
-  ◌∷◌,
-  ◌++◌,
-  map,
-  length,
-  get_or,
-  slice_get,
-  decimal,
-  Some,
-  None,
-}
+use Rattle.std.specs.Prelude.{ℕ, false, Bool, List, [], ◌∷◌, length, decimal, Some, None}
 use Rattle.away_trees.specs.declared.queries.Expr.{Expr}
-use Rattle.away_trees.specs.declared.queries.Expr.TheVariants as expr
-use Rattle.away_trees.specs.declared.queries.Expr.TheViews.{
-  roll-Key,
-  roll-Select,
-  roll-Recursive,
-  roll-Query,
-}
+use Rattle.away_trees.specs.declared.queries.Expr.TheViews.{roll-Recursive, roll-Query}
 use Rattle.away_trees.specs.declared.queries.Query.{Query}
 use Rattle.away_trees.specs.declared.queries.Select.{Select}
 use Rattle.away_values.specs.declared.types.Ty.{Ty}
 use Rattle.away_values.specs.declared.types.Ty.TheVariants as ty
-use Rattle.sql_meaning.specs.Trees.{
-  col,
-  item,
-  number,
-  truth,
-  null_of,
-  table_by,
-  select,
-  subquery,
-  one,
-}
+use Rattle.sql_meaning.specs.Trees.{select, subquery, one}
 use Rattle.block_forms.specs.declared.forms.Term.{Term}
 use Rattle.call_forms.specs.declared.forms.Anf.{Anf}
 use Rattle.call_forms.specs.declared.forms.Tail.{Tail}
-use Rattle.call_forms.specs.Forms.{params_of}
-use Rattle.batch_law.specs.Batches.{column_cells, entry_place}
+use Rattle.batch_law.specs.Batches.{entry_place, first_of, final}
 use Rattle.turn_template.specs.TurnTemplate as turn
 use Rattle.turn_template.specs.TurnTemplate.{all_cells, stacked, numbered}
 use Rattle.calls_in_turns.specs.Passing.{passing, with_column}
-
--- the call's column, the result and the class, where so many columns hold values before it
-abbrev pub call_list : ℕ → List Expr
-call_list n =
-    col 0 0 (suc (suc n))
-    ∷ col 0 0 (suc (suc (suc n)))
-    ∷ col 0 0 (suc (suc (suc (suc n))))
-    ∷ []
-
--- SELECT id, res, err FROM r WHERE NOT go ORDER BY id
-abbrev pub ended_calls : List ℕ → ℕ → Select
-ended_calls digits n =
-    roll-Select (record {
-      list = map item (call_list n);
-      from = table_by digits ∷ [];
-      filter = Some (expr.Not (col 0 0 0));
-      order = roll-Key (record { expr = col 0 0 (suc (suc n)); descending = false }) ∷ [];
-      limit = None;
-    })
-
--- SELECT TRUE, entry label, the columns behind the first in their places, the first, no result FROM
--- the table with these digits
-abbrev pub begun_calls : Ty → Anf → Tail → ℕ → List ℕ → Select
-begun_calls result a r entry digits =
-    let label : ℕ = entry_place result a r entry in
-    let places : List ℕ = get_or r.places label [] in
-    let params : List ℕ = params_of (slice_get a.blocks entry) in
-    let cells : List Expr = column_cells 0 places params r.columns in
-    select
-    (truth true ∷ number (pos (suc label)) ∷ (cells ++ (col 0 0 0 ∷ null_of result ∷ null_of ty.Text ∷ [])))
-    (table_by digits ∷ []) None
 
 -- the expressions by number, the type of each name, the type of the result, which terms can't
 -- fault, which cells are the same, the forms, the entry, and the name that is passed on
@@ -106,12 +40,14 @@ module _
   abbrev columned : Tail
   columned = with_column ty.Bigint r
 
-  -- the first term, over the table with these digits
+  -- the first term: the calls of the table with these digits, and the entry's turn
   abbrev pub first : List ℕ → Select
   first digits =
-      let levels : List (List Expr) = turn.turn_levels table types result total (numbered same) passed columned entry (entry_place result a r entry) (entry ∷ []) in
+      let levels : List (List Expr) =
+      turn.turn_levels table types result total (numbered same) passed columned entry
+      (entry_place result a r entry) (entry ∷ []) in
       select (all_cells (turn.width table types columned.columns result total (numbered same)))
-      (stacked (subquery false (one (begun_calls result a r entry digits))) levels ∷ []) None
+      (stacked (subquery false (one (first_of result a r entry digits))) levels ∷ []) None
 
   -- over so many tables, of which the one at the place has the calls, with k turns in an iteration
   abbrev pub query_of : ℕ → ℕ → List ℕ → ℕ → Query
@@ -124,5 +60,5 @@ module _
           first = first (decimal place) ∷ [];
           second = turn.step table types result total same passed columned entry digits heads k;
         }));
-        selects = ended_calls digits (length r.columns) ∷ [];
+        selects = final digits (length r.columns) ∷ [];
       })
