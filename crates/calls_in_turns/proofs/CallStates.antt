@@ -18,7 +18,7 @@ use Rattle.cte_law.proofs.WorkingRows.{call_row}
 use Rattle.cte_law.proofs.Worlds.{World}
 use Rattle.turn_law.proofs.RowCells.{work}
 use Rattle.turn_law.proofs.States.{turned}
-use Rattle.calls_in_turns.specs.Passing.{passing, with_column}
+use Rattle.passed_names.specs.Passing.{passing, with_column}
 
 abbrev pub SomeOf : {X : Type 0} → (X → Type 0) → List X → Type 0
 SomeOf P [] = ⊥

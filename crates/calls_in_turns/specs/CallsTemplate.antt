@@ -21,7 +21,7 @@ use Rattle.call_forms.specs.declared.forms.Tail.{Tail}
 use Rattle.batch_law.specs.Batches.{entry_place, first_of, final}
 use Rattle.turn_template.specs.TurnTemplate as turn
 use Rattle.turn_template.specs.TurnTemplate.{all_cells, stacked, numbered}
-use Rattle.calls_in_turns.specs.Passing.{passing, with_column}
+use Rattle.passed_names.specs.Passing.{passing, with_column}
 
 -- the expressions by number, the type of each name, the type of the result, which terms can't
 -- fault, which cells are the same, the forms, the entry, and the name that is passed on

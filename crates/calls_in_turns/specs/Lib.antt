@@ -1,3 +1,2 @@
-pub mod Passing
 pub mod CallsTemplate
 pub mod CallsInTurns
