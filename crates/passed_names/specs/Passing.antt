@@ -25,8 +25,11 @@ block_passing n x = record { params = n ∷ x.params; set = x.set; end = end_pas
 abbrev pub passing : ℕ → Anf → Anf
 passing n a = record { blocks = map (block_passing n) a.blocks }
 
+abbrev pub next : ℕ → ℕ
+next place = suc place
+
 abbrev pub places_behind : List ℕ → List ℕ
-places_behind places = 0 ∷ map suc places
+places_behind places = 0 ∷ map next places
 
 -- the tail form with one column more before the others, in which each label has its first parameter
 abbrev pub with_column : Ty → Tail → Tail

@@ -1,6 +1,6 @@
 //! A name that each block of a normal form takes and passes on, and its column of the tail form.
 #![tactic(auto)]
 
-mod passing;
+mod names;
 
-pub use passing::{passing, with_column};
+pub use names::{passing, with_column};

@@ -66,20 +66,20 @@ module _ (w : Writer) (a : Anf) (r : Tail) where
   abbrev pub start : ℕ → Select
   start = one_turn.start w.table.now (types_in w) w.result a r
 
-  abbrev pub first : ℕ → Select
+  abbrev pub first : ℕ → Select → Select
   first = tree.first w.table.now (types_in w) w.columns.now w.result a r
 
   abbrev pub step : ℕ → List ℕ → ℕ → Select
   step = tree.step w.table.now (types_in w) w.columns.now w.result a r
 
-  abbrev pub turns_table : ℕ → ℕ → List ℕ → ℕ → Recursive
+  abbrev pub turns_table : Select → ℕ → ℕ → List ℕ → ℕ → Recursive
   turns_table = tree.turns_table w.table.now (types_in w) w.columns.now w.result a r
 
-  abbrev pub whole : ℕ → ℕ → List ℕ → ℕ → Query
+  abbrev pub whole : Select → List Select → ℕ → ℕ → List ℕ → ℕ → Query
   whole = tree.tree w.table.now (types_in w) w.columns.now w.result a r
 
--- the query of unfolded labels, with as many turns as fit
-pub record IsFitting (w : Writer) (a : Anf) (x : Unfolded) (entry tables asked : ℕ) (q : Query) : Type 0 where
+-- the query of unfolded labels over first rows, with as many turns as fit
+pub record IsFitting (w : Writer) (a : Anf) (x : Unfolded) (begun : Select) (told : List Select) (entry tables asked : ℕ) (q : Query) : Type 0 where
   pub turns : ℕ
   pub fitting : FittingTurns (length (heads_turn w a x.tail (called_labels x)).steps) asked turns
-  pub query : q ≡ whole w a x.tail entry tables (called_labels x) turns
+  pub query : q ≡ whole w a x.tail begun told entry tables (called_labels x) turns

@@ -5,3 +5,4 @@ pub mod TurnTree
 pub mod Fitting
 pub mod TurnsQuery
 pub mod FilledTurns
+pub mod CallsQuery

@@ -184,12 +184,12 @@ module _
   abbrev pub heads_turn : List ℕ → Plan
   heads_turn heads = turn_plan table types columns result (turn.told_by same heads) a r 0 heads
 
-  -- the first term: the arguments, and the turn of the entry
-  abbrev pub first : ℕ → Select
-  first entry =
+  -- the first term: first rows, and the turn of the entry
+  abbrev pub first : ℕ → Select → Select
+  first entry begun =
       all_of (length columns)
       (over_turn (length columns) (width_of (length columns)) (entry_turn entry)
-      (level_as (length columns) 0 (start table types result a r entry)))
+      (level_as (length columns) 0 begun))
 
   -- the second term, with k turns by these labels
   abbrev pub step : ℕ → List ℕ → ℕ → Select
@@ -198,18 +198,19 @@ module _
       (over_turns (length columns) (width_of (length columns)) (heads_turn heads) k
       (going tables (length columns)))
 
-  abbrev pub turns_table : ℕ → ℕ → List ℕ → ℕ → Recursive
-  turns_table entry tables heads k =
+  abbrev pub turns_table : Select → ℕ → ℕ → List ℕ → ℕ → Recursive
+  turns_table begun entry tables heads k =
       roll-Recursive (record {
         name = table_name;
         columns = row_names (length columns);
-        first = first entry ∷ [];
+        first = first entry begun ∷ [];
         second = step tables heads k;
       })
 
-  abbrev pub tree : ℕ → ℕ → List ℕ → ℕ → Query
-  tree entry tables heads k =
+  -- the query over these first rows, of whose table these selects tell
+  abbrev pub tree : Select → List Select → ℕ → ℕ → List ℕ → ℕ → Query
+  tree begun told entry tables heads k =
       roll-Query (record {
-        recursive = Some (turns_table entry tables heads k);
-        selects = last tables (length columns) ∷ [];
+        recursive = Some (turns_table begun entry tables heads k);
+        selects = told;
       })

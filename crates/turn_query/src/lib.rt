@@ -1,6 +1,7 @@
 //! The query that runs several turns in an iteration: the plan of each label's body, its levels, and its selects.
 #![tactic(auto)]
 
+mod calls;
 mod cells;
 mod classes;
 mod conditions;
@@ -14,5 +15,6 @@ mod turns;
 mod waiting;
 mod waits;
 
+pub use calls::calls_query;
 pub use laws::queries_of_turns_stand_in_turns;
 pub use query::turns_query;

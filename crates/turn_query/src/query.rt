@@ -28,6 +28,13 @@ use std::alloc::Global;
 use turn_bodies::Unfolded;
 use turn_terms::Writer;
 
+/// The first rows, below the turn of the entry, and what is told of the recursive table.
+#[derive(Drop)]
+pub(crate) struct Ends {
+    pub(crate) begun: Boxed<Select>,
+    pub(crate) told: Items<Select>,
+}
+
 /// The most selects that stand one over another in a term: neither the reader of texts nor databases take queries that nest much deeper.
 const MOST_LEVELS: usize = 120;
 
@@ -49,21 +56,6 @@ fn fitting_turns(steps: usize, asked: usize) -> Option<usize>
     } else {
         Some(most)
     }
-}
-
-/// The first row as the item below the turn of the entry.
-fn start_item(
-    alloc: Global,
-    w: &Writer<'_>,
-    anf: &Anf,
-    tail: &Tail,
-    entry: u32,
-) -> Result<Boxed<FromItem>, NoMemory>
-    ensures { IfOk result (λ i. i ≡ tree.level_as (length w.now.columns.now) 0
-        (spec.start w.now anf.now tail.now entry)) }
-{
-    let start = start(alloc, w, anf, tail, entry)?;
-    level_as(alloc, w.columns.len(), 0, start)
 }
 
 /// The turn of the entry.
@@ -103,21 +95,20 @@ fn heads_turn(
     turn_plan(alloc, &told, anf, tail, 0, heads)
 }
 
-/// The first term: the arguments, and the turn of the entry.
+/// The first term: first rows, and the turn of the entry.
 fn first(
     alloc: Global,
     w: &Writer<'_>,
-    anf: &Anf,
-    tail: &Tail,
-    entry: u32,
+    begun: Boxed<Select>,
     turn: &Plan,
 ) -> Result<Boxed<Select>, NoMemory>
-    requires { as_plan turn.now ≡ spec.entry_turn w.now anf.now tail.now entry }
-    ensures { IfOk result (λ s. s ≡ spec.first w.now anf.now tail.now entry) }
+    ensures { (anf : Anf) (tail : Tail) (entry : ℕ)
+        → as_plan turn.now ≡ spec.entry_turn w.now anf tail entry
+        → IfOk result (λ s. s ≡ spec.first w.now anf tail entry begun) }
 {
     let columns = w.columns.len();
     let width = sum(columns, 4)?;
-    let start = start_item(alloc, w, anf, tail, entry)?;
+    let start = level_as(alloc, columns, 0, begun)?;
     let item = over_turn(alloc, columns, width, turn, start)?;
     all_of(alloc, columns, item)
 }
@@ -161,7 +152,7 @@ fn outcomes(alloc: Global, columns: usize) -> Result<Items<Item>, NoMemory>
 }
 
 /// The row is finished.
-fn is_over(alloc: Global) -> Result<Boxed<Expr>, NoMemory>
+pub(crate) fn is_over(alloc: Global) -> Result<Boxed<Expr>, NoMemory>
     ensures { IfOk result (λ e. e ≡ expr.Not (trees.col 0 0 0)) }
 {
     Ok(Boxed::new(alloc, not(alloc, col(0, 0, 0)?)?)?)
@@ -210,27 +201,25 @@ fn over_table(
     Ok(Boxed::new(alloc, query)?)
 }
 
-/// The query with the turn of the entry, and the turns of a plan.
+/// The query with the turn of the entry over first rows, the turns of a plan, and selects over the table.
 fn query_of(
     alloc: Global,
     w: &Writer<'_>,
-    anf: &Anf,
-    tail: &Tail,
-    entry: u32,
+    ends: Ends,
     turn: &Plan,
     plan: &Plan,
     turns: usize,
     tables: usize,
 ) -> Result<Boxed<Query>, NoMemory>
-    requires { as_plan turn.now ≡ spec.entry_turn w.now anf.now tail.now entry }
-    ensures { (heads : List ℕ) → as_plan plan.now ≡ spec.heads_turn w.now anf.now tail.now heads
-        → IfOk result (λ q. q ≡ spec.whole w.now anf.now tail.now entry tables heads turns) }
+    ensures { (anf : Anf) (tail : Tail) (entry : ℕ) (heads : List ℕ)
+        → as_plan turn.now ≡ spec.entry_turn w.now anf tail entry
+        → as_plan plan.now ≡ spec.heads_turn w.now anf tail heads
+        → IfOk result (λ q. q ≡ spec.whole w.now anf tail ends.begun ends.told entry tables heads turns) }
 {
     let columns = w.columns.len();
     let second = turns_of(alloc, columns, plan, turns, tables)?;
-    let first = first(alloc, w, anf, tail, entry, turn)?;
-    let last = last(alloc, tables, columns)?;
-    over_table(alloc, columns, first, second, last)
+    let first = first(alloc, w, ends.begun, turn)?;
+    over_table(alloc, columns, first, second, ends.told)
 }
 
 /// The labels that are called: the first ones.
@@ -250,39 +239,38 @@ fn behind_entry(
     w: &Writer<'_>,
     anf: &Anf,
     x: &Unfolded,
-    entry: u32,
+    ends: Ends,
     turn: &Plan,
     tables: usize,
     asked: usize,
 ) -> Result<Option<Boxed<Query>>, NoMemory>
-    requires some { 0 < asked }
-    requires turn { as_plan turn.now ≡ spec.entry_turn w.now anf.now x.now.tail entry }
-    ensures { IfOk result (λ found. IfSome found
-        (IsFitting w.now anf.now x.now entry tables asked)) }
+    requires { 0 < asked }
+    ensures { (entry : ℕ) → as_plan turn.now ≡ spec.entry_turn w.now anf.now x.now.tail entry
+        → IfOk result (λ found. IfSome found
+        (IsFitting w.now anf.now x.now ends.begun ends.told entry tables asked)) }
 {
     let heads = called_labels(x);
     let plan = heads_turn(alloc, w, anf, &x.tail, heads)?;
     match fitting_turns(plan.steps.len(), asked) {
         None => Ok(None),
-        Some(turns) => Ok(Some(query_of(
-            alloc, w, anf, &x.tail, entry, turn, &plan, turns, tables,
-        )?)),
+        Some(turns) => Ok(Some(query_of(alloc, w, ends, turn, &plan, turns, tables)?)),
     }
 }
 
 /// The query of a writer, with as many turns as fit.
-fn fitting_query(
+pub(crate) fn fitting_query(
     alloc: Global,
     w: &Writer<'_>,
     anf: &Anf,
     x: &Unfolded,
+    ends: Ends,
     entry: u32,
     tables: usize,
     asked: usize,
 ) -> Result<Option<Boxed<Query>>, NoMemory>
     requires { 0 < asked }
     ensures { IfOk result (λ found. IfSome found
-        (IsFitting w.now anf.now x.now entry tables asked)) }
+        (IsFitting w.now anf.now x.now ends.begun ends.told entry tables asked)) }
 {
     if called_labels(x).len() > MOST_LABELS {
         return Ok(None);
@@ -291,7 +279,7 @@ fn fitting_query(
     if turn.steps.len() >= MOST_LEVELS {
         return Ok(None);
     }
-    behind_entry(alloc, w, anf, x, entry, &turn, tables, asked)
+    behind_entry(alloc, w, anf, x, ends, &turn, tables, asked)
 }
 
 /// The query of unfolded labels over so many tables, with as many turns in an iteration as are asked for, or fewer, where more selects would stand one
@@ -321,5 +309,9 @@ pub fn turns_query(
         columns: x.tail.columns.as_slice(),
         alone: false,
     };
-    fitting_query(alloc, &w, anf, x, goto.entry, tables, turns)
+    let ends = Ends {
+        begun: start(alloc, &w, anf, &x.tail, goto.entry)?,
+        told: last(alloc, tables, x.tail.columns.len())?,
+    };
+    fitting_query(alloc, &w, anf, x, ends, goto.entry, tables, turns)
 }
