@@ -1,1 +1,4 @@
 pub mod CallStates
+pub mod PassedBodies
+pub mod PassedVisits
+pub mod PassableForms

@@ -1,6 +1,6 @@
 //! The forms with one name more.
 
-ghost use Rattle.std.specs.Prelude.{◌≡◌, ◌∷◌, ◌++◌, map, suc, IfOk, OnOk};
+ghost use Rattle.std.specs.Prelude.{◌≡◌, ◌∷◌, map, suc, IfOk};
 ghost use Rattle.away_values.specs.declared.types.Ty.TheVariants as types;
 ghost use Rattle.passed_names.specs.Passing as spec;
 
@@ -72,27 +72,14 @@ fn block_passing(alloc: Global, name: u32, block: &AnfBlock) -> Result<AnfBlock,
     })
 }
 
-/// Adds blocks that pass the name on.
-fn add_blocks(
-    alloc: Global,
-    list: &mut Items<AnfBlock>,
-    name: u32,
-    blocks: &[AnfBlock],
-) -> Result<(), NoMemory>
-    ensures { OnOk result (list.new ≡ list.old ++ map (spec.block_passing name) blocks.now) }
-{
-    for block in blocks {
-        list.push(block_passing(alloc, name, block)?)?;
-    }
-    Ok(())
-}
-
 /// The normal form in which each block has the name as its first parameter, and each call passes it on.
 pub fn passing(alloc: Global, anf: &Anf, name: u32) -> Result<Anf, NoMemory>
     ensures { IfOk result (λ a. a ≡ spec.passing name anf.now) }
 {
     let mut blocks = Items::new(alloc);
-    add_blocks(alloc, &mut blocks, name, anf.blocks.as_slice())?;
+    for block in anf.blocks.as_slice() {
+        blocks.push(block_passing(alloc, name, block)?)?;
+    }
     Ok(Anf { blocks })
 }
 
@@ -106,38 +93,27 @@ fn after_place(place: u32) -> Result<u32, NoMemory>
     }
 }
 
-/// Adds the columns behind those at the places.
-fn add_places(list: &mut Items<u32>, places: &[u32]) -> Result<(), NoMemory>
-    ensures { OnOk result (list.new ≡ list.old ++ map spec.next places.now) }
-{
-    for place in places {
-        list.push(after_place(*place)?)?;
-    }
-    Ok(())
-}
-
 /// The first column, and those behind the places.
 fn places_behind(alloc: Global, places: &[u32]) -> Result<Items<u32>, NoMemory>
     ensures { IfOk result (λ list. list ≡ spec.places_behind places.now) }
 {
     let mut list = Items::new(alloc);
     list.push(0)?;
-    add_places(&mut list, places)?;
+    for place in places {
+        list.push(after_place(*place)?)?;
+    }
     Ok(list)
 }
 
-/// Adds the places of labels, with one column before the others.
-fn add_labels(
-    alloc: Global,
-    list: &mut Items<Items<u32>>,
-    places: &[Items<u32>],
-) -> Result<(), NoMemory>
-    ensures { OnOk result (list.new ≡ list.old ++ map spec.places_behind places.now) }
+/// The places of labels, with one column before the others.
+fn all_behind(alloc: Global, places: &[Items<u32>]) -> Result<Items<Items<u32>>, NoMemory>
+    ensures { IfOk result (λ list. list ≡ map spec.places_behind places.now) }
 {
+    let mut list = Items::new(alloc);
     for own in places {
         list.push(places_behind(alloc, own.as_slice())?)?;
     }
-    Ok(())
+    Ok(list)
 }
 
 fn columns_behind(alloc: Global, columns: &[Ty]) -> Result<Items<Ty>, NoMemory>
@@ -153,11 +129,9 @@ fn columns_behind(alloc: Global, columns: &[Ty]) -> Result<Items<Ty>, NoMemory>
 pub fn with_column(alloc: Global, tail: &Tail) -> Result<Tail, NoMemory>
     ensures { IfOk result (λ r. r ≡ spec.with_column types.Bigint tail.now) }
 {
-    let mut places = Items::new(alloc);
-    add_labels(alloc, &mut places, tail.places.as_slice())?;
     Ok(Tail {
         labels: Items::from_slice(alloc, tail.labels.as_slice())?,
         columns: columns_behind(alloc, tail.columns.as_slice())?,
-        places,
+        places: all_behind(alloc, tail.places.as_slice())?,
     })
 }
