@@ -2,3 +2,10 @@ pub mod CallStates
 pub mod PassedBodies
 pub mod PassedVisits
 pub mod PassableForms
+pub mod ManyRows
+pub mod CallTurns
+pub mod CallIterations
+pub mod CallsAsFunctions
+pub mod CheckedCalls
+pub mod OneCall
+pub mod EndedCalls

@@ -7,6 +7,7 @@ pub mod WaitSteps
 pub mod Numbers
 pub mod Nameless
 pub mod TreeIsTemplate
+pub mod CallEnds
 pub mod Standing
 pub mod PlanSteps
 pub mod LevelRules

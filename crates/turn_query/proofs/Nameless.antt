@@ -4,12 +4,13 @@ use Rattle.away_trees.specs.declared.queries.Expr.{Expr}
 use Rattle.away_trees.specs.declared.queries.Expr.TheVariants as expr
 use Rattle.away_trees.specs.declared.queries.FromItem.{FromItem}
 use Rattle.away_trees.specs.declared.queries.Item.{Item}
+use Rattle.away_trees.specs.declared.queries.Key.{Key}
 use Rattle.away_trees.specs.declared.queries.Source.{Source}
 use Rattle.away_trees.specs.declared.queries.Source.TheVariants as source
 use Rattle.away_trees.specs.declared.queries.Select.{Select}
 use Rattle.away_trees.specs.declared.queries.Query.{Query}
 use Rattle.away_trees.specs.declared.queries.Expr.TheViews.{roll-FromItem, roll-Select, roll-Recursive, roll-Query}
-use Rattle.away_trees.specs.Algebra.{expr_of, item_of, from_of, select_of, query_of}
+use Rattle.away_trees.specs.Algebra.{expr_of, item_of, key_of, from_of, select_of, query_of}
 use Rattle.away_trees.proofs.Equations as eq
 use Rattle.sql_meaning.specs.Names.{nameless, bare, bare_columns, bare_select, bare_query, bare_recursive}
 use Rattle.sql_meaning.specs.Trees.{item, subquery, one}
@@ -40,19 +41,24 @@ same_one s t h =
 pub same_level : (columns steps : ℕ) (s t : Select) → select_bare s ≡ select_bare t → from_bare (level_as columns steps s) ≡ from_bare (subquery false (one t))
 same_level columns steps s t h = level_is columns steps s ∙ (ap sub_bare (same_one s t h) ∙ sym (sub_is t))
 
-pub same_select : (list : List Item) (f g : FromItem) (filter limit : Option Expr) → from_bare f ≡ from_bare g
-    → select_bare (roll-Select (record { list = list; from = f ∷ []; filter = filter; order = []; limit = limit }))
-    ≡ select_bare (roll-Select (record { list = list; from = g ∷ []; filter = filter; order = []; limit = limit }))
-same_select list f g filter limit h =
-    eq.of_select nameless list (f ∷ []) filter [] limit
+pub same_ordered : (list : List Item) (f g : FromItem) (filter : Option Expr) (order : List Key) (limit : Option Expr) → from_bare f ≡ from_bare g
+    → select_bare (roll-Select (record { list = list; from = f ∷ []; filter = filter; order = order; limit = limit }))
+    ≡ select_bare (roll-Select (record { list = list; from = g ∷ []; filter = filter; order = order; limit = limit }))
+same_ordered list f g filter order limit h =
+    eq.of_select nameless list (f ∷ []) filter order limit
     ∙ (ap (λ x. bare_select (record {
       list = map (λ i. item_of nameless i) list;
       from = x ∷ [];
       filter = option_map (λ e. expr_of nameless e) filter;
-      order = [];
+      order = map (λ k. key_of nameless k) order;
       limit = option_map (λ e. expr_of nameless e) limit;
     })) h
-    ∙ sym (eq.of_select nameless list (g ∷ []) filter [] limit))
+    ∙ sym (eq.of_select nameless list (g ∷ []) filter order limit))
+
+pub same_select : (list : List Item) (f g : FromItem) (filter limit : Option Expr) → from_bare f ≡ from_bare g
+    → select_bare (roll-Select (record { list = list; from = f ∷ []; filter = filter; order = []; limit = limit }))
+    ≡ select_bare (roll-Select (record { list = list; from = g ∷ []; filter = filter; order = []; limit = limit }))
+same_select list f g filter limit h = same_ordered list f g filter [] limit h
 
 pub same_fence : (es : List Expr) (f g : FromItem) → from_bare f ≡ from_bare g → select_bare (fenced es f) ≡ select_bare (fenced es g)
 same_fence es f g h = same_select (map item es) f g None (Some expr.Null) h

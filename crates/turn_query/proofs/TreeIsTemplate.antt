@@ -2,14 +2,17 @@
 use Rattle.std.proofs.Common.{◌≡◌, refl, ap, sym, ◌∙◌, ℕ, zero, suc, ◌+◌, false, List, [], ◌∷◌, ◌++◌, map, length, Some, None, decimal}
 use Rattle.away_trees.specs.declared.queries.Expr.{Expr}
 use Rattle.away_trees.specs.declared.queries.Expr.TheVariants as expr
+use Rattle.away_trees.specs.declared.queries.Expr.TheViews.{roll-Recursive, roll-Query}
 use Rattle.away_trees.specs.declared.queries.FromItem.{FromItem}
+use Rattle.away_trees.specs.declared.queries.Query.{Query}
+use Rattle.away_trees.specs.declared.queries.Select.{Select}
 use Rattle.away_values.specs.declared.types.Ty.{Ty}
 use Rattle.sql_meaning.specs.Names.{bare}
 use Rattle.sql_meaning.specs.Template.{last}
 use Rattle.sql_meaning.specs.Trees.{col, item, select, subquery, one, table_by}
 use Rattle.call_forms.specs.declared.forms.Anf.{Anf}
 use Rattle.call_forms.specs.declared.forms.Tail.{Tail}
-use Rattle.call_forms.specs.Template.{entry_place, start}
+use Rattle.call_forms.specs.Template.{entry_place}
 use Rattle.cte_parts.specs.Names.{table_name, row_names}
 use Rattle.cte_parts.specs.Trees.{working}
 use Rattle.turn_template.specs.TurnTemplate as turn
@@ -49,7 +52,7 @@ all_same columns f g h = same_select (map item (all_cells (t.width_of columns)))
 working_same : (tables columns : ℕ) → from_bare (working tables columns) ≡ from_bare (table_by (decimal tables))
 working_same tables columns = refl
 
-last_same : (tables columns : ℕ) → select_bare (t.last tables columns) ≡ select_bare (last (decimal tables) columns)
+pub last_same : (tables columns : ℕ) → select_bare (t.last tables columns) ≡ select_bare (last (decimal tables) columns)
 last_same tables columns =
     same_select (map item (col 0 0 (suc (suc columns)) ∷ col 0 0 (suc (suc (suc columns))) ∷ [])) (working tables columns) (table_by (decimal tables))
     (Some (expr.Not (col 0 0 0))) None (working_same tables columns)
@@ -101,15 +104,20 @@ module _ (table : List Expr) (types : ℕ → Ty) (result : Ty) (a : Anf) (r : T
       turns_as heads k (t.over_turn columns width (heads_plan heads) f) (stacked g (heads_levels heads)) (turn_as (turn.told_by same heads) 0 heads f g h)
       ∙ ap (λ x. from_bare x) (sym (stacked_append g (heads_levels heads) (turns_of heads k)))
 
-  first_same : select_bare (t.first table types r.columns result a r entry)
-      ≡ select_bare (turn.first table types result (chosen_total table) same a r entry)
-  first_same =
+  -- the first term over first rows
+  abbrev first_over : Select → Select
+  first_over begun =
+      let levels : List (List Expr) = levels_at (turn.numbered same) (entry_place table types result a r entry) (entry ∷ []) in
+      select (all_cells width) (stacked (subquery false (one begun)) levels ∷ []) None
+
+  first_same : (begun other : Select) → select_bare begun ≡ select_bare other
+      → select_bare (t.first table types r.columns result a r entry begun) ≡ select_bare (first_over other)
+  first_same begun other h =
       let place : ℕ = entry_place table types result a r entry in
-      let row = start table types result a r entry in
-      let f : FromItem = t.level_as columns 0 row in
-      let g : FromItem = subquery false (one row) in
+      let f : FromItem = t.level_as columns 0 begun in
+      let g : FromItem = subquery false (one other) in
       all_same columns (t.over_turn columns width (mine (turn.numbered same) width place (entry ∷ [])) f)
-      (stacked g (levels_at (turn.numbered same) place (entry ∷ []))) (turn_as (turn.numbered same) place (entry ∷ []) f g (same_level columns 0 row row refl))
+      (stacked g (levels_at (turn.numbered same) place (entry ∷ []))) (turn_as (turn.numbered same) place (entry ∷ []) f g (same_level columns 0 begun other h))
 
   going_same : (tables : ℕ)
       → from_bare (t.going tables columns) ≡ from_bare (turn.going table types result (chosen_total table) same a r entry (decimal tables))
@@ -127,12 +135,25 @@ module _ (table : List Expr) (types : ℕ → Ty) (result : Ty) (a : Anf) (r : T
       let g : FromItem = turn.going table types result (chosen_total table) same a r entry (decimal tables) in
       all_same columns (t.over_turns columns width (heads_plan heads) k f) (stacked g (turns_of heads k)) (turns_as heads k f g (going_same tables))
 
-  pub tree_is_template : (tables : ℕ) (heads : List ℕ) (k : ℕ)
-      → bare (t.tree table types r.columns result a r entry tables heads k)
-      ≡ bare (turn.query_of table types result (chosen_total table) same a r entry tables heads k)
-  tree_is_template tables heads k =
-      bare_whole table_name (row_names columns) (t.first table types r.columns result a r entry ∷ [])
-      (t.step table types r.columns result a r tables heads k) (t.last tables columns ∷ [])
-      ∙ ((λ i. bare_of (first_same i ∷ []) (step_same tables heads k i) (last_same tables columns i ∷ []))
-      ∙ sym (bare_whole [] [] (turn.first table types result (chosen_total table) same a r entry ∷ [])
-      (turn.step table types result (chosen_total table) same a r entry (decimal tables) heads k) (last (decimal tables) columns ∷ [])))
+  -- the query over first rows, of whose table selects tell
+  abbrev pub template_over : Select → List Select → ℕ → List ℕ → ℕ → Query
+  template_over begun told tables heads k =
+      roll-Query (record {
+        recursive = Some (roll-Recursive (record {
+          name = [];
+          columns = [];
+          first = first_over begun ∷ [];
+          second = turn.step table types result (chosen_total table) same a r entry (decimal tables) heads k;
+        }));
+        selects = told;
+      })
+
+  pub tree_is_template : (begun other : Select) (told others : List Select) (tables : ℕ) (heads : List ℕ) (k : ℕ) → select_bare begun ≡ select_bare other
+      → map (λ s. select_bare s) told ≡ map (λ s. select_bare s) others
+      → bare (t.tree table types r.columns result a r begun told entry tables heads k) ≡ bare (template_over other others tables heads k)
+  tree_is_template begun other told others tables heads k begins tells =
+      bare_whole table_name (row_names columns) (t.first table types r.columns result a r entry begun ∷ [])
+      (t.step table types r.columns result a r tables heads k) told
+      ∙ ((λ i. bare_of (first_same begun other begins i ∷ []) (step_same tables heads k i) (tells i))
+      ∙ sym (bare_whole [] [] (first_over other ∷ [])
+      (turn.step table types result (chosen_total table) same a r entry (decimal tables) heads k) others))

@@ -1,10 +1,8 @@
 //! The query of the calls that the rows of a table are.
 
-ghost use Rattle.std.specs.Prelude.{◌≡◌, ◌∷◌, [], ◌<◌, false, length, map, Some, None, IfOk, IfSome};
-ghost use Rattle.away_trees.specs.declared.queries.Expr.TheVariants as expr;
-ghost use Rattle.away_trees.specs.declared.queries.Expr.TheViews.{roll-Key, roll-Select};
+ghost use Rattle.std.specs.Prelude.{◌≡◌, ◌∷◌, [], ◌<◌, false, IfOk, IfSome};
+ghost use Rattle.away_trees.specs.declared.queries.Expr.TheViews.{roll-Key};
 ghost use Rattle.block_forms.specs.Expressions.{expressions};
-ghost use Rattle.cte_parts.specs.Trees.{working};
 ghost use Rattle.sql_meaning.specs.Trees as tree;
 ghost use Rattle.turn_query.specs.CallsQuery.{IsCallsQuery, told};
 

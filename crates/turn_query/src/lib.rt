@@ -16,5 +16,5 @@ mod waiting;
 mod waits;
 
 pub use calls::calls_query;
-pub use laws::queries_of_turns_stand_in_turns;
+pub use laws::{queries_of_calls_stand_in_turns, queries_of_turns_stand_in_turns};
 pub use query::turns_query;

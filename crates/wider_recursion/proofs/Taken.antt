@@ -17,14 +17,15 @@ use Rattle.away_trees.specs.declared.queries.Source.{Source}
 use Rattle.away_trees.specs.declared.schemas.Schema.{Schema}
 use Rattle.away_types.specs.CheckedQueries.{resolved_file}
 use Rattle.away_typing.specs.ParameterLists.{params_of}
+use Rattle.away_typing.specs.RowQueries.{judged_rows, rows_by, shape_note}
 use Rattle.away_typing.specs.Trees.{kinds_of_select}
 use Rattle.away_typing.specs.Typing.{Shape}
 use Rattle.away_typing.specs.Wholes.{answer_note, final_shape, first_shape, in_own_from, is_never, is_once, is_recursion, is_table, judged, judged_by, over_tables, recursion, recursive_types, uses_note, with_table}
 use Rattle.away_typing.specs.declared.kind.Kind.{Kind}
 use Rattle.away_typing.specs.declared.wholes.Recursion.{Recursion}
-use Rattle.wider_recursion.specs.Laws.{StrictIsTaken}
+use Rattle.wider_recursion.specs.Laws.{StrictIsTaken, StrictRowsAreTaken}
 use Rattle.wider_recursion.specs.TakenRows.{any_takes, source_takes, takes_rows}
-use Rattle.wider_recursion.specs.Wider.{is_wider_recursion, note_for_databases, wider_recursion}
+use Rattle.wider_recursion.specs.Wider.{is_wider_recursion, note_for_databases, rows_judged_for_databases, wider_recursion}
 use Rattle.wider_recursion.proofs.CleanNotes.{Clean, both_clean, clean_parts, holds_clean, test_holds}
 use Rattle.wider_recursion.proofs.RowRules.{select_takes}
 
@@ -109,5 +110,34 @@ unfolding judged note_for_databases
 strict_taken s q h =
     let f : File = resolved_file s q in
     judged_taken f (recursion s f.first.refers f.second.refers (out-Query f.query).recursive)
+    (wider_recursion s f.first.refers f.second.refers (out-Query f.query).recursive)
+    (within s f.first.refers f.second.refers (out-Query f.query).recursive) h
+
+-- ---- all rows
+
+-- the note of a whole for all of its rows, by the parts that depend on the recursive table
+abbrev rows_whole : File → Note → Shape → Note
+rows_whole f note shape = joined (joined f.note (uses_note f.query)) (joined (breaks rule.Types (params_of f.query).clash) (joined note (shape_note shape)))
+
+rows_whole_taken : (f : File) (n m : Note) (shape : Shape) → (Clean n → Clean m) → Clean (rows_whole f n shape) → Clean (rows_whole f m shape)
+rows_whole_taken f n m shape more h =
+    let a : Note = joined f.note (uses_note f.query) in
+    let p : Note = breaks rule.Types (params_of f.query).clash in
+    let outer = clean_parts a (joined p (joined n (shape_note shape))) h in
+    let middle = clean_parts p (joined n (shape_note shape)) outer.1 in
+    let inner = clean_parts n (shape_note shape) middle.1 in
+    both_clean a (joined p (joined m (shape_note shape))) outer.0
+    (both_clean p (joined m (shape_note shape)) middle.0 (both_clean m (shape_note shape) (more inner.0) inner.1))
+
+rows_taken : (f : File) (strict wider : Recursion) → Within strict wider → Clean (rows_by f strict).note → Clean (rows_by f wider).note
+rows_taken f strict wider t h =
+    let same : final_shape f.query wider ≡ final_shape f.query strict = ap (λ tables. final_shape f.query (record { tables = tables; note = strict.note })) t.0 in
+    ap (λ shape. (rows_whole f wider.note shape).least) same ∙ rows_whole_taken f strict.note wider.note (final_shape f.query strict) t.1 h
+
+pub strict_rows_taken : StrictRowsAreTaken
+unfolding judged_rows rows_judged_for_databases
+strict_rows_taken s q h =
+    let f : File = resolved_file s q in
+    rows_taken f (recursion s f.first.refers f.second.refers (out-Query f.query).recursive)
     (wider_recursion s f.first.refers f.second.refers (out-Query f.query).recursive)
     (within s f.first.refers f.second.refers (out-Query f.query).recursive) h

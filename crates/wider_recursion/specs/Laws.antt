@@ -15,15 +15,22 @@ use Rattle.away_trees.specs.declared.queries.Select.{Select}
 use Rattle.away_trees.specs.declared.queries.Source.TheVariants as source
 use Rattle.away_trees.specs.declared.schemas.Schema.{Schema}
 use Rattle.away_types.specs.CheckedQueries.{query_note}
+use Rattle.away_types.specs.CheckedRows.{rows_note}
 use Rattle.away_types.specs.Refusals.{IsUnbroken}
 use Rattle.wider_recursion.specs.TakenRows.{takes_rows}
-use Rattle.wider_recursion.specs.Wider.{query_note_for_databases}
+use Rattle.wider_recursion.specs.Wider.{query_note_for_databases, rows_note_for_databases}
 
 -- what breaks no rule of the language breaks none as databases have them
 abbrev pub StrictIsTaken : Type 0
 StrictIsTaken =
     (s : Schema) (q : Query) → IsUnbroken (query_note s q)
     → IsUnbroken (query_note_for_databases s q)
+
+-- the same of a query for all of its rows
+abbrev pub StrictRowsAreTaken : Type 0
+StrictRowsAreTaken =
+    (s : Schema) (q : Query) → IsUnbroken (rows_note s q)
+    → IsUnbroken (rows_note_for_databases s q)
 
 -- the select as an item of FROM
 abbrev pub over_select : Select → Bool → Name → List Name → FromItem

@@ -10,6 +10,7 @@ use Rattle.away_trees.specs.declared.queries.Query.{Query}
 use Rattle.away_trees.specs.declared.queries.Recursive.{Recursive}
 use Rattle.away_trees.specs.declared.schemas.Schema.{Schema}
 use Rattle.away_types.specs.CheckedQueries.{resolved_file}
+use Rattle.away_typing.specs.RowQueries.{rows_by}
 use Rattle.away_typing.specs.Trees.{kinds_of_select}
 use Rattle.away_typing.specs.Typing.{Shape}
 use Rattle.away_typing.specs.Wholes.{
@@ -60,6 +61,15 @@ unfoldable pub note_for_databases : Schema → File → Note
 note_for_databases s f =
     let r = wider_recursion s f.first.refers f.second.refers (out-Query f.query).recursive in
     (judged_by f r).note
+
+-- the same of a query for all of its rows, whatever these are
+unfoldable pub rows_judged_for_databases : Schema → File → Note
+rows_judged_for_databases s f =
+    let r = wider_recursion s f.first.refers f.second.refers (out-Query f.query).recursive in
+    (rows_by f r).note
+
+abbrev pub rows_note_for_databases : Schema → Query → Note
+rows_note_for_databases s q = rows_judged_for_databases s (resolved_file s q)
 
 -- that a written query breaks
 abbrev pub query_note_for_databases : Schema → Query → Note

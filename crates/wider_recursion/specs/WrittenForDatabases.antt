@@ -7,7 +7,7 @@ use Rattle.away_types.specs.CheckedQueries.{resolved_query}
 use Rattle.away_types.specs.Refusals.{IsUnbroken}
 use Rattle.sql_meaning.specs.Names.{bare}
 use Rattle.sql_text.specs.Refusals.{MayBeRead}
-use Rattle.wider_recursion.specs.Wider.{query_note_for_databases}
+use Rattle.wider_recursion.specs.Wider.{query_note_for_databases, rows_note_for_databases}
 
 -- The written query breaks no rule, where that on recursive tables is the wider one, and with its
 -- names resolved it is the tree, names of aliases and columns aside.
@@ -21,3 +21,14 @@ pub record ReadsForDatabases (s : Schema) (tree : Query) (text : List ℕ) (writ
   pub may_be_read : MayBeRead text
   pub reads : ReadsQuery text written
   pub resolves : ResolvesForDatabases s tree written
+
+-- The same of a query for all of its rows: it breaks no rule but perhaps the one on answers.
+pub record RowsResolveForDatabases (s : Schema) (tree written : Query) : Type 0 where
+  pub unbroken : IsUnbroken (rows_note_for_databases s written)
+  pub is_tree : bare (resolved_query s written) ≡ bare tree
+
+pub record RowsReadForDatabases (s : Schema) (tree : Query) (text : List ℕ) (written : Query)
+    : Type 0 where
+  pub may_be_read : MayBeRead text
+  pub reads : ReadsQuery text written
+  pub resolves : RowsResolveForDatabases s tree written

@@ -1,6 +1,7 @@
 //! Whole queries whose names are resolved, by the rules as databases have them.
 
 ghost use Rattle.std.specs.Prelude.{◌≡◌, IfOk};
+ghost use Rattle.away_typing.specs.RowQueries as rows;
 ghost use Rattle.away_typing.specs.Wholes as wholes;
 ghost use Rattle.wider_recursion.specs.Wider as spec;
 
@@ -50,6 +51,46 @@ fn note_by(alloc: Global, f: &File, r: &Recursion) -> Result<Note, NoMemory>
             joined(r.note, answer_note(&shape)),
         ),
     ))
+}
+
+fn shape_note(shape: &Option<Items<Ty>>) -> Note
+    ensures { result ≡ rows.shape_note shape.now }
+{
+    breaks(Rule::Types, shape.is_none())
+}
+
+fn rows_by(alloc: Global, f: &File, r: &Recursion) -> Result<Note, NoMemory>
+    ensures { IfOk result (λ n. n ≡ (rows.rows_by f.now r.now).note) }
+{
+    let shape = final_shape(alloc, &f.query, r)?;
+    let uses = uses_note(&f.query)?;
+    let params = params_of(alloc, &f.query)?;
+    Ok(joined(
+        joined(f.note, uses),
+        joined(
+            breaks(Rule::Types, params.clash),
+            joined(r.note, shape_note(&shape)),
+        ),
+    ))
+}
+
+/// The least rule but the one on answers that a query breaks.
+#[tactic(auto, unfolding(crate::specs::Wider::rows_judged_for_databases))]
+pub(crate) fn rows_judged_for_databases(
+    alloc: Global,
+    s: &Schema,
+    f: &File,
+) -> Result<Note, NoMemory>
+    ensures { IfOk result (λ n. n ≡ spec.rows_judged_for_databases s.now f.now) }
+{
+    let r = wider_recursion(
+        alloc,
+        s,
+        f.first.refers,
+        f.second.refers,
+        &f.query.recursive,
+    )?;
+    rows_by(alloc, f, &r)
 }
 
 /// The least rule that a query breaks.
