@@ -9,3 +9,4 @@ pub mod CallsAsFunctions
 pub mod CheckedCalls
 pub mod OneCall
 pub mod EndedCalls
+pub mod CallAnswers
